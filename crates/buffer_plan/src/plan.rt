@@ -6,8 +6,7 @@ ghost use Rattle.graph_verify.specs.declared.known.VirtualOutput.{VirtualOutput 
 ghost use Rattle.graph_verify.specs.declared.operand.Operand.{Operand};
 ghost use Rattle.graph_verify.specs.Links.{is_written};
 ghost use Rattle.graph_verify.specs.Operand.{is_virtual};
-ghost use Rattle.graph_verify.specs.Verdict.{verdict};
-ghost use Rattle.graph_verify.specs.Verified.{IsVerified};
+ghost use Rattle.graph_verify.specs.Verified.{IsVerified, IsVerifiedGraph};
 ghost use Rattle.buffer_plan.specs.Places.{IsPlacedFor, places_in, plan_view};
 ghost use Rattle.buffer_plan.specs.Slots.{IsValid, AreSlotsOf};
 ghost use Rattle.buffer_plan.specs.Plan.{IsPlan};
@@ -30,10 +29,8 @@ impl Plan {
     /// Plans the slots of the virtual images that a verified graph writes, for its order of nodes.
     /// An error means that there is no memory for the plan.
     pub fn new(alloc: Global, verified: &Verified) -> Result<Plan, AllocError>
-        ensures plan { IfOk result (λ p. (work : ℕ) (is : Reference → Operand)
-            (nodes : List NodeFields) →
-            verdict work is nodes ≡ None → IsVerified is nodes verified.now →
-            IsPlan verified.now.steps.items verified.now.virtual_outputs.items (plan_view p)) }
+        ensures plan { IfOk result (λ p.
+            IsPlan verified.now.steps verified.now.virtual_outputs (plan_view p)) }
         ensures images { IfOk result (λ p. (is : Reference → Operand) (nodes : List NodeFields) →
             IsVerified is nodes verified.now →
             (cell : Reference) → is_some ((plan_view p).slot_of cell) ≡
@@ -97,9 +94,10 @@ impl Plan {
 
 /// Assigns slots to the images of a format that a verified graph writes.
 fn places_of(alloc: Global, verified: &Verified, format: Format) -> Result<Places, AllocError>
-    ensures { IfOk result (λ places.
-        IsPlacedFor verified.now.steps.items verified.now.virtual_outputs.items format places) }
+    ensures places { IfOk result (λ places.
+        IsPlacedFor verified.now.steps verified.now.virtual_outputs format places) }
+    ensures verified { IsVerifiedGraph verified.now }
 {
-    let lives = lives_of(alloc, &verified.steps, &verified.virtual_outputs, format)?;
+    let lives = lives_of(alloc, verified.steps(), verified.virtual_outputs(), format)?;
     place(alloc, &lives)
 }

@@ -42,13 +42,13 @@ module _ (limits : LimitsValue) (c later : Context) (request : Request) (h : Kee
       (All-cons (λ r. changes_nodes r name ≡ false) request [] leaves (All-nil (λ r. changes_nodes r name ≡ false))) known
 
   -- the cells that its nodes name hold objects of the same skeletons, so that its schedule is still one
-  schedule_after_one : (name : ℕ) (k : KeptGraph) (nodes : List Node) → IsReady c.objects nodes k.verified → IsPlan k.verified.steps.items k.verified.virtual_outputs.items (plan_view k.plan)
+  schedule_after_one : (name : ℕ) (k : KeptGraph) (nodes : List Node) → IsReady c.objects nodes k.verified → IsPlan k.verified.steps k.verified.virtual_outputs (plan_view k.plan)
       → option_map nodes_in (object_held c.objects name) ≡ Some nodes → option_map nodes_in (object_held later.objects name) ≡ Some nodes
       → IsSchedule c.objects k.verified (plan_view k.plan) k.schedule → IsSchedule later.objects k.verified (plan_view k.plan) k.schedule
   schedule_after_one name k nodes ready plan was now scheduled =
       schedule_stays c.objects later.objects k.verified (plan_view k.plan) plan
       (λ n cell i named. named_skeletons_stay limits c later (request ∷ []) name nodes (after_one limits c later request h is e) was now cell
-      (n, AllIn-permutation_back nodes k.verified.steps.items ready.verified.order.same_nodes n i, named))
+      (n, AllIn-permutation_back nodes k.verified.steps ready.verified.order.same_nodes n i, named))
       k.schedule scheduled
 
   pub kept_after_one : (name : ℕ) (k : KeptGraph) → changes_nodes request name ≡ false → IsKept c name k → IsKept later name k

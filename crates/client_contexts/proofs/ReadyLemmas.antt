@@ -65,7 +65,7 @@ module _ (limits : LimitsValue) (c : Context) (name : ℕ) (x : ObjectValue) (h 
 
   -- once it is verified, so much is kept of it
   pub verified_is_kept : (k : KeptGraph) → IsVerified (operand_held c.objects) (nodes_of (graph_value x)) k.verified
-      → verdict k.work (operand_held c.objects) (nodes_of (graph_value x)) ≡ None → IsPlan k.verified.steps.items k.verified.virtual_outputs.items (plan_view k.plan)
+      → verdict k.work (operand_held c.objects) (nodes_of (graph_value x)) ≡ None → IsPlan k.verified.steps k.verified.virtual_outputs (plan_view k.plan)
       → IsSchedule c.objects k.verified (plan_view k.plan) k.schedule → IsKept c name k
   verified_is_kept k verified allowed planned scheduled =
       record {

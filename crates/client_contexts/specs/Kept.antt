@@ -27,7 +27,7 @@ use Rattle.client_contexts.specs.declared.memory.NoMemory.{NoMemory}
 pub record IsKept (c : Context) (name : ℕ) (k : KeptGraph) : Type 0 where
   pub below : name < c.next
   pub ready : IfSome (object_held c.objects name) (λ object. IsReady c.objects (nodes_in object) k.verified)
-  pub plan : IsPlan k.verified.steps.items k.verified.virtual_outputs.items (plan_view k.plan)
+  pub plan : IsPlan k.verified.steps k.verified.virtual_outputs (plan_view k.plan)
   pub schedule : IfSome (object_held c.objects name) (λ object. IsSchedule c.objects k.verified (plan_view k.plan) k.schedule)
   pub allowed : IfSome (object_held c.objects name) (λ object. verdict k.work (operand_held c.objects) (nodes_in object) ≡ None)
 

@@ -115,10 +115,10 @@ module _ (nodes : List Node) where
         }
       where
         steps : List Node
-        steps = v.steps.items
+        steps = v.steps
 
         outs : List VirtualOutput
-        outs = v.virtual_outputs.items
+        outs = v.virtual_outputs
 
         are : AllIn steps nodes
         are = AllIn-permutation_back nodes steps h.order.same_nodes

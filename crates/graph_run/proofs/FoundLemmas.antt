@@ -1,5 +1,7 @@
 -- The objects that nodes name in a table, as operands.
-use Rattle.std.proofs.Common.{◌≡◌, ℕ, ◌<◌, ◌+◌, List, [], ◌∷◌, ◌++◌, map, length, take, get_or, Option, Some, None, IsTrue, ap, subst, arith, IfSome, unwrap_or, All, Result, Ok, Err, IfErr, option_map, option_and_then}
+use Rattle.std.proofs.Common.{◌≡◌, ℕ, ◌<◌, ◌+◌, List, [], ◌∷◌, ◌++◌, map, length, take, get_or, Option, Some, None, IsTrue, sym, ◌∙◌, ap, subst, arith, IfSome, unwrap_or, All, Result, Ok, Err, IfErr, IfOk, option_map, option_and_then}
+use Rattle.std.specs.List.{zip}
+use Rattle.std.specs.List.Sorted.{IsPermutation}
 use Rattle.graph_run.proofs.Common.{map-append, take_more, All-push, All-head, All-tail, Kind, Node, Numbered, Reference, parameters, operands, second_kind, ObjectValue, in_slot, NamedObject, object_held, All-from_map, Operand, Missing, Verified, linked_nodes, AreOperands, operand_of, operands_of, is_image, verdict, operand_held}
 use Rattle.vx_base.specs.declared.kind.Kind.TheVariants as kind
 use Rattle.vx_base.specs.Node.{with_kind}
@@ -22,15 +24,35 @@ operand_there objects cell object found operand is in_it as_it = grind arith
 
 -- one node more
 pub linked_more : (is : Reference → Operand) (nodes : List Numbered) (i : ℕ) (numbered : Numbered) (done new : List Linked) (l : Linked) → i < length nodes → numbered ≡ get_or nodes i numbered
-    → linked_nodes done ≡ map (λ n. n.node) (take i nodes) → AreOperands is done → l.node ≡ numbered.node → l.operands ≡ operands_of is l.node → new ≡ done ++ l ∷ []
-    → (linked_nodes new ≡ map (λ n. n.node) (take (i + 1) nodes)) × AreOperands is new
-linked_more is nodes i numbered done new l within read before each node operands pushed =
-    grind (arith, take_more nodes i numbered within, map-append (λ (k : Linked). k.node) done (l ∷ []), map-append (λ (k : Numbered). k.node) (take i nodes) (numbered ∷ []), All-push (λ (k : Linked). k.operands ≡ operands_of is k.node) done l each operands, take_more, map-append, All-push)
+    → linked_nodes done ≡ map (λ n. n.node) (take i nodes) → map {B = ℕ × Node} (λ l. (l.number, l.node)) done ≡ map (λ n. (n.number, n.node)) (take i nodes) → AreOperands is done
+    → l.number ≡ numbered.number → l.node ≡ numbered.node → l.operands ≡ operands_of is l.node → new ≡ done ++ l ∷ []
+    → (linked_nodes new ≡ map (λ n. n.node) (take (i + 1) nodes)) × (map {B = ℕ × Node} (λ l. (l.number, l.node)) new ≡ map (λ n. (n.number, n.node)) (take (i + 1) nodes)) × AreOperands is new
+linked_more is nodes i numbered done new l within read before numbers each number node operands pushed =
+    let taken : take (i + 1) nodes ≡ take i nodes ++ numbered ∷ [] = take_more nodes i numbered within ∙ ap (λ (n : Numbered). take i nodes ++ n ∷ []) (sym read) in (
+      ap linked_nodes pushed
+          ∙ map-append (λ (k : Linked). k.node) done (l ∷ [])
+          ∙ ap (λ ns. ns ++ l.node ∷ []) before
+          ∙ ap (λ n. map (λ (k : Numbered). k.node) (take i nodes) ++ n ∷ []) node
+          ∙ sym (ap (map (λ (k : Numbered). k.node)) taken ∙ map-append (λ (k : Numbered). k.node) (take i nodes) (numbered ∷ [])),
+      ap (map {B = ℕ × Node} (λ (k : Linked). (k.number, k.node))) pushed
+          ∙ map-append (λ (k : Linked). (k.number, k.node)) done (l ∷ [])
+          ∙ ap (λ ns. ns ++ (l.number, l.node) ∷ []) numbers
+          ∙ ap (λ n. map {B = ℕ × Node} (λ (k : Numbered). (k.number, k.node)) (take i nodes) ++ (n, l.node) ∷ []) number
+          ∙ ap (λ n. map {B = ℕ × Node} (λ (k : Numbered). (k.number, k.node)) (take i nodes) ++ (numbered.number, n) ∷ []) node
+          ∙ sym (ap (map {B = ℕ × Node} (λ (k : Numbered). (k.number, k.node))) taken ∙ map-append (λ (k : Numbered). (k.number, k.node)) (take i nodes) (numbered ∷ [])),
+      grind (arith, All-push (λ (k : Linked). k.operands ≡ operands_of is k.node) done l each operands),
+    )
 
 -- the first input of each is an image, as a cell
 pub images_are : (is : Reference → Operand) (linked : List Linked) → AreOperands is linked → All (λ n. IsTrue (is_image (is n.in1))) (linked_nodes linked)
     → All (λ l. IsTrue (is_image l.operands.in1)) linked
 images_are is linked operands images k d below = grind (arith, All-from_map (λ n. IsTrue (is_image (is n.in1))) (λ (l : Linked). l.node) linked images k d below)
+
+-- the numbers of the steps
+pub numbers_are : (pairs others : List (ℕ × Node)) (result : Result Verified VerifyFault) → pairs ≡ others → IfOk result (λ v. IsPermutation pairs (zip v.order v.steps))
+    → IfOk result (λ v. IsPermutation others (zip v.order v.steps))
+numbers_are pairs others (Ok v) same said = subst (λ ps. IsPermutation ps (zip v.order v.steps)) same said
+numbers_are pairs others (Err fault) same said = tt
 
 -- the verdict on these nodes
 pub refused_is : (is : Reference → Operand) (linked : List Linked) (nodes : List Node) (work : ℕ) (result : Result Verified VerifyFault) → linked_nodes linked ≡ nodes

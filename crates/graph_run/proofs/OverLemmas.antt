@@ -33,13 +33,13 @@ same_formats xs ys k same below =
     ∙ ap (λ (l : List (Format × ℕ)). (get_or l k (U8, 0)).0) same
     ∙ ap (λ (r : Format × ℕ). r.0) (get_or-map size ys k no_plane (U8, 0) there)
 
-module _ (objects : List NamedObject) (nodes : List Node) (v : Verified) (ready : IsReady objects nodes v) (p : PlanView) (plan : IsPlan v.steps.items v.virtual_outputs.items p)
+module _ (objects : List NamedObject) (nodes : List Node) (v : Verified) (ready : IsReady objects nodes v) (p : PlanView) (plan : IsPlan v.steps v.virtual_outputs p)
     (s : Schedule) (schedule : IsSchedule objects v p s) where
   abbrev steps : List Node
-  steps = v.steps.items
+  steps = v.steps
 
   abbrev outs : List VirtualOutput
-  outs = v.virtual_outputs.items
+  outs = v.virtual_outputs
 
   abbrev count : ℕ
   count = length outs

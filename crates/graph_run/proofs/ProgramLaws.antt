@@ -20,10 +20,10 @@ use Rattle.graph_run.proofs.WithinLemmas.{begins, client_planes, free, one_write
 module _ (objects : List NamedObject) (nodes : List Node) (v : Verified) (p : PlanView) (radius : Node → ℕ) (high size : ℕ) (halos : List ℕ) (virtuals : List PlaneValue) (rooms : ℕ → Format × ℕ)
     (bound : IsBound objects nodes v p radius high size halos virtuals rooms) where
   abbrev steps : List Node
-  steps = v.steps.items
+  steps = v.steps
 
   abbrev outs : List VirtualOutput
-  outs = v.virtual_outputs.items
+  outs = v.virtual_outputs
 
   abbrev slots : List ℕ
   slots = map (place_of p) outs

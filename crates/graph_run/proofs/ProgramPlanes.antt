@@ -108,12 +108,12 @@ module _ (objects : List NamedObject) (found resolved_as : Reference → Operand
 -- ---- a graph
 
 module _ (objects : List NamedObject) (are : All (λ o. IsObject o.object) objects) (nodes : List Node) (v : Verified) (ready : IsReady objects nodes v)
-    (p : PlanView) (plan : IsPlan v.steps.items v.virtual_outputs.items p) (virtuals : List PlaneValue) (descs : map (λ (q : PlaneValue). q.desc) virtuals ≡ map (λ (o : VirtualOutput). o.desc) v.virtual_outputs.items) where
+    (p : PlanView) (plan : IsPlan v.steps v.virtual_outputs p) (virtuals : List PlaneValue) (descs : map (λ (q : PlaneValue). q.desc) virtuals ≡ map (λ (o : VirtualOutput). o.desc) v.virtual_outputs) where
   abbrev pub steps : List Node
-  steps = v.steps.items
+  steps = v.steps
 
   abbrev pub outs : List VirtualOutput
-  outs = v.virtual_outputs.items
+  outs = v.virtual_outputs
 
   abbrev pub virtual : List Reference
   virtual = map (λ (o : VirtualOutput). o.cell) outs

@@ -43,7 +43,7 @@ image_operand n c (inr i) = elim (In-append c (image_given (second_kind n) n.in2
 
 module _ (objects : List NamedObject) (nodes : List Node) (v : Verified) (ready : IsReady objects nodes v) where
   abbrev steps : List Node
-  steps = v.steps.items
+  steps = v.steps
 
   abbrev virtual : Reference → Bool
   virtual c = is_virtual (operand_held objects c)
@@ -67,7 +67,7 @@ module _ (objects : List NamedObject) (nodes : List Node) (v : Verified) (ready 
       let clash : true ≡ false = sym accumulates_there ∙ none in
       cc)
 
-  pub have_tasks : (p : PlanView) → IsPlan steps v.virtual_outputs.items p → HaveTasks steps v.virtual_outputs.items p virtual
+  pub have_tasks : (p : PlanView) → IsPlan steps v.virtual_outputs p → HaveTasks steps v.virtual_outputs p virtual
   have_tasks p plan =
       record {
         plan = plan;
@@ -81,7 +81,7 @@ module _ (objects : List NamedObject) (nodes : List Node) (v : Verified) (ready 
   -- ---- the clients' images
 
   abbrev outs : List VirtualOutput
-  outs = v.virtual_outputs.items
+  outs = v.virtual_outputs
 
   -- a cell that a node names as an image, and that is none of the virtual ones, holds one
   named_image : (n : Node) → In n steps → (c : Reference) → In c (node_images n) → (In c (map (λ (o : VirtualOutput). o.cell) outs) → ⊥) → HoldsImage objects c

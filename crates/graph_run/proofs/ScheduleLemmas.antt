@@ -18,23 +18,23 @@ virtuals_below steps outs =
     let behind = added_behind virtual (images_named steps) in
     omega (arith, ap length behind.1, length-append virtual behind.0, length-map outs (λ (o : VirtualOutput). o.cell))
 
-module _ (objects : List NamedObject) (nodes : List Node) (v : Verified) (ready : IsReady objects nodes v) (p : PlanView) (plan : IsPlan v.steps.items v.virtual_outputs.items p) where
+module _ (objects : List NamedObject) (nodes : List Node) (v : Verified) (ready : IsReady objects nodes v) (p : PlanView) (plan : IsPlan v.steps v.virtual_outputs p) where
   abbrev virtual : Reference → Bool
   virtual c = is_virtual (operand_held objects c)
 
-  have : HaveTasks v.steps.items v.virtual_outputs.items p virtual
+  have : HaveTasks v.steps v.virtual_outputs p virtual
   have = have_tasks objects nodes v ready p plan
 
   module _ (cells : List Reference) (slots : List ℕ) (radius : Node → ℕ) (tasks : List Task)
-      (cells_are : cells ≡ graph_cells v.steps.items v.virtual_outputs.items) (slots_are : slots ≡ map (place_of p) v.virtual_outputs.items)
-      (tasks_are : tasks ≡ tasks_of cells slots radius v.steps.items) where
-    pub same_tasks : tasks ≡ graph_tasks v.steps.items v.virtual_outputs.items p radius
-    same_tasks = tasks_are ∙ ap (λ (c : List Reference). tasks_of c slots radius v.steps.items) cells_are ∙ ap (λ (s : List ℕ). tasks_of (graph_cells v.steps.items v.virtual_outputs.items) s radius v.steps.items) slots_are
+      (cells_are : cells ≡ graph_cells v.steps v.virtual_outputs) (slots_are : slots ≡ map (place_of p) v.virtual_outputs)
+      (tasks_are : tasks ≡ tasks_of cells slots radius v.steps) where
+    pub same_tasks : tasks ≡ graph_tasks v.steps v.virtual_outputs p radius
+    same_tasks = tasks_are ∙ ap (λ (c : List Reference). tasks_of c slots radius v.steps) cells_are ∙ ap (λ (s : List ℕ). tasks_of (graph_cells v.steps v.virtual_outputs) s radius v.steps) slots_are
 
     pub in_order : AreInOrder tasks
-    in_order = subst AreInOrder (sym same_tasks) (ordered v.steps.items v.virtual_outputs.items p virtual have radius)
+    in_order = subst AreInOrder (sym same_tasks) (ordered v.steps v.virtual_outputs p virtual have radius)
 
     pub within : (s : Step) → IsStepOf s tasks → NamesPlanes (length cells) s
     within s i =
         subst (λ (n : ℕ). NamesPlanes n s) (ap length (sym cells_are))
-        (steps_within v.steps.items v.virtual_outputs.items p virtual have radius s (subst (IsStepOf s) same_tasks i))
+        (steps_within v.steps v.virtual_outputs p virtual have radius s (subst (IsStepOf s) same_tasks i))

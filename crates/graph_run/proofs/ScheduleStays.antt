@@ -56,13 +56,13 @@ module _ (cells : List Reference) (slots : List ℕ) (one two : Node → ℕ) wh
 
 -- ---- schedules
 
-module _ (before after : List NamedObject) (v : Verified) (p : PlanView) (plan : IsPlan v.steps.items v.virtual_outputs.items p)
-    (same : (n : Node) (c : Reference) → In n v.steps.items → names_cell n c ≡ true → option_map skeleton (object_at after c) ≡ option_map skeleton (object_at before c)) where
+module _ (before after : List NamedObject) (v : Verified) (p : PlanView) (plan : IsPlan v.steps v.virtual_outputs p)
+    (same : (n : Node) (c : Reference) → In n v.steps → names_cell n c ≡ true → option_map skeleton (object_at after c) ≡ option_map skeleton (object_at before c)) where
   abbrev steps : List Node
-  steps = v.steps.items
+  steps = v.steps
 
   abbrev outs : List VirtualOutput
-  outs = v.virtual_outputs.items
+  outs = v.virtual_outputs
 
   abbrev virtual_ones : List Reference
   virtual_ones = map (λ (o : VirtualOutput). o.cell) outs

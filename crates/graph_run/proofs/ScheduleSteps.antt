@@ -17,14 +17,14 @@ use Rattle.graph_run.proofs.SizeSteps.{plane_count, all_low}
 use Rattle.graph_run.proofs.TallySteps.{graph_reduces}
 
 module _ (objects : List NamedObject) (nodes : List Node) (v : Verified) (p : PlanView) (s : Schedule) (virtuals : List PlaneValue) (blocks : List Samples)
-    (are : All (λ o. IsObject o.object) objects) (ready : IsReady objects nodes v) (plan : IsPlan v.steps.items v.virtual_outputs.items p) (schedule : IsSchedule objects v p s)
-    (descs : map (λ (q : PlaneValue). q.desc) virtuals ≡ map (λ (o : VirtualOutput). o.desc) v.virtual_outputs.items) (first : capacities virtuals ≡ first_blocks s.slots.items (block_capacity blocks))
-    (planned : map block_size blocks ≡ planned_capacities (band_plan s.size s.halos.items v.virtual_outputs.items s.slots.items p)) where
+    (are : All (λ o. IsObject o.object) objects) (ready : IsReady objects nodes v) (plan : IsPlan v.steps v.virtual_outputs p) (schedule : IsSchedule objects v p s)
+    (descs : map (λ (q : PlaneValue). q.desc) virtuals ≡ map (λ (o : VirtualOutput). o.desc) v.virtual_outputs) (first : capacities virtuals ≡ first_blocks s.slots.items (block_capacity blocks))
+    (planned : map block_size blocks ≡ planned_capacities (band_plan s.size s.halos.items v.virtual_outputs s.slots.items p)) where
   abbrev steps : List Node
-  steps = v.steps.items
+  steps = v.steps
 
   abbrev outs : List VirtualOutput
-  outs = v.virtual_outputs.items
+  outs = v.virtual_outputs
 
   bound : IsBound objects nodes v p (radius_of objects s.high) s.high s.size s.halos.items virtuals (block_capacity blocks)
   bound =
@@ -50,9 +50,9 @@ module _ (objects : List NamedObject) (nodes : List Node) (v : Verified) (p : Pl
       (graph_program objects nodes v p (radius_of objects s.high) s.high s.size s.halos.items virtuals (block_capacity blocks) bound)
 
 module _ (objects : List NamedObject) (nodes : List Node) (v : Verified) (p : PlanView) (s : Schedule) (virtuals : List PlaneValue)
-    (are : All (λ o. IsObject o.object) objects) (ready : IsReady objects nodes v) (plan : IsPlan v.steps.items v.virtual_outputs.items p) (schedule : IsSchedule objects v p s)
-    (descs : map (λ (q : PlaneValue). q.desc) virtuals ≡ map (λ (o : VirtualOutput). o.desc) v.virtual_outputs.items) where
-  pub scheduled_reduces : CanReduceBand 0 s.tasks.items (planes_of objects v.steps.items v.virtual_outputs.items virtuals) (tallies_of objects v.steps.items)
+    (are : All (λ o. IsObject o.object) objects) (ready : IsReady objects nodes v) (plan : IsPlan v.steps v.virtual_outputs p) (schedule : IsSchedule objects v p s)
+    (descs : map (λ (q : PlaneValue). q.desc) virtuals ≡ map (λ (o : VirtualOutput). o.desc) v.virtual_outputs) where
+  pub scheduled_reduces : CanReduceBand 0 s.tasks.items (planes_of objects v.steps v.virtual_outputs virtuals) (tallies_of objects v.steps)
   scheduled_reduces =
-      subst (λ (tasks : List Task). CanReduceBand 0 tasks (planes_of objects v.steps.items v.virtual_outputs.items virtuals) (tallies_of objects v.steps.items)) (sym schedule.tasks)
+      subst (λ (tasks : List Task). CanReduceBand 0 tasks (planes_of objects v.steps v.virtual_outputs virtuals) (tallies_of objects v.steps)) (sym schedule.tasks)
       (graph_reduces objects are nodes v ready p plan virtuals descs (radius_of objects s.high))

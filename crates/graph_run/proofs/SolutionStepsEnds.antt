@@ -57,10 +57,10 @@ module _ (objects : List NamedObject) (nodes : List Node) (v : Verified) (h : Is
   known = resolved_operand is nodes
 
   abbrev pub outs : List VirtualOutput
-  outs = v.virtual_outputs.items
+  outs = v.virtual_outputs
 
   abbrev pub steps : List Node
-  steps = v.steps.items
+  steps = v.steps
 
   abbrev pub first : List NamedObject
   first = first_objects objects nodes

@@ -51,7 +51,7 @@ own_tally objects n c old new out there is own =
     ∙ own
 
 module _ (objects : List NamedObject) (nodes : List Node) (v : Verified) (h : IsReady objects nodes v) (names : IsStrictlyIncreasing (names_of objects))
-    (are : All (λ o. IsObject o.object) objects) (described : All (λ (o : VirtualOutput). IsDescription o.desc) v.virtual_outputs.items) where
+    (are : All (λ o. IsObject o.object) objects) (described : All (λ (o : VirtualOutput). IsDescription o.desc) v.virtual_outputs) where
   -- the run leaves objects, and of each what lasts
   pub run_lasts : Lasts objects (run_of_graph (resolved_operand (operand_held objects) nodes) nodes objects)
   run_lasts =
@@ -61,15 +61,15 @@ module _ (objects : List NamedObject) (nodes : List Node) (v : Verified) (h : Is
         lasting = forgotten_lasting (resolved_operand (operand_held objects) nodes) nodes objects _ l.lasting;
       }
 
-  module _ (p : PlanView) (plan : IsPlan v.steps.items v.virtual_outputs.items p) (radius : Node → ℕ)
-      (virtuals : List PlaneValue) (descs : map (λ (q : PlaneValue). q.desc) virtuals ≡ map (λ (o : VirtualOutput). o.desc) v.virtual_outputs.items)
+  module _ (p : PlanView) (plan : IsPlan v.steps v.virtual_outputs p) (radius : Node → ℕ)
+      (virtuals : List PlaneValue) (descs : map (λ (q : PlaneValue). q.desc) virtuals ≡ map (λ (o : VirtualOutput). o.desc) v.virtual_outputs)
       (after : List PlaneValue) (counted : List Tally)
-      (leaves : Leaves (tables_of objects v.steps.items) (graph_tasks v.steps.items v.virtual_outputs.items p radius) (planes_of objects v.steps.items v.virtual_outputs.items virtuals) (tallies_of objects v.steps.items) after counted) where
+      (leaves : Leaves (tables_of objects v.steps) (graph_tasks v.steps v.virtual_outputs p radius) (planes_of objects v.steps v.virtual_outputs virtuals) (tallies_of objects v.steps) after counted) where
     abbrev pub outs : List VirtualOutput
-    outs = v.virtual_outputs.items
+    outs = v.virtual_outputs
 
     abbrev pub steps : List Node
-    steps = v.steps.items
+    steps = v.steps
 
     abbrev pub all : List Reference
     all = cells objects nodes v h names p plan

@@ -111,9 +111,9 @@ lent_kinds : (f : Function) → unwrap_or (parameters f).second_input kind.Image
 lent_kinds f other = grind arith
 
 module _ (objects : List NamedObject) (nodes : List Node) (v : Verified) (h : IsReady objects nodes v) (names : IsStrictlyIncreasing (names_of objects))
-    (p : PlanView) (plan : IsPlan v.steps.items v.virtual_outputs.items p) where
+    (p : PlanView) (plan : IsPlan v.steps v.virtual_outputs p) where
   abbrev theirs : List Reference
-  theirs = client_cells v.steps.items v.virtual_outputs.items
+  theirs = client_cells v.steps v.virtual_outputs
 
   hold : HoldImages objects theirs
   hold = client_image objects nodes v h names p plan
@@ -121,11 +121,11 @@ module _ (objects : List NamedObject) (nodes : List Node) (v : Verified) (h : Is
   abbrev bare : List NamedObject
   bare = with_written objects (bare_images objects theirs)
 
-  table_kind : (n : Node) → In n v.steps.items → (c : Reference) → n.in2 ≡ Some c → second_kind n ≢ kind.Image → HoldsKind objects (c, second_kind n)
+  table_kind : (n : Node) → In n v.steps → (c : Reference) → n.in2 ≡ Some c → second_kind n ≢ kind.Image → HoldsKind objects (c, second_kind n)
   table_kind n i c e other =
       ap (option_map object_kind) (sym (table_stays objects nodes v h names p plan n i c e other)) ∙ last_kinds objects nodes v h names n i (c, second_kind n) (second_operand n c e)
 
-  table_same : (n : Node) → In n v.steps.items → node_table bare n ≡ node_table objects n
+  table_same : (n : Node) → In n v.steps → node_table bare n ≡ node_table objects n
   table_same n i = by_kind (second_kind n) n.in2 refl refl
     where
       by_kind : (k : Kind) (o : Option Reference) → second_kind n ≡ k → n.in2 ≡ o → table_by k (option_and_then (object_at bare) o) ≡ table_by k (option_and_then (object_at objects) o)
@@ -136,21 +136,21 @@ module _ (objects : List NamedObject) (nodes : List Node) (v : Verified) (h : Is
           ap (table_by k) (taken_other objects theirs hold c (second_kind n) (table_kind n i c e other) other (second_no_delay n.function))
 
   -- the tables that nodes read are those of the table without samples, and can be lent
-  pub tables_same : tables_of bare v.steps.items ≡ tables_of objects v.steps.items
+  pub tables_same : tables_of bare v.steps ≡ tables_of objects v.steps
   tables_same =
       let read : List (Option ObjectValue) → ℕ → Option ObjectValue = λ l k. get_or l k None in
-      ap read (map_alike (node_table bare) (node_table objects) v.steps.items table_same)
+      ap read (map_alike (node_table bare) (node_table objects) v.steps table_same)
 
-  pub tables_lent : LendTables bare v.steps.items
+  pub tables_lent : LendTables bare v.steps
   tables_lent =
-      All-from_In (λ (n : Node). IfSome (node_table bare n) (λ object. IsLent (object_kind object))) v.steps.items (λ n i.
+      All-from_In (λ (n : Node). IfSome (node_table bare n) (λ object. IsLent (object_kind object))) v.steps (λ n i.
       subst (λ (o : Option ObjectValue). IfSome o (λ object. IsLent (object_kind object))) (sym (table_same n i)) (lent n i (second_kind n) n.in2 refl refl))
     where
       lent_if : (o : Option ObjectValue) (k : Kind) → option_map object_kind o ≡ Some k → IsLent k → IfSome o (λ object. IsLent (object_kind object))
       lent_if None k is may = tt
       lent_if (Some x) k is may = let same : k ≡ object_kind x = cc in subst IsLent same may
 
-      lent : (n : Node) → In n v.steps.items → (k : Kind) (o : Option Reference) → second_kind n ≡ k → n.in2 ≡ o → IfSome (table_by k (option_and_then (object_at objects) o)) (λ object. IsLent (object_kind object))
+      lent : (n : Node) → In n v.steps → (k : Kind) (o : Option Reference) → second_kind n ≡ k → n.in2 ≡ o → IfSome (table_by k (option_and_then (object_at objects) o)) (λ object. IsLent (object_kind object))
       lent n i kind.Image o is e = tt
       lent n i k None is e = tt
       lent n i k (Some c) is e =
@@ -167,9 +167,9 @@ module _ (objects : List NamedObject) (nodes : List Node) (v : Verified) (h : Is
     | inr e ↦ absurd (cc e)
   ]
 
-  pub tallies_kept : KeepTallies objects v.steps.items
+  pub tallies_kept : KeepTallies objects v.steps
   tallies_kept =
-      All-from_In (λ (n : Node). KeepsTally objects (parameters n.function).output (unwrap_or n.out1 n.in1)) v.steps.items (λ n i.
+      All-from_In (λ (n : Node). KeepsTally objects (parameters n.function).output (unwrap_or n.out1 n.in1)) v.steps (λ n i.
       keeps_tally objects (parameters n.function).output (unwrap_or n.out1 n.in1) (λ other.
       (let out = one_output n (is_node_of objects nodes v h n i).shape other in (
         subst (λ (o : Option Reference). HoldsKind objects (unwrap_or o n.in1, (parameters n.function).output)) (sym out.1) (tally_kept objects nodes v h names p plan n i other out.0 out.1).1,
@@ -207,13 +207,13 @@ tallies_each l (c ∷ cells) (t ∷ tallies) enough each = (each 0 c (omega arit
 -- ---- moving back
 
 module _ (objects : List NamedObject) (nodes : List Node) (v : Verified) (h : IsReady objects nodes v) (names : IsStrictlyIncreasing (names_of objects))
-    (are : All (λ o. IsObject o.object) objects) (described : All (λ (o : VirtualOutput). IsDescription o.desc) v.virtual_outputs.items)
-    (p : PlanView) (plan : IsPlan v.steps.items v.virtual_outputs.items p) (radius : Node → ℕ)
-    (virtuals : List PlaneValue) (descs : map (λ (q : PlaneValue). q.desc) virtuals ≡ map (λ (o : VirtualOutput). o.desc) v.virtual_outputs.items)
+    (are : All (λ o. IsObject o.object) objects) (described : All (λ (o : VirtualOutput). IsDescription o.desc) v.virtual_outputs)
+    (p : PlanView) (plan : IsPlan v.steps v.virtual_outputs p) (radius : Node → ℕ)
+    (virtuals : List PlaneValue) (descs : map (λ (q : PlaneValue). q.desc) virtuals ≡ map (λ (o : VirtualOutput). o.desc) v.virtual_outputs)
     (after : List PlaneValue) (counted : List Tally)
-    (leaves : Leaves (tables_of objects v.steps.items) (graph_tasks v.steps.items v.virtual_outputs.items p radius) (planes_of objects v.steps.items v.virtual_outputs.items virtuals) (tallies_of objects v.steps.items) after counted) where
+    (leaves : Leaves (tables_of objects v.steps) (graph_tasks v.steps v.virtual_outputs p radius) (planes_of objects v.steps v.virtual_outputs virtuals) (tallies_of objects v.steps) after counted) where
   abbrev first_client : ℕ
-  first_client = length v.virtual_outputs.items
+  first_client = length v.virtual_outputs
 
   abbrev back : List PlaneValue
   back = drop first_client after
@@ -230,7 +230,7 @@ module _ (objects : List NamedObject) (nodes : List Node) (v : Verified) (h : Is
   holding : HoldImages objects clients
   holding = hold objects nodes v h names p plan
 
-  total : first_client + length clients ≡ length (graph_cells v.steps.items v.virtual_outputs.items)
+  total : first_client + length clients ≡ length (graph_cells v.steps v.virtual_outputs)
   total = theirs_count objects nodes v h names are described p plan radius virtuals descs after counted leaves
 
   enough_back : length clients ≤ length back
@@ -250,7 +250,7 @@ module _ (objects : List NamedObject) (nodes : List Node) (v : Verified) (h : Is
           let keeps = theirs_keep objects nodes v h names are described p plan radius virtuals descs after counted leaves k below in (
             ap (λ (q : PlaneValue). q.desc) there
                 ∙ leaves.descs at
-                ∙ ap (λ (m : ℕ). (plane (planes_of objects v.steps.items v.virtual_outputs.items virtuals) m).desc) (sym index)
+                ∙ ap (λ (m : ℕ). (plane (planes_of objects v.steps v.virtual_outputs virtuals) m).desc) (sym index)
                 ∙ ap (λ (q : PlaneValue). q.desc) (client_plane objects nodes v h names p plan virtuals descs c (In-at clients k d below)),
             subst (λ (q : PlaneValue). q.format ≡ q.desc.format) (sym there) (leaves.whole at keeps).format,
           )
@@ -266,7 +266,7 @@ module _ (objects : List NamedObject) (nodes : List Node) (v : Verified) (h : Is
   came_is = out_and_back objects clients back (pairs_of objects names) holding planes_for
 
   -- the tallies are of objects that are still there
-  tally_held : (t : ℕ) → (below : t < length (tally_cells v.steps.items)) → (r : IsTallied objects nodes v h names are described p plan radius virtuals descs after counted leaves t) → object_at came r.cell ≡ Some r.old
+  tally_held : (t : ℕ) → (below : t < length (tally_cells v.steps)) → (r : IsTallied objects nodes v h names are described p plan radius virtuals descs after counted leaves t) → object_at came r.cell ≡ Some r.old
   tally_held t below r =
       ap (λ (l : List NamedObject). object_at l r.cell) came_is
       ∙ same_elsewhere objects (plane_objects clients back) (planes_written objects clients back holding planes_for) r.cell
@@ -280,17 +280,17 @@ module _ (objects : List NamedObject) (nodes : List Node) (v : Verified) (h : Is
       no_delay_written r.node.function (sym r.kind_is ∙ same)))
       ∙ r.held_before
 
-  pub back_tallies : AreTalliesFor came (tally_cells v.steps.items) counted
+  pub back_tallies : AreTalliesFor came (tally_cells v.steps) counted
   back_tallies =
-      tallies_each came (tally_cells v.steps.items) counted (omega (arith, leaves.tallies_count, tally_count objects v.steps.items)) (λ k d below.
+      tallies_each came (tally_cells v.steps) counted (omega (arith, leaves.tallies_count, tally_count objects v.steps)) (λ k d below.
       (let r = tally_facts objects nodes v h names are described p plan radius virtuals descs after counted leaves k below in
       subst (λ (c : Reference). IsTallyFor came c (tally_at counted k)) (sym (r.at d))
-      (tally_for came r.cell r.old (image_held (last_objects objects nodes) r.node.in1) (tally_at (tallies_of objects v.steps.items) k) (tally_at counted k) (tally_held k below r)
+      (tally_for came r.cell r.old (image_held (last_objects objects nodes) r.node.in1) (tally_at (tallies_of objects v.steps) k) (tally_at counted k) (tally_held k below r)
       (subst (λ (x : Kind). (x ≡ kind.Distribution) ⊎ (x ≡ kind.Extremes)) (sym r.kind_is) (counted_kind r.node.function r.other)) r.own r.tallied)))
 
   -- all values written back together are the result of the run
-  pub value : with_written came (tally_objects (tally_cells v.steps.items) counted) ≡ run_of_graph (resolved_operand (operand_held objects) nodes) nodes objects
+  pub value : with_written came (tally_objects (tally_cells v.steps) counted) ≡ run_of_graph (resolved_operand (operand_held objects) nodes) nodes objects
   value =
-      ap (λ (l : List NamedObject). with_written l (tally_objects (tally_cells v.steps.items) counted)) came_is
-      ∙ sym (with_written-append objects (plane_objects clients back) (tally_objects (tally_cells v.steps.items) counted))
+      ap (λ (l : List NamedObject). with_written l (tally_objects (tally_cells v.steps) counted)) came_is
+      ∙ sym (with_written-append objects (plane_objects clients back) (tally_objects (tally_cells v.steps) counted))
       ∙ returns objects nodes v h names are described p plan radius virtuals descs after counted leaves

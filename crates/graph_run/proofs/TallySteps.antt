@@ -142,12 +142,12 @@ takes_format wanted object t format other same bytes small = grind arith
 -- ---- a graph
 
 module _ (objects : List NamedObject) (are : All (λ o. IsObject o.object) objects) (nodes : List Node) (v : Verified) (ready : IsReady objects nodes v)
-    (p : PlanView) (plan : IsPlan v.steps.items v.virtual_outputs.items p) (virtuals : List PlaneValue) (descs : map (λ (q : PlaneValue). q.desc) virtuals ≡ map (λ (o : VirtualOutput). o.desc) v.virtual_outputs.items) (radius : Node → ℕ) where
+    (p : PlanView) (plan : IsPlan v.steps v.virtual_outputs p) (virtuals : List PlaneValue) (descs : map (λ (q : PlaneValue). q.desc) virtuals ≡ map (λ (o : VirtualOutput). o.desc) v.virtual_outputs) (radius : Node → ℕ) where
   abbrev steps : List Node
-  steps = v.steps.items
+  steps = v.steps
 
   abbrev outs : List VirtualOutput
-  outs = v.virtual_outputs.items
+  outs = v.virtual_outputs
 
   abbrev planes : List PlaneValue
   planes = planes_of objects steps outs virtuals

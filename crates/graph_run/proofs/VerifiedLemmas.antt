@@ -40,7 +40,7 @@ kind_found x operand wanted e is_kind = grind arith
 -- the virtual images that the nodes of a verified graph write
 module _ (is : Reference → Operand) (nodes : List Node) (v : Verified) (how : IsVerified is nodes v) where
   abbrev written : List VirtualOutput
-  written = v.virtual_outputs.items
+  written = v.virtual_outputs
 
   pub output_known : (o : VirtualOutput) → In o written → resolved_operand is nodes o.cell ≡ Image o.desc
   output_known o i = In-from_All (λ (p : VirtualOutput). resolved_operand is nodes p.cell ≡ Image p.desc) written how.descriptions o i
@@ -50,9 +50,9 @@ module _ (is : Reference → Operand) (nodes : List Node) (v : Verified) (how : 
       → (o : VirtualOutput) × In o written × (cell ≡ o.cell)
   in_outputs cell by_node virtual =
       let writer = In-from_any (λ m. writes m cell) nodes by_node in
-      let out = In-outputs writer.0 cell v.steps.items (AllIn-permutation nodes v.steps.items how.order.same_nodes writer.0 writer.1) writer.2 in
+      let out = In-outputs writer.0 cell v.steps (AllIn-permutation nodes v.steps how.order.same_nodes writer.0 writer.1) writer.2 in
       In-from_map (λ (p : VirtualOutput). p.cell) cell written
-      (subst (λ l. In cell l) (sym how.cells) (In-filter (λ c. is_virtual_operand (is c)) cell (flat_map outputs v.steps.items) out virtual))
+      (subst (λ l. In cell l) (sym how.cells) (In-filter (λ c. is_virtual_operand (is c)) cell (flat_map outputs v.steps) out virtual))
 
 module _ (objects : List NamedObject) (nodes : List Node) (v : Verified) (work : ℕ) (how : IsVerified (operand_held objects) nodes v)
     (runs : verdict work (operand_held objects) nodes ≡ None) where
@@ -63,7 +63,7 @@ module _ (objects : List NamedObject) (nodes : List Node) (v : Verified) (work :
   known = resolved_operand is nodes
 
   abbrev pub steps : List Node
-  steps = v.steps.items
+  steps = v.steps
 
   pub can : CanRun work is nodes
   can = can_run work is nodes runs

@@ -35,11 +35,11 @@ with_cells cells (c ∷ more) = with_cells (with_cell cells c) more
 
 -- references to the virtual images that a verified graph writes
 abbrev pub virtual_cells : Verified → List Reference
-virtual_cells v = map (λ o. o.cell) v.virtual_outputs.items
+virtual_cells v = map (λ o. o.cell) v.virtual_outputs
 
 -- references to all images of a verified graph: its virtual images, then the clients' images
 abbrev pub cells_of : Verified → List Reference
-cells_of v = with_cells (virtual_cells v) (images_named v.steps.items)
+cells_of v = with_cells (virtual_cells v) (images_named v.steps)
 
 -- the index of a reference
 abbrev pub index_of : List Reference → Reference → ℕ

@@ -106,14 +106,14 @@ AddOnce high size halos tasks =
 pub record IsBound (objects : List NamedObject) (nodes : List Node) (v : Verified) (p : PlanView) (radius : Node → ℕ) (high size : ℕ) (halos : List ℕ) (virtuals : List PlaneValue) (rooms : ℕ → Format × ℕ) : Type 0 where
   pub objects_are : All (λ o. IsObject o.object) objects
   pub ready : IsReady objects nodes v
-  pub plan : IsPlan v.steps.items v.virtual_outputs.items p
-  pub near : AreNear objects high radius v.steps.items
+  pub plan : IsPlan v.steps v.virtual_outputs p
+  pub near : AreNear objects high radius v.steps
   pub some : 0 < high
   pub forward : 0 < size
-  pub tall : All (λ q. q.desc.height ≤ high) (planes_of objects v.steps.items v.virtual_outputs.items virtuals)
-  pub descs : map (λ q. q.desc) virtuals ≡ map (λ o. o.desc) v.virtual_outputs.items
-  pub blocks : capacities virtuals ≡ first_blocks (map (place_of p) v.virtual_outputs.items) rooms
-  pub hold : SlotsHold size halos (virtual_description v.virtual_outputs.items) (map (place_of p) v.virtual_outputs.items) rooms
-  pub halo_count : length halos ≡ length (planes_of objects v.steps.items v.virtual_outputs.items virtuals)
-  pub enough : Suffice high halos (graph_tasks v.steps.items v.virtual_outputs.items p radius)
-  pub once : AddOnce high size halos (graph_tasks v.steps.items v.virtual_outputs.items p radius)
+  pub tall : All (λ q. q.desc.height ≤ high) (planes_of objects v.steps v.virtual_outputs virtuals)
+  pub descs : map (λ q. q.desc) virtuals ≡ map (λ o. o.desc) v.virtual_outputs
+  pub blocks : capacities virtuals ≡ first_blocks (map (place_of p) v.virtual_outputs) rooms
+  pub hold : SlotsHold size halos (virtual_description v.virtual_outputs) (map (place_of p) v.virtual_outputs) rooms
+  pub halo_count : length halos ≡ length (planes_of objects v.steps v.virtual_outputs virtuals)
+  pub enough : Suffice high halos (graph_tasks v.steps v.virtual_outputs p radius)
+  pub once : AddOnce high size halos (graph_tasks v.steps v.virtual_outputs p radius)

@@ -32,12 +32,12 @@ pub struct Demand<'a> {
 
 /// Returns the slots of the virtual images that a graph writes, as indices among all slots.
 pub fn slots_of(alloc: Global, plan: &Plan, verified: &Verified) -> Result<Vec<usize>, AllocError>
-    requires { IsPlan verified.now.steps.items verified.now.virtual_outputs.items
+    requires { IsPlan verified.now.steps verified.now.virtual_outputs
         (plan_view plan.now) }
     ensures { IfOk result (λ slots. slots.items
-        ≡ map (place_of (plan_view plan.now)) verified.now.virtual_outputs.items) }
+        ≡ map (place_of (plan_view plan.now)) verified.now.virtual_outputs) }
 {
-    let images = verified.virtual_outputs.as_slice();
+    let images = verified.virtual_outputs();
     let mut slots = Vec::with_capacity(alloc, images.len())?;
     for at in 0..images.len() {
         slots.push(slot_of(plan, &images[at]))?;

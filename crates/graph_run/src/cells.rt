@@ -15,7 +15,7 @@ pub fn cells_of(alloc: Global, verified: &Verified) -> Result<Vec<ObjRef>, Alloc
     ensures { IfOk result (λ cells. cells.items ≡ cells_of verified.now) }
 {
     let mut cells = virtual_cells(alloc, verified)?;
-    let mut rest = verified.steps.as_slice();
+    let mut rest = verified.steps();
     while let Some((node, others)) = rest.split_first() {
         add_images(&mut cells, node)?;
         rest = others;
@@ -28,7 +28,7 @@ fn virtual_cells(alloc: Global, verified: &Verified) -> Result<Vec<ObjRef>, Allo
     ensures { IfOk result (λ cells. cells.items ≡ virtual_cells verified.now) }
 {
     let mut cells = Vec::new(alloc);
-    for output in &verified.virtual_outputs {
+    for output in verified.virtual_outputs() {
         cells.push(output.cell)?;
     }
     Ok(cells)

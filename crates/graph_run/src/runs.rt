@@ -65,7 +65,7 @@ pub fn run(
     requires names { IsStrictlyIncreasing (map (λ o. o.name) table.old.objects) }
     requires ready { (nodes : List NodeFields) ×
         IsReady table.old.objects nodes verified.now }
-    requires plan { IsPlan verified.now.steps.items verified.now.virtual_outputs.items
+    requires plan { IsPlan verified.now.steps verified.now.virtual_outputs
         (plan_view plan.now) }
     ensures value { OnOk result ((nodes : List NodeFields) →
         IsReady table.old.objects nodes verified.now →
@@ -105,7 +105,7 @@ pub fn run_scheduled(
     requires ready { (nodes : List NodeFields) ×
         IsReady table.old.objects nodes verified.now }
     requires schedule { (p : PlanView) ×
-        IsPlan verified.now.steps.items verified.now.virtual_outputs.items p ×
+        IsPlan verified.now.steps verified.now.virtual_outputs p ×
         IsSchedule table.old.objects verified.now p schedule.now }
     ensures value { OnOk result ((nodes : List NodeFields) →
         IsReady table.old.objects nodes verified.now →
@@ -123,7 +123,7 @@ pub fn run_scheduled(
         room_count schedule.now.rooms.items format ≤ free_count (free_of pool.new format)) }
 {
     let (planes, blocks) = (&mut lists.planes, &mut lists.blocks);
-    begin_tallies(&mut lists.tallies, table, &verified.steps)?;
+    begin_tallies(&mut lists.tallies, table, verified.steps())?;
     planes.clear();
     planes.reserve(schedule.cells.len())?;
     take_blocks(blocks, pool, &schedule.rooms)?;
@@ -155,14 +155,14 @@ fn run_over(
     requires ready { (nodes : List NodeFields) ×
         IsReady table.old.objects nodes verified.now }
     requires schedule { (p : PlanView) ×
-        IsPlan verified.now.steps.items verified.now.virtual_outputs.items p ×
+        IsPlan verified.now.steps verified.now.virtual_outputs p ×
         IsSchedule table.old.objects verified.now p schedule.now ×
         (map block_size blocks.old.items ≡ planned_capacities (band_plan schedule.now.size
-        schedule.now.halos.items verified.now.virtual_outputs.items
+        schedule.now.halos.items verified.now.virtual_outputs
         schedule.now.slots.items p)) }
     requires none { planes.old.items ≡ [] }
     requires room { length schedule.now.cells.items ≤ vec_capacity planes.old }
-    requires tallies { tallies.old ≡ tallies_of table.old.objects verified.now.steps.items }
+    requires tallies { tallies.old ≡ tallies_of table.old.objects verified.now.steps }
     ensures value { (nodes : List NodeFields) → IsReady table.old.objects nodes verified.now →
         table.new ≡ with_objects table.old
         (run_of_graph (resolved_operand (operand_held table.old.objects) nodes) nodes
@@ -182,9 +182,9 @@ fn run_over(
 /// Proves that the sides of all descriptions are in range. The prover learns that only by reading
 /// each description; the compiler removes the loop.
 fn prove_descriptions(verified: &Verified)
-    ensures { All (λ o. IsDescription o.desc) verified.now.virtual_outputs.items }
+    ensures { All (λ o. IsDescription o.desc) verified.now.virtual_outputs }
 {
-    for image in &verified.virtual_outputs {
+    for image in verified.virtual_outputs() {
         image.desc.prove_sides();
     }
 }
@@ -197,18 +197,18 @@ fn run_tasks(
     planes: &mut [Plane],
     tallies: &mut [Tally],
 )
-    requires lent { LendTables table.now.objects verified.now.steps.items }
-    requires program { IsProgram (tables_of table.now.objects verified.now.steps.items)
+    requires lent { LendTables table.now.objects verified.now.steps }
+    requires program { IsProgram (tables_of table.now.objects verified.now.steps)
         schedule.now.high schedule.now.size schedule.now.halos.items
         schedule.now.tasks.items planes.old }
     requires reduces { CanReduceBand 0 schedule.now.tasks.items planes.old tallies.old }
-    ensures leaves { Leaves (tables_of table.now.objects verified.now.steps.items)
+    ensures leaves { Leaves (tables_of table.now.objects verified.now.steps)
         schedule.now.tasks.items planes.old tallies.old planes.new tallies.new }
     ensures blocks { capacities planes.new ≡ capacities planes.old }
 {
     let tables = NodeTables {
         table,
-        steps: &verified.steps,
+        steps: verified.steps(),
     };
     graph_steps::run(
         &tables,
@@ -231,8 +231,8 @@ fn take(
     blocks: &mut [Block],
     planes: &mut Vec<Plane>,
 )
-    requires count { length schedule.now.slots.items ≡ length verified.now.virtual_outputs.items }
-    requires cells { length verified.now.virtual_outputs.items ≤ length schedule.now.cells.items }
+    requires count { length schedule.now.slots.items ≡ length verified.now.virtual_outputs }
+    requires cells { length verified.now.virtual_outputs ≤ length schedule.now.cells.items }
     requires none { planes.old.items ≡ [] }
     requires room { length schedule.now.cells.items ≤ vec_capacity planes.old }
     requires within { (k : ℕ) → k < length schedule.now.slots.items →
@@ -241,7 +241,7 @@ fn take(
         (schedule_clients verified.now schedule.now) }
     requires apart { AreAllApart (schedule_clients verified.now schedule.now) }
     ensures planes { (virtuals : List PlaneValue) ×
-        (map (λ q. q.desc) virtuals ≡ map (λ o. o.desc) verified.now.virtual_outputs.items) ×
+        (map (λ q. q.desc) virtuals ≡ map (λ o. o.desc) verified.now.virtual_outputs) ×
         (capacities virtuals ≡ first_blocks schedule.now.slots.items (block_capacity blocks.old)) ×
         (planes.new.items ≡ virtuals ++ image_planes table.old.objects
         (schedule_clients verified.now schedule.now)) }
@@ -252,7 +252,7 @@ fn take(
         (bare_images table.old.objects
         (schedule_clients verified.now schedule.now))) }
 {
-    let images = verified.virtual_outputs.as_slice();
+    let images = verified.virtual_outputs();
     add_virtual(alloc, images, &schedule.slots, blocks, planes);
     take_out(table, clients_of(&schedule.cells, images.len()), planes);
 }
@@ -267,9 +267,9 @@ fn give(
     planes: &mut [Plane],
     tallies: &[Tally],
 )
-    requires count { length schedule.now.slots.items ≡ length verified.now.virtual_outputs.items }
-    requires cells { length verified.now.virtual_outputs.items ≤ length schedule.now.cells.items }
-    requires planes { length verified.now.virtual_outputs.items ≤ length planes.old }
+    requires count { length schedule.now.slots.items ≡ length verified.now.virtual_outputs }
+    requires cells { length verified.now.virtual_outputs ≤ length schedule.now.cells.items }
+    requires planes { length verified.now.virtual_outputs ≤ length planes.old }
     requires within { (k : ℕ) → k < length schedule.now.slots.items →
         slice_index_or schedule.now.slots.items k 0 < length blocks.old }
     requires formats { (k : ℕ) → k < length schedule.now.slots.items →
@@ -278,7 +278,7 @@ fn give(
     requires images { HoldImages table.old.objects (schedule_clients verified.now schedule.now) }
     requires apart { AreAllApart (schedule_clients verified.now schedule.now) }
     requires back { AreFor table.old.objects (schedule_clients verified.now schedule.now)
-        (drop (length verified.now.virtual_outputs.items) planes.old) }
+        (drop (length verified.now.virtual_outputs) planes.old) }
     requires tallies { AreTalliesFor (with_written table.old.objects
         (schedule_objects verified.now schedule.now planes.old))
         schedule.now.tally_cells.items tallies.now }
@@ -295,7 +295,7 @@ fn give(
     return_blocks(&schedule.slots, blocks, planes);
     put_behind(
         table,
-        verified.virtual_outputs.len(),
+        verified.virtual_outputs().len(),
         &schedule.cells,
         planes,
     );

@@ -49,11 +49,11 @@ pub fn schedule_of(
     plan: &Plan,
 ) -> Result<Schedule, AllocError>
     requires ready { (nodes : List NodeFields) × IsReady table.now.objects nodes verified.now }
-    requires plan { IsPlan verified.now.steps.items verified.now.virtual_outputs.items
+    requires plan { IsPlan verified.now.steps verified.now.virtual_outputs
         (plan_view plan.now) }
     ensures { IfOk result (λ s. IsSchedule table.now.objects verified.now (plan_view plan.now) s) }
 {
-    let images = verified.virtual_outputs.as_slice();
+    let images = verified.virtual_outputs();
     let cells = cells_of(alloc, verified)?;
     let slots = slots_of(alloc, plan, verified)?;
     let high = high_of(table, images, clients_of(&cells, images.len()));
@@ -67,7 +67,7 @@ pub fn schedule_of(
         slots: &slots,
     };
     let rooms = rooms_of(alloc, plan, &demand)?;
-    let tally_cells = tally_cells(alloc, &verified.steps)?;
+    let tally_cells = tally_cells(alloc, verified.steps())?;
     Ok(Schedule {
         cells,
         slots,
@@ -98,7 +98,7 @@ fn tasks_for(
     slots: &[usize],
 ) -> Result<Vec<Task>, AllocError>
     ensures { IfOk result (λ tasks. tasks.items ≡ tasks_of cells.now slots.now
-        (radius_of table.now.objects high) verified.now.steps.items) }
+        (radius_of table.now.objects high) verified.now.steps) }
 {
     let binding = Binding {
         table,
@@ -106,5 +106,5 @@ fn tasks_for(
         cells,
         slots,
     };
-    tasks_of(alloc, &binding, &verified.steps)
+    tasks_of(alloc, &binding, verified.steps())
 }

@@ -120,7 +120,7 @@ pub fn band_size(
 
 /// Returns the description of the image that the first step reads, if it is known.
 fn first_desc(table: &Table, verified: &Verified) -> Option<Desc> {
-    let node = verified.steps.first()?;
+    let node = verified.steps().first()?;
     if let Some(desc) = verified.desc_of(node.in1) {
         return Some(desc);
     }

@@ -1,6 +1,9 @@
 //! Verdicts on graphs whose nodes name objects of a table.
-ghost use Rattle.std.specs.Prelude.{◌≡◌, IsTrue, None, Some, All, map, IfOk, IfErr, OnOk};
+ghost use Rattle.std.specs.Prelude.{◌≡◌, ℕ, IsTrue, None, Some, All, map, IfOk, IfErr, OnOk};
+ghost use Rattle.std.specs.List.{zip};
+ghost use Rattle.std.specs.List.Sorted.{IsPermutation};
 ghost use Rattle.std.specs.Option.{option_map};
+ghost use Rattle.vx_base.specs.declared.node.Node.{Node as NodeFields};
 ghost use Rattle.vx_base.specs.Graph.{nodes_of};
 ghost use Rattle.graph_verify.specs.Linked.{linked_nodes, AreOperands};
 ghost use Rattle.graph_verify.specs.Operand.{is_image, operands_of};
@@ -29,6 +32,8 @@ pub fn verify_in(
         (nodes_of graph.now) }
     ensures verified { IfOk result (IsVerified (operand_held table.now.objects)
         (nodes_of graph.now)) }
+    ensures numbers { IfOk result (λ v. IsPermutation
+        (map (λ n. (n.number, n.node)) graph.now.nodes) (zip v.order v.steps)) }
     ensures ok { OnOk result (verdict work (operand_held table.now.objects)
         (nodes_of graph.now) ≡ None) }
     ensures refused { IfErr result (λ fault. IfRefused fault (λ v.
@@ -38,10 +43,13 @@ pub fn verify_in(
     verify(alloc, &nodes, work)
 }
 
-/// Returns nodes together with their operands.
+/// Returns nodes together with their numbers and operands.
 fn linked(alloc: Global, table: &Table, nodes: &[Numbered]) -> Result<Vec<Linked>, AllocError>
     ensures nodes { IfOk result (λ linked. linked_nodes linked.items
         ≡ map (λ n. n.node) nodes.now) }
+    ensures numbers { IfOk result (λ linked.
+        map {B = ℕ × NodeFields} (λ l. (l.number, l.node)) linked.items
+        ≡ map (λ n. (n.number, n.node)) nodes.now) }
     ensures operands { IfOk result (λ linked.
         AreOperands (operand_held table.now.objects) linked.items) }
 {
@@ -49,7 +57,11 @@ fn linked(alloc: Global, table: &Table, nodes: &[Numbered]) -> Result<Vec<Linked
     for numbered in nodes {
         let node = numbered.node.node();
         let operands = operands_held(table, &node);
-        linked.push(Linked { node, operands })?;
+        linked.push(Linked {
+            number: numbered.number,
+            node,
+            operands,
+        })?;
     }
     Ok(linked)
 }

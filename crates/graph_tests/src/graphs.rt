@@ -80,8 +80,8 @@ fn open_parts_are_filled(rt: HostRuntime) -> Result<(), Fail> {
     Ok(())
 }
 
-/// Returns a node of one input and one output, with these operands.
-fn linked(node: NodeSpec, in1: Operand, out1: Operand) -> Linked
+/// Returns a node of one input and one output, with this number and these operands.
+fn linked(number: u32, node: NodeSpec, in1: Operand, out1: Operand) -> Linked
     ensures { result.operands.in1 ≡ in1 }
 {
     let operands = Operands {
@@ -91,6 +91,7 @@ fn linked(node: NodeSpec, in1: Operand, out1: Operand) -> Linked
         out2: None,
     };
     Linked {
+        number,
         node: node.node(),
         operands,
     }
@@ -102,10 +103,14 @@ fn a_verified_graph_has_an_order_and_descriptions(rt: HostRuntime) -> Result<(),
     let open = PartialDesc::new(None, None, None).ok_or("within the limits")?;
     let (image, between) = (Operand::Image(desc), Operand::Virtual(open));
     let (last, first) = (not(2, 3)?, not(1, 2)?);
-    let nodes = [linked(last, between, image), linked(first, image, between)];
+    let nodes = [
+        linked(3, last, between, image),
+        linked(7, first, image, between),
+    ];
     let verified = verify(rt.alloc(), &nodes, 6).or(Err("it can run"))?;
-    assert!(rt; verified.steps.len() == 2);
-    assert!(rt; (verified.steps[0], verified.steps[1]) == (first.node(), last.node()));
+    assert!(rt; verified.steps().len() == 2);
+    assert!(rt; (verified.steps()[0], verified.steps()[1]) == (first.node(), last.node()));
+    assert!(rt; verified.order() == [7, 3].as_slice());
     assert!(rt; verified.desc_of(ObjRef::new(2, None)) == Some(desc));
     assert!(rt; verified.desc_of(ObjRef::new(3, None)) == None);
     let refused = verify(rt.alloc(), &nodes, 5).err();

@@ -31,11 +31,12 @@ fn open() -> PartialDesc {
     PartialDesc::new(None, None, None).unwrap()
 }
 
-/// Returns a node of a function that has no policy and no amount.
+/// Returns a node of a function that has no policy and no amount, numbered as its first output.
 fn node(function: Function, in1: u32, in2: Option<u32>, out1: u32, out2: Option<u32>) -> Linked
     ensures { IsTrue (is_image result.operands.in1) }
 {
     Linked {
+        number: out1,
         node: Node {
             function,
             border: Border::Undefined,

@@ -8,6 +8,7 @@ pub mod LinkLemmas
 pub mod WaitingLemmas
 pub mod SolutionLemmas
 pub mod PartialDescriptionLemmas
+pub mod SublistLemmas
 pub mod KnownLemmas
 pub mod UnwrittenLemmas
 pub mod VerdictLemmas
@@ -15,3 +16,4 @@ pub mod NodeVerdictLemmas
 pub mod SingleLemmas
 pub mod SuitLemmas
 pub mod VerifyLemmas
+pub mod VerifiedLemmas

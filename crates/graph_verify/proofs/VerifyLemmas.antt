@@ -141,7 +141,7 @@ In-closed_output (k ∷ known) o i = grind (arith, In-closed_output known o)
 
 -- ---- the nodes with their operands, and the steps
 
-abbrev links : Linked → Linked → Bool
+abbrev pub links : Linked → Linked → Bool
 links a b = feeds a.node b.node
 
 module _ (nodes steps : List Linked) (one : two_writers (linked_nodes nodes) ≡ false) (order : IsOrder links nodes steps) where
@@ -193,7 +193,7 @@ module _ (nodes steps : List Linked) (one : two_writers (linked_nodes nodes) ≡
       ap (sum_by (λ (o : VirtualOutput). byte_count o.desc)) is_outputs ∙ all_bytes is (linked_nodes nodes) (linked_nodes steps) known one nodes_order (told is (steps_operands is operands))
 
   pub verified_found : (is : Reference → Operand) (known seen : List ResolvedOutput) (v : Verified) → AreOperands is nodes → Told known → seen ≡ known → Finds seen None → All (λ (l : Linked). IsTrue (is_image l.operands.in1)) nodes
-      → v.steps.items ≡ linked_nodes steps → v.virtual_outputs.items ≡ filter_map described_output known → IsVerified is (linked_nodes nodes) v
+      → v.steps ≡ linked_nodes steps → v.virtual_outputs ≡ filter_map described_output known → IsVerified is (linked_nodes nodes) v
   verified_found is known seen v operands told same finds images is_steps is_outputs =
       let ns = linked_nodes nodes in
       let ss = linked_nodes steps in
@@ -216,8 +216,8 @@ module _ (nodes steps : List Linked) (one : two_writers (linked_nodes nodes) ≡
             ∙ h.cells
             ∙ ap (virtual_outputs is) (sym is_steps);
         descriptions = (λ k d within.
-            let o = get_or v.virtual_outputs.items k d in
-            let found = In-closed_output known o (subst (In o) is_outputs (In-at v.virtual_outputs.items k d within)) in
+            let o = get_or v.virtual_outputs k d in
+            let found = In-closed_output known o (subst (In o) is_outputs (In-at v.virtual_outputs k d within)) in
             ap (λ (r : Reference → Operand). r o.cell) (same_resolved is)
             ∙ ap (resolved_operand is ss) (sym found.2)
             ∙ sym (known_resolved is ss known h found.0 found.1)
@@ -234,16 +234,16 @@ few_outputs nodes steps known outputs few order limit is = omega (arith, few, le
 
 -- ---- the description of a cell
 
-pub description_found : (is : Reference → Operand) (nodes : List Node) (v : Verified) → IsVerified is nodes v → (c : Reference) → (r : Option VirtualOutput) → r ≡ find (λ o. same_reference o.cell c) v.virtual_outputs.items
+pub description_found : (is : Reference → Operand) (nodes : List Node) (v : Verified) → IsVerified is nodes v → (c : Reference) → (r : Option VirtualOutput) → r ≡ find (λ o. same_reference o.cell c) v.virtual_outputs
     → option_map (λ (o : VirtualOutput). o.desc) r ≡ written_description is nodes c
-description_found is nodes v h c r e = elim (find_cases (λ (o : VirtualOutput). same_reference o.cell c) v.virtual_outputs.items) [
+description_found is nodes v h c r e = elim (find_cases (λ (o : VirtualOutput). same_reference o.cell c) v.virtual_outputs) [
   | inl found ↦ (
       let o = found.0 in
       let same : o.cell ≡ c = same_cell-true o.cell c found.3 in
-      let stands = In-from_filter (λ d. is_virtual (is d)) c (flat_map outputs v.steps.items) (subst (λ l. In c l) h.cells (subst (λ d. In d (map (λ (p : VirtualOutput). p.cell) v.virtual_outputs.items)) same (In-map (λ (p : VirtualOutput). p.cell) o v.virtual_outputs.items found.2))) in
-      let writer = In-from_flat_map outputs c v.steps.items stands.0 in
-      let written : is_written nodes c ≡ true = any-from_In (λ n. writes n c) writer.0 nodes (AllIn-permutation_back nodes v.steps.items h.order.same_nodes writer.0 writer.1) (same-from_In c (outputs writer.0) writer.2) in
-      let at_o = Contains-from_In o v.virtual_outputs.items found.2 in
+      let stands = In-from_filter (λ d. is_virtual (is d)) c (flat_map outputs v.steps) (subst (λ l. In c l) h.cells (subst (λ d. In d (map (λ (p : VirtualOutput). p.cell) v.virtual_outputs)) same (In-map (λ (p : VirtualOutput). p.cell) o v.virtual_outputs found.2))) in
+      let writer = In-from_flat_map outputs c v.steps stands.0 in
+      let written : is_written nodes c ≡ true = any-from_In (λ n. writes n c) writer.0 nodes (AllIn-permutation_back nodes v.steps h.order.same_nodes writer.0 writer.1) (same-from_In c (outputs writer.0) writer.2) in
+      let at_o = Contains-from_In o v.virtual_outputs found.2 in
       let image : resolved_operand is nodes o.cell ≡ Image o.desc = subst (λ (p : VirtualOutput). resolved_operand is nodes p.cell ≡ Image p.desc) at_o.2 (h.descriptions at_o.0 o at_o.1) in
       ap (option_map (λ (p : VirtualOutput). p.desc)) (e ∙ found.1)
       ∙ sym (ap operand_description (ap (resolved_operand is nodes) (sym same) ∙ image))
@@ -252,8 +252,8 @@ description_found is nodes v h c r e = elim (find_cases (λ (o : VirtualOutput).
       let no_output : (is_virtual (is c) && is_written nodes c) ≡ false = false_from_ne_true (is_virtual (is c) && is_written nodes c) (λ both.
       let parts = and_parts (is_virtual (is c)) (is_written nodes c) both in
       let writer = In-from_any (λ n. writes n c) nodes parts.1 in
-      let stands = In-filter (λ d. is_virtual (is d)) c (flat_map outputs v.steps.items) (In-outputs writer.0 c v.steps.items (AllIn-permutation nodes v.steps.items h.order.same_nodes writer.0 writer.1) writer.2) parts.0 in
-      let output = In-from_map (λ (p : VirtualOutput). p.cell) c v.virtual_outputs.items (subst (λ l. In c l) (sym h.cells) stands) in
+      let stands = In-filter (λ d. is_virtual (is d)) c (flat_map outputs v.steps) (In-outputs writer.0 c v.steps (AllIn-permutation nodes v.steps h.order.same_nodes writer.0 writer.1) writer.2) parts.0 in
+      let output = In-from_map (λ (p : VirtualOutput). p.cell) c v.virtual_outputs (subst (λ l. In c l) (sym h.cells) stands) in
       let differs = none.1 output.0 output.1 in
       let equal = same_cell-is output.0.cell c (sym output.2) in cc) in
       ap (option_map (λ (p : VirtualOutput). p.desc)) (e ∙ none.0)

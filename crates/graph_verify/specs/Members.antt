@@ -9,3 +9,8 @@ In x (y ∷ ys) = (x ≡ y) ⊎ In x ys
 -- each member of xs is a member of ys
 abbrev pub AllIn : {X : Type 0} → List X → List X → Type 0
 AllIn {X} xs ys = (x : X) → In x xs → In x ys
+
+-- xs has members of ys, in the order of ys
+abbrev pub IsSublist : {X : Type 0} → List X → List X → Type 0
+IsSublist xs [] = xs ≡ []
+IsSublist {X} xs (y ∷ ys) = IsSublist xs ys ⊎ ((rest : List X) × (xs ≡ y ∷ rest) × IsSublist rest ys)

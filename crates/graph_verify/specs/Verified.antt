@@ -1,25 +1,40 @@
 -- Verified graphs. OpenVX 1.3, "Graphs", vxVerifyGraph.
-use Rattle.std.specs.Prelude.{◌≡◌, ◌&&◌, if◌then◌else◌, ⊤, Option, None, List, map, All}
+use Rattle.std.specs.Prelude.{◌≡◌, ℕ, false, ◌&&◌, if◌then◌else◌, ⊤, Option, None, List, length, map, All}
 use Rattle.vx_base.specs.declared.node.Node.{Node}
 use Rattle.vx_base.specs.Reference.{Reference}
 use Rattle.vx_base.specs.Description.{Description}
+use Rattle.graph_verify.specs.declared.known.VirtualOutput.{VirtualOutput}
 use Rattle.graph_verify.specs.declared.operand.Operand.{Operand}
 use Rattle.graph_verify.specs.declared.operand.Operand.TheVariants.{Image}
 use Rattle.graph_verify.specs.declared.verdict.Verdict.{Verdict}
-use Rattle.graph_verify.specs.declared.verified.Verified.{Verified}
 use Rattle.graph_verify.specs.declared.verified.VerifyFault.{VerifyFault}
 use Rattle.graph_verify.specs.declared.verified.VerifyFault.TheVariants.{NoMemory, Refused}
 use Rattle.graph_verify.specs.Links.{feeds, is_written}
 use Rattle.graph_verify.specs.Operand.{is_virtual, operand_description}
 use Rattle.graph_verify.specs.Order.{IsOrder}
 use Rattle.graph_verify.specs.PartialDescriptions.{resolved_operand}
-use Rattle.graph_verify.specs.Verdict.{virtual_outputs}
+use Rattle.graph_verify.specs.Verdict.{two_writers, virtual_outputs}
+
+-- a verified graph: its nodes, each after all that feed it; the virtual images that they write, in the order of writing; the numbers
+-- of the nodes, in the same order
+pub record VerifiedValue : Type 0 where
+  pub steps : List Node
+  pub virtual_outputs : List VirtualOutput
+  pub order : List ℕ
 
 -- the nodes in an order in which they can run, and the virtual images that they write, with their resolved descriptions
-pub record IsVerified (is : Reference → Operand) (nodes : List Node) (v : Verified) : Type 0 where
-  pub order : IsOrder feeds nodes v.steps.items
-  pub cells : map (λ o. o.cell) v.virtual_outputs.items ≡ virtual_outputs is v.steps.items
-  pub descriptions : All (λ o. resolved_operand is nodes o.cell ≡ Image o.desc) v.virtual_outputs.items
+pub record IsVerified (is : Reference → Operand) (nodes : List Node) (v : VerifiedValue) : Type 0 where
+  pub order : IsOrder feeds nodes v.steps
+  pub cells : map (λ o. o.cell) v.virtual_outputs ≡ virtual_outputs is v.steps
+  pub descriptions : All (λ o. resolved_operand is nodes o.cell ≡ Image o.desc) v.virtual_outputs
+
+-- a graph is verified, for some operands of its references, no object has two writers, and each step has a number
+pub record IsVerifiedGraph (v : VerifiedValue) : Type 0 where
+  pub is : Reference → Operand
+  pub nodes : List Node
+  pub verified : IsVerified is nodes v
+  pub one_writer : two_writers nodes ≡ false
+  pub numbers : length v.order ≡ length v.steps
 
 -- the resolved description of a virtual image that the nodes write; None for any other object
 abbrev pub written_description : (Reference → Operand) → List Node → Reference → Option Description

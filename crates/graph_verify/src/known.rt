@@ -1,7 +1,8 @@
 //! The virtual images that nodes write, resolved node by node along an order.
-ghost use Rattle.std.specs.Prelude.{◌≡◌, ◌++◌, ◌+◌, ◌*◌, ◌≤◌, false, IsTrue, length, sum_by, All};
-ghost use Rattle.std.specs.Prelude.{Some, OnOk, IfOk};
-ghost use Rattle.std.specs.List.{filter_map};
+ghost use Rattle.std.specs.Prelude.{◌≡◌, ◌++◌, ◌+◌, ◌*◌, ◌≤◌, false, IsTrue, length, map, All};
+ghost use Rattle.std.specs.Prelude.{sum_by, Some, OnOk, IfOk};
+ghost use Rattle.std.specs.List.{filter_map, flat_map};
+ghost use Rattle.vx_base.specs.Node.{outputs};
 ghost use Rattle.vx_base.specs.Reference.{Reference};
 ghost use Rattle.vx_base.specs.Description.{byte_count};
 ghost use Rattle.vx_base.specs.PartialDescription.{full_description};
@@ -9,6 +10,7 @@ ghost use Rattle.graph_verify.specs.declared.operand.Operand.{Operand};
 ghost use Rattle.graph_verify.specs.Operand.{is_image};
 ghost use Rattle.graph_verify.specs.Linked.{linked_nodes, AreOperands};
 ghost use Rattle.graph_verify.specs.Links.{feeds};
+ghost use Rattle.graph_verify.specs.Members.{IsSublist};
 ghost use Rattle.graph_verify.specs.Order.{InTurn};
 ghost use Rattle.graph_verify.specs.Verdict.{two_writers};
 ghost use Rattle.graph_verify.specs.PartialDescriptions.{all_unknown, given_partial_desc};
@@ -133,7 +135,7 @@ fn learn(known: &mut Vec<ResolvedOutput>, linked: &Linked) -> Result<(), AllocEr
         ≡ known.old.items ++ resolved_by known.old.items linked.now) }
     ensures limit { OnOk result (length known.new.items ≤ length known.old.items + 2) }
 {
-    let Linked { node, operands } = linked;
+    let Linked { node, operands, .. } = linked;
     let first = known_partial_desc(known, node.in1, operands.in1);
     let given = given_partial_desc(node.function, first);
     learn_output(known, node.out1, operands.out1, given)?;
@@ -178,7 +180,7 @@ fn known_given(
 pub fn known_operands(known: &[ResolvedOutput], linked: &Linked) -> Operands
     ensures { result ≡ known_operands known.now linked.now }
 {
-    let Linked { node, operands } = linked;
+    let Linked { node, operands, .. } = linked;
     Operands {
         in1: known_operand(known, node.in1, operands.in1),
         in2: known_given(known, node.in2, operands.in2),
@@ -196,6 +198,8 @@ pub fn known_after(alloc: Global, steps: &[Linked]) -> Result<Vec<ResolvedOutput
     requires images { All (λ l. IsTrue (is_image l.operands.in1)) steps.now }
     ensures known { IfOk result (λ known. (is : Reference → Operand) → AreOperands is steps.now →
         AreResolved is (linked_nodes steps.now) known.items) }
+    ensures cells { IfOk result (λ known. IsSublist (map (λ k. k.cell) known.items)
+        (flat_map outputs (linked_nodes steps.now))) }
     ensures limit { IfOk result (λ known. length known.items ≤ 2 * length steps.now) }
 {
     let mut known = Vec::new(alloc);

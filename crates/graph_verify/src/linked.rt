@@ -13,9 +13,10 @@ ghost use Rattle.graph_verify.specs.Verdict.{two_writers, writes_twice, has_unwr
 use crate::operand::{Operand, Operands};
 use vx_base::{Node, ObjRef};
 
-/// A node with its operands.
+/// A node with its number in its graph and its operands.
 #[derive(Clone, Copy, PartialEq, Eq, Debug)]
 pub struct Linked {
+    pub number: u32,
     pub node: Node,
     pub operands: Operands,
 }
@@ -101,7 +102,7 @@ fn given_unwritten(nodes: &[Linked], cell: Option<ObjRef>, operand: Option<Opera
 fn reads_unwritten_virtual(nodes: &[Linked], linked: &Linked) -> bool
     ensures { result ≡ reads_unwritten_virtual (linked_nodes nodes.now) linked.now }
 {
-    let Linked { node, operands } = linked;
+    let Linked { node, operands, .. } = linked;
     lacks_writer(nodes, node.in1, operands.in1) || given_unwritten(nodes, node.in2, operands.in2)
 }
 
@@ -116,7 +117,7 @@ fn is_given_virtual(operand: Option<Operand>) -> bool
 fn has_virtual_sum(linked: &Linked) -> bool
     ensures { result ≡ has_virtual_sum linked.now }
 {
-    let Linked { node, operands } = linked;
+    let Linked { node, operands, .. } = linked;
     node.function.accumulates()
         && (is_given_virtual(operands.out1) || is_given_virtual(operands.out2))
 }

@@ -1,6 +1,8 @@
 //! Verified graphs: the verdict on a graph, and the order in which it runs.
-ghost use Rattle.std.specs.Prelude.{◌≡◌, ◌≤◌, false, IsTrue, length, find, List, All, Some, None};
-ghost use Rattle.std.specs.Prelude.{IfOk, IfErr, OnOk};
+ghost use Rattle.std.specs.Prelude.{◌≡◌, ◌≤◌, false, IsTrue, length, map, find, List, All, Some};
+ghost use Rattle.std.specs.Prelude.{None, IfOk, IfErr, OnOk};
+ghost use Rattle.std.specs.List.{zip};
+ghost use Rattle.std.specs.List.Sorted.{IsPermutation};
 ghost use Rattle.vx_base.specs.Reference.{Reference, same_reference};
 ghost use Rattle.vx_base.specs.declared.node.Node.{Node as NodeFields};
 ghost use Rattle.graph_verify.specs.declared.operand.Operand.{Operand};
@@ -10,7 +12,8 @@ ghost use Rattle.graph_verify.specs.Links.{feeds};
 ghost use Rattle.graph_verify.specs.Order.{IsOrder};
 ghost use Rattle.graph_verify.specs.Operand.{is_image, operands_of};
 ghost use Rattle.graph_verify.specs.Verdict.{two_writers, verdict, first_fault};
-ghost use Rattle.graph_verify.specs.Verified.{IfRefused, IsVerified, written_description};
+ghost use Rattle.graph_verify.specs.Verified.{IfRefused, IsVerified, IsVerifiedGraph};
+ghost use Rattle.graph_verify.specs.Verified.{written_description};
 ghost use Rattle.vx_base.specs.declared.node.TheConstants.{GREATEST_NODES};
 
 use crate::known::{
@@ -20,15 +23,33 @@ use crate::linked::{Linked, has_two_writers, has_unwritten_input};
 use crate::order::put_in_order;
 use crate::verdict::{Verdict, node_fault};
 use std::alloc::{AllocError, Global};
+use std::marker::Model;
 use vx_base::{Desc, Node, ObjRef};
 
 /// A verified graph.
 #[derive(Debug, Drop)]
 pub struct Verified {
-    /// The nodes, each after all that feed it.
-    pub steps: Vec<Node>,
-    /// The virtual images that the nodes write, in the order of writing.
-    pub virtual_outputs: Vec<VirtualOutput>,
+    steps: Vec<Node>,
+    virtual_outputs: Vec<VirtualOutput>,
+    order: Vec<u32>,
+}
+
+impl Model for Verified {
+    ghost use Rattle.graph_verify.specs.Verified.{VerifiedValue, IsVerifiedGraph};
+
+    ghost Value = { VerifiedValue };
+
+    ghost view = { λ v. record {
+      steps = v.steps.items;
+      virtual_outputs = v.virtual_outputs.items;
+      order = v.order.items;
+    } };
+
+    ghost invariant = { λ v. IsVerifiedGraph (record {
+      steps = v.steps.items;
+      virtual_outputs = v.virtual_outputs.items;
+      order = v.order.items;
+    }) };
 }
 
 /// Why a graph isn't verified.
@@ -51,6 +72,29 @@ impl From<AllocError> for VerifyFault {
 }
 
 impl Verified {
+    /// Returns the nodes, each after all that feed it.
+    pub fn steps(&self) -> &[Node]
+        ensures steps { result.now ≡ self.now.steps }
+        ensures verified { IsVerifiedGraph self.now }
+    {
+        &self.steps
+    }
+
+    /// Returns the virtual images that the nodes write, in the order of writing.
+    pub fn virtual_outputs(&self) -> &[VirtualOutput]
+        ensures { result.now ≡ self.now.virtual_outputs }
+    {
+        &self.virtual_outputs
+    }
+
+    /// Returns the numbers of the nodes in their graph, in the order of the steps.
+    pub fn order(&self) -> &[u32]
+        ensures order { result.now ≡ self.now.order }
+        ensures count { length result.now ≡ length self.now.steps }
+    {
+        &self.order
+    }
+
     /// Returns the description of a virtual image that the nodes write, or `None` for any other
     /// object.
     pub fn desc_of(&self, cell: ObjRef) -> Option<Desc>
@@ -64,7 +108,7 @@ impl Verified {
 
     /// The virtual image with this reference, if the nodes write it.
     fn find(&self, cell: ObjRef) -> Option<VirtualOutput>
-        ensures { result ≡ find (λ o. same_reference o.cell cell) self.now.virtual_outputs.items }
+        ensures { result ≡ find (λ o. same_reference o.cell cell) self.now.virtual_outputs }
     {
         self.virtual_outputs
             .iter()
@@ -99,6 +143,17 @@ fn nodes_of(alloc: Global, linked: &[Linked]) -> Result<Vec<Node>, AllocError>
     Ok(nodes)
 }
 
+/// Returns the numbers of the nodes.
+fn numbers_of(alloc: Global, linked: &[Linked]) -> Result<Vec<u32>, AllocError>
+    ensures { IfOk result (λ numbers. numbers.items ≡ map (λ l. l.number) linked.now) }
+{
+    let mut numbers = Vec::new(alloc);
+    for linked in linked {
+        numbers.push(linked.number)?;
+    }
+    Ok(numbers)
+}
+
 /// Verifies a graph in which no object has two writers. `steps` has the same nodes, each after all
 /// that feed it.
 fn verify_ordered(
@@ -113,6 +168,8 @@ fn verify_ordered(
     requires order { IsOrder (λ a b. feeds a.node b.node) nodes.now steps.now }
     ensures verified { IfOk result (λ v. (is : Reference → Operand) → AreOperands is nodes.now →
         IsVerified is (linked_nodes nodes.now) v) }
+    ensures numbers { IfOk result (λ v. IsPermutation (map (λ l. (l.number, l.node)) nodes.now)
+        (zip v.order v.steps)) }
     ensures ok { OnOk result ((is : Reference → Operand) → AreOperands is nodes.now →
         verdict work is (linked_nodes nodes.now) ≡ None) }
     ensures refused { IfErr result (λ fault. (is : Reference → Operand) → AreOperands is nodes.now →
@@ -129,10 +186,12 @@ fn verify_ordered(
     if sample_bytes(&virtual_outputs) > work {
         return Err(VerifyFault::Refused(Verdict::NoResources));
     }
+    let order = numbers_of(alloc, steps)?;
     let steps = nodes_of(alloc, steps)?;
     Ok(Verified {
         steps,
         virtual_outputs,
+        order,
     })
 }
 
@@ -145,6 +204,8 @@ pub fn verify(alloc: Global, nodes: &[Linked], work: u64) -> Result<Verified, Ve
     requires images { All (λ l. IsTrue (is_image l.operands.in1)) nodes.now }
     ensures verified { IfOk result (λ v. (is : Reference → Operand) → AreOperands is nodes.now →
         IsVerified is (linked_nodes nodes.now) v) }
+    ensures numbers { IfOk result (λ v. IsPermutation (map (λ l. (l.number, l.node)) nodes.now)
+        (zip v.order v.steps)) }
     ensures ok { OnOk result ((is : Reference → Operand) → AreOperands is nodes.now →
         verdict work is (linked_nodes nodes.now) ≡ None) }
     ensures refused { IfErr result (λ fault. (is : Reference → Operand) → AreOperands is nodes.now →

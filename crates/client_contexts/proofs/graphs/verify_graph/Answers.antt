@@ -30,8 +30,7 @@ schedule_of-requires-clause-ready c =
     (nodes_of (graph_value x), graph_ready c.requires.context.0 t c.args.graph x c.requires.context.1 c.in_ok-object.ensures.ok v c.work-work.result verified allowed)
 
 pub schedule_of-requires-clause-plan : goal.schedule_of-requires-clause-plan
-schedule_of-requires-clause-plan c =
-    c.in_ok-plan.ensures.plan c.work-work.result (operand_held c.args.table.now.objects) _ c.in_ok-verified.ensures.ok c.in_ok-verified.ensures.verified
+schedule_of-requires-clause-plan c = c.in_ok-plan.ensures.plan
 
 -- nothing refuses the graph
 pub returns-in-Ok-clause-comes : goal.returns-in-Ok-clause-comes
@@ -54,7 +53,7 @@ returns-in-Ok-clause-kept c =
     subst (λ (entries : List (ℕ × KeptGraph)). AreKept t entries) (sym c.in-Ok.ensures.entries)
     (All-insert c.args.graph k (λ (e : ℕ × KeptGraph). IsKept t e.0 e.1) c.args.kept.now.entries c.requires.kept
     (verified_is_kept c.requires.context.0 t c.args.graph c.in_ok-object.object.now c.requires.context.1 c.in_ok-object.ensures.ok k verified allowed
-    (c.in_ok-plan.ensures.plan c.work-work.result (operand_held t.objects) _ allowed verified) c.in_ok-schedule.ensures))
+    c.in_ok-plan.ensures.plan c.in_ok-schedule.ensures))
 
 -- what was kept of other graphs is
 pub returns-in-Ok-clause-stay : goal.returns-in-Ok-clause-stay

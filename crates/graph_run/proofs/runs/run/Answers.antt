@@ -13,7 +13,7 @@ weaker (Err e) more h = tt
 -- as many rooms of a format as the plan has slots
 rooms_planned : (objects : List NamedObject) (v : Verified) (p : PlanView) (s : Schedule) → IsSchedule objects v p s → (f : Format) → room_count s.rooms.items f ≡ p.slot_count f
 rooms_planned objects v p s h f =
-    ap (λ (l : List (Format × ℕ)). room_count l f) h.rooms ∙ planned_count (band_plan s.size s.halos.items v.virtual_outputs.items s.slots.items p) f
+    ap (λ (l : List (Format × ℕ)). room_count l f) h.rooms ∙ planned_count (band_plan s.size s.halos.items v.virtual_outputs s.slots.items p) f
 
 pub run_scheduled-requires-clause-schedule : goal.run_scheduled-requires-clause-schedule
 run_scheduled-requires-clause-schedule c = (plan_view c.args.plan.now, c.requires.plan, c.in_ok-schedule.ensures)

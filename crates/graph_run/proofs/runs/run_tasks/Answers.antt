@@ -8,7 +8,7 @@ use Rattle.graph_run.proofs.runs.run_tasks.Goals as goal
 pub returns-clause-leaves : goal.returns-clause-leaves
 returns-clause-leaves c =
     let objects = c.args.table.now.objects in
-    let left : Leaves (tables_of objects c.deref.result.now) c.deref-2.result.now c.args.planes.now c.args.tallies.now c.run.new.planes c.run.new.tallies =
+    let left : Leaves (tables_of objects c.steps.result.now) c.deref.result.now c.args.planes.now c.args.tallies.now c.run.new.planes c.run.new.tallies =
     record {
       images = c.run.ensures.solution;
       reductions = c.run.ensures.reductions;
@@ -18,5 +18,5 @@ returns-clause-leaves c =
       tallies_count = c.run.auto.tallies;
     }
     in
-    subst (λ (ts : List Task). Leaves (tables_of objects c.args.verified.now.steps.items) ts c.args.planes.now c.args.tallies.now c.run.new.planes c.run.new.tallies) c.deref-2.ensures.value
-    (subst (λ (ns : List Node). Leaves (tables_of objects ns) c.deref-2.result.now c.args.planes.now c.args.tallies.now c.run.new.planes c.run.new.tallies) c.deref.ensures.value left)
+    subst (λ (ts : List Task). Leaves (tables_of objects c.args.verified.now.steps) ts c.args.planes.now c.args.tallies.now c.run.new.planes c.run.new.tallies) c.deref.ensures.value
+    (subst (λ (ns : List Node). Leaves (tables_of objects ns) c.deref.result.now c.args.planes.now c.args.tallies.now c.run.new.planes c.run.new.tallies) c.steps.ensures.steps left)

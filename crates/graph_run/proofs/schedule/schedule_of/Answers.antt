@@ -14,15 +14,15 @@ use Rattle.graph_run.proofs.schedule.schedule_of.Goals as goal
 pub clients_of-requires : goal.clients_of-requires
 clients_of-requires c =
     let v = c.args.verified.now in
-    omega (arith, virtuals_below v.steps.items v.virtual_outputs.items, ap length c.as_slice-images.ensures.value, ap length c.deref.ensures.value, ap length c.in_ok-cells.ensures)
+    omega (arith, virtuals_below v.steps v.virtual_outputs, ap length c.virtual_outputs-images.ensures, ap length c.deref.ensures.value, ap length c.in_ok-cells.ensures)
 
 pub high_of-high-requires : goal.high_of-high-requires
 high_of-high-requires c =
     let v = c.args.verified.now in
-    let outs = v.virtual_outputs.items in
-    let same : c.clients_of.result.now ≡ client_cells v.steps.items outs =
-    c.clients_of.ensures ∙ ap (λ (l : List Reference). drop (length c.as_slice-images.result.now) l) (c.deref.ensures.value ∙ c.in_ok-cells.ensures)
-    ∙ ap (λ l. drop (length l) (graph_cells v.steps.items outs)) c.as_slice-images.ensures.value
+    let outs = v.virtual_outputs in
+    let same : c.clients_of.result.now ≡ client_cells v.steps outs =
+    c.clients_of.ensures ∙ ap (λ (l : List Reference). drop (length c.virtual_outputs-images.result.now) l) (c.deref.ensures.value ∙ c.in_ok-cells.ensures)
+    ∙ ap (λ l. drop (length l) (graph_cells v.steps outs)) c.virtual_outputs-images.ensures
     in
     subst (HoldImages c.args.table.now.objects) (sym same) (clients_hold c.args.table.now.objects c.requires.ready.0 v c.requires.ready.1 (plan_view c.args.plan.now) c.requires.plan)
 
@@ -57,8 +57,8 @@ rooms_of-requires-clause-halos c =
     let v = c.args.verified.now in
     omega (
       arith,
-      virtuals_below v.steps.items v.virtual_outputs.items,
-      ap length c.as_slice-images.ensures.value,
+      virtuals_below v.steps v.virtual_outputs,
+      ap length c.virtual_outputs-images.ensures,
       ap length c.in_ok-cells.ensures,
       c.in_ok-halos.ensures.count,
       c.len.ensures,
@@ -70,34 +70,34 @@ pub returns : goal.returns
 returns c =
     let v = c.args.verified.now in
     let p = plan_view c.args.plan.now in
-    let outs = v.virtual_outputs.items in
+    let outs = v.virtual_outputs in
     let objects = c.args.table.now.objects in
     let high = c.high_of-high.result in
     let size = c.band_size-size.result in
     let halos = c.in_ok-halos.halos.items in
     let slots = c.in_ok-slots.slots.items in
     let radius = radius_of objects high in
-    let clients : c.clients_of.result.now ≡ client_cells v.steps.items outs =
-    c.clients_of.ensures ∙ ap (λ (l : List Reference). drop (length c.as_slice-images.result.now) l) (c.deref.ensures.value ∙ c.in_ok-cells.ensures)
-    ∙ ap (λ l. drop (length l) (graph_cells v.steps.items outs)) c.as_slice-images.ensures.value
+    let clients : c.clients_of.result.now ≡ client_cells v.steps outs =
+    c.clients_of.ensures ∙ ap (λ (l : List Reference). drop (length c.virtual_outputs-images.result.now) l) (c.deref.ensures.value ∙ c.in_ok-cells.ensures)
+    ∙ ap (λ l. drop (length l) (graph_cells v.steps outs)) c.virtual_outputs-images.ensures
     in
     record {
       cells = c.in_ok-cells.ensures;
       slots = c.in_ok-slots.ensures;
       tasks = c.in_ok-tasks.ensures
-          ∙ ap (λ (l : List Reference). tasks_of l c.deref-3.result.now radius v.steps.items) (c.deref-2.ensures.value ∙ c.in_ok-cells.ensures)
-          ∙ ap (λ (l : List ℕ). tasks_of (graph_cells v.steps.items outs) l radius v.steps.items) (c.deref-3.ensures.value ∙ c.in_ok-slots.ensures);
+          ∙ ap (λ (l : List Reference). tasks_of l c.deref-3.result.now radius v.steps) (c.deref-2.ensures.value ∙ c.in_ok-cells.ensures)
+          ∙ ap (λ (l : List ℕ). tasks_of (graph_cells v.steps outs) l radius v.steps) (c.deref-3.ensures.value ∙ c.in_ok-slots.ensures);
       halo_count = omega (arith, c.in_ok-halos.ensures.count, c.len.ensures, c.in_ok-cells.cells.ok.0, ap length c.in_ok-cells.ensures);
       enough = subst (λ (l : List Task). Suffice high halos l) c.deref-4.ensures.value c.in_ok-halos.ensures.enough;
       some = c.high_of-high.ensures.some;
       forward = c.band_size-size.ensures.forward;
       rooms = c.in_ok-rooms.ensures
-          ∙ ap (λ (l : List ℕ). planned_capacities (band_plan size l c.as_slice-images.result.now c.deref-8.result.now p)) c.deref-7.ensures.value
-          ∙ ap (λ (l : List VirtualOutput). planned_capacities (band_plan size halos l c.deref-8.result.now p)) c.as_slice-images.ensures.value
+          ∙ ap (λ (l : List ℕ). planned_capacities (band_plan size l c.virtual_outputs-images.result.now c.deref-8.result.now p)) c.deref-7.ensures.value
+          ∙ ap (λ (l : List VirtualOutput). planned_capacities (band_plan size halos l c.deref-8.result.now p)) c.virtual_outputs-images.ensures
           ∙ ap (λ (l : List ℕ). planned_capacities (band_plan size halos outs l p)) c.deref-8.ensures.value;
       once = subst (λ (l : List Task). AddOnce high size halos l) c.deref-5.ensures.value
           (subst (λ (l : List ℕ). AddOnce high size l c.deref-5.result.now) c.deref-6.ensures.value c.band_size-size.ensures.once);
-      virtuals = subst (λ (l : List VirtualOutput). All (λ o. o.desc.height ≤ high) l) c.as_slice-images.ensures.value c.high_of-high.ensures.virtuals;
+      virtuals = subst (λ (l : List VirtualOutput). All (λ o. o.desc.height ≤ high) l) c.virtual_outputs-images.ensures c.high_of-high.ensures.virtuals;
       clients = subst (λ (l : List Reference). All (λ d. (image_held objects d).height ≤ high) l) clients c.high_of-high.ensures.clients;
-      tally_cells = c.in_ok-tally_cells.ensures ∙ ap tally_cells c.deref-9.ensures.value;
+      tally_cells = c.in_ok-tally_cells.ensures ∙ ap tally_cells c.steps.ensures.steps;
     }

@@ -38,7 +38,7 @@ run-requires c =
             (subst (λ (ns : List Node). IsVerified (operand_held objects) ns v) same c.in_ok-verified.ensures.verified)
             (ap (verdict 10 (operand_held objects)) (sym same) ∙ c.in_ok-verified.ensures.ok),
       );
-      plan = c.in_ok-plan.ensures.plan 10 (operand_held objects) nodes c.in_ok-verified.ensures.ok c.in_ok-verified.ensures.verified;
+      plan = c.in_ok-plan.ensures.plan;
     }
 
 pub returns : goal.returns

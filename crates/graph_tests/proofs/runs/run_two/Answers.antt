@@ -34,5 +34,5 @@ run-requires c =
       objects = subst (λ (o : List NamedObject). All (λ n. IsObject n.object) o) (sym is) (linked_objects a b d c.requires.input c.requires.output c.prove_sides.ensures);
       names = subst (λ (o : List NamedObject). IsStrictlyIncreasing (map {A = NamedObject} {B = ℕ} (λ n. n.name) o)) (sym is) (linked_names a b d);
       ready = (nodes, subst (λ (o : List NamedObject). IsReady o nodes v) (sym is) (ready (linked a b d) nodes nodes_are (both_find a b d) v 2 verified allowed));
-      plan = c.in_ok-plan.ensures.plan 2 (operand_held (linked a b d)) nodes allowed verified;
+      plan = c.in_ok-plan.ensures.plan;
     }

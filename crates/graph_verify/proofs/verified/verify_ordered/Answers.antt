@@ -2,6 +2,7 @@ use Rattle.std.proofs.Common.{◌∙◌, ap, arith, Some, None}
 use Rattle.graph_verify.proofs.Common.{filter_map, described_output, linked_nodes}
 use Rattle.graph_verify.proofs.VerdictLemmas.{too_large, there_is_room}
 use Rattle.graph_verify.proofs.VerifyLemmas.{nodes_order, steps_one_writer, steps_images, unwritten_input_found, verdict_found, bytes_found, verified_found, few_outputs}
+use Rattle.graph_verify.proofs.VerifiedLemmas.{verified_graph, numbered}
 use Rattle.graph_verify.proofs.verified.verify_ordered.Goals as goal
 
 pub returns-then-has_unwritten_input-clause-refused : goal.returns-then-has_unwritten_input-clause-refused
@@ -47,3 +48,11 @@ returns-clause-ok c is operands =
     verdict_found c.args.nodes.now c.args.steps.now c.requires.one_writer c.requires.order c.args.work is c.in_ok-known.known.items c.deref.result.now None operands
     c.in_ok-known.ensures.known c.deref.ensures.value c.in_default.ensures (c.if-has_unwritten_input.ensures is operands)
     ∙ there_is_room c.args.work is (linked_nodes c.args.nodes.now) (omega (arith, bytes, c.if-sample_bytes-work.false))
+
+pub invariant_of-result : goal.invariant_of-result
+invariant_of-result c =
+    verified_graph c.args.nodes.now c.args.steps.now c.requires.order c.requires.one_writer _ c.in_ok-steps.ensures c.in_ok-order.ensures c.in_ok-known.known.items
+    c.in_ok-known.ensures.cells (c.in_ok-virtual_outputs.ensures ∙ ap (filter_map described_output) c.deref-2.ensures.value)
+
+pub returns-clause-numbers : goal.returns-clause-numbers
+returns-clause-numbers c = numbered c.args.nodes.now c.args.steps.now c.requires.order _ _ c.in_ok-steps.ensures c.in_ok-order.ensures
