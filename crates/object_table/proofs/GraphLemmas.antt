@@ -154,9 +154,7 @@ used_limit entries count nodes =
   where
     one : (e : ℕ × Entry) → length (nodes_in e.1.object) ≤ 256 → length (used_by e) ≤ 1024
     one e few =
-        let each : sum_by (λ n. length (used_names n)) (nodes_in e.1.object) ≤ length (nodes_in e.1.object) * 4 =
-        sum_by-le (λ n. length (used_names n)) 4 (nodes_in e.1.object) (λ k d below. grind (arith, optional_cells)) in
-        elim (cases_Bool e.1.live) [ inl k ↦ rw k (omega (arith, each, few, length-flat_map used_names (nodes_in e.1.object))) | inr k ↦ rw k (omega arith) ]
+        grind (arith, length-flat_map used_names (nodes_in e.1.object), sum_by-le (λ n. length (used_names n)) 4 (nodes_in e.1.object) (λ k d below. grind (arith, optional_cells)))
 
 -- a name that is held is below the next
 pub held_below : (next : ℕ) (entries : List (ℕ × Entry)) (name : ℕ) → All (λ e. e.0 < next) entries → IsTrue (is_some (object_held (map entry_object entries) name)) → name < next
