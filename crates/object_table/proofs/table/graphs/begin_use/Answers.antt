@@ -20,9 +20,8 @@ returns-in-Some-get_mut c =
 
 pub returns-in_default-get_mut : goal.returns-in_default-get_mut
 returns-in_default-get_mut c =
-    let entries = c.args.entries.now.entries in
     ap (λ m. m.entries) c.get_mut.follows.holds-at-none
-    ∙ used-none more more_is entries c.name.result (sym c.in_default-get_mut.ensures.value)
+    ∙ used-none more more_is c.args.entries.now.entries c.name.result (sym c.in_default-get_mut.ensures.value)
     ∙ (rw (c.in-Some.is, c.name.ensures.value) refl)
 
 pub returns-in_default : goal.returns-in_default

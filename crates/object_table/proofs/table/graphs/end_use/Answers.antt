@@ -7,15 +7,13 @@ use Rattle.object_table.proofs.table.graphs.end_use.Goals as goal
 
 pub returns-in_default-clause-entries : goal.returns-in_default-clause-entries
 returns-in_default-clause-entries c =
-    let entries = c.args.entries.now.entries in
-    left-nil entries c.requires.held ∙ (rw c.in_default.is refl)
+    left-nil c.args.entries.now.entries c.requires.held ∙ (rw c.in_default.is refl)
 
 pub returns-in_default-get_mut-clause-entries : goal.returns-in_default-get_mut-clause-entries
 returns-in_default-get_mut-clause-entries c =
     let entries = c.args.entries.now.entries in
-    let name = c.name-name.result in
     ap (λ m. m.entries) c.get_mut.follows.holds-at-none ∙ sym (all_kept entries c.requires.held)
-    ∙ ap kept_entries (used-none less less_is entries name (sym c.in_default-get_mut.ensures.value))
+    ∙ ap kept_entries (used-none less less_is entries c.name-name.result (sym c.in_default-get_mut.ensures.value))
     ∙ (rw (c.in-Some.is, c.name-name.ensures.value) refl)
 
 -- the entry that is left of it
