@@ -1,6 +1,6 @@
 -- Delays that age with graphs.
 use Rattle.std.proofs.Common.{◌≡◌, ◌≢◌, ℕ, ◌+◌, ◌<◌, Bool, true, false, List, [], ◌∷◌, ◌++◌, length, map, take, get_or, Some, None, refl, sym, ap, ◌∙◌, arith, ◌==◌, if◌then◌else◌, is_some, eqb-true, ne_eqb, All, filter, length-take, get_or-take}
-use Rattle.object_table.proofs.Common.{list_any, AllPairs, keys_of, lookup, set_value, is_at, option_map, nat_cmp, eqb-false, All-nil, All-cons, All-filter, sorted_tail, Kind, with_delays, ObjectValue, GraphObject, object_kind, Entry, is_there, aged_under, Context, with_objects, NamedObject, object_held, aged_object, graph_value, IsUnder, graph_under, entry_object, nodes_in, AllPairs-filter, aged_if, get_or_default, list_any_more, list_any_none}
+use Rattle.object_table.proofs.Common.{list_any, AllPairs, keys_of, lookup, set_value, is_at, option_map, nat_cmp, eqb-false, All-nil, All-cons, All-filter, sorted_tail, Kind, ObjectValue, Entry, is_there, aged_under, Context, with_objects, NamedObject, object_held, aged_object, IsUnder, graph_under, entry_object, AllPairs-filter, aged_if, get_or_default, list_any_more, list_any_none}
 use Rattle.std.proofs.lemmas.List.Quantifiers.{all_pairs_push}
 use Rattle.object_table.proofs.EntryLemmas.{InOrder, same_name, past_head, held_is, objects_are}
 
@@ -78,7 +78,3 @@ apart_and names p name apart none =
     others : (l : List ℕ) → list_any (λ n. n == name) l ≡ false → All (λ n. n ≢ name) l
     others [] h = All-nil (λ n. n ≢ name)
     others (n ∷ l) h = All-cons (λ m. m ≢ name) n l (eqb-false n name (grind arith)) (others l (grind arith))
-
--- a graph has the nodes that it had
-pub graph_nodes : (object : ObjectValue) (delays : List ℕ) → object_kind object ≡ Kind.Graph → nodes_in (GraphObject (with_delays (graph_value object) delays)) ≡ nodes_in object
-graph_nodes object delays is = grind arith

@@ -41,7 +41,7 @@ pub use Rattle.vx_base.specs.Graph.{GraphValue, can_add, with_delays, with_node,
 pub use Rattle.vx_base.specs.Image.{ImageValue, IsImage, band, description_of, image_over, new_image, with_valid, zero_outside}
 pub use Rattle.vx_base.specs.Node.{optional_cells, operands}
 pub use Rattle.vx_base.specs.Object.{DelayObject, GraphObject, ImageObject, IsDelay, IsObject, ObjectValue, image_bytes, object_bytes, object_kind, ExtremesObject}
-pub use Rattle.vx_base.specs.Picture.{values, PictureValue, IsPicture, picture_image}
+pub use Rattle.vx_base.specs.Picture.{values, picture_image}
 pub use Rattle.vx_base.specs.declared.desc.TheConstants.{GREATEST_BYTES}
 pub use Rattle.vx_base.specs.declared.format.Format.{Format}
 pub use Rattle.vx_base.specs.declared.kind.Kind.{Kind}

@@ -1,5 +1,5 @@
 -- In how many blocks of a pool the entries of a map have their samples.
-use Rattle.std.proofs.Common.{◌≡◌, ℕ, ◌+◌, List, [], ◌∷◌, map, Some, refl, sym, ap, ◌∙◌, arith, rules, sum_by}
+use Rattle.std.proofs.Common.{◌≡◌, ℕ, ◌+◌, List, [], ◌∷◌, map, Some, refl, arith, rules, sum_by}
 use Rattle.object_table.proofs.Common.{lookup, set_value, remove_entry, is_at, nat_cmp, sum_by-cons, Format, Entry, GraphValue, ObjectValue, GraphObject, object_kind, object_blocks, blocks_in, LendsAtLeast, Balances, NamedObject, entry_object, Kind}
 use Rattle.pixel_pool.specs.declared.pool.Pool.{Pool}
 use Rattle.object_table.proofs.EntryLemmas.{sum-written, sum-removed}
@@ -17,12 +17,6 @@ blocks_is : (entries : List (ℕ × Entry)) (format : Format) → entry_blocks e
 blocks_is [] format = refl
 blocks_is (e ∷ entries) format = search (rules, blocks_is entries format, sum_by-cons)
 
--- an entry that is written with an object of as many has as many
-pub blocks-written : (entries : List (ℕ × Entry)) (name : ℕ) (old new : Entry) (format : Format) → lookup (is_at (nat_cmp name)) entries ≡ Some old → object_blocks new.object format ≡ object_blocks old.object format
-    → entry_blocks (set_value (is_at (nat_cmp name)) entries new) format ≡ entry_blocks entries format
-blocks-written entries name old new format found same =
-    omega (arith, same, blocks_is entries format, blocks_is (set_value (is_at (nat_cmp name)) entries new) format, sum-written (λ e. object_blocks e.1.object format) entries name old new found)
-
 -- an entry that is removed leaves those of the others
 pub blocks-removed : (entries : List (ℕ × Entry)) (name : ℕ) (old : Entry) → lookup (is_at (nat_cmp name)) entries ≡ Some old
     → (format : Format) → entry_blocks (remove_entry (is_at (nat_cmp name)) entries) format + object_blocks old.object format ≡ entry_blocks entries format
@@ -35,7 +29,8 @@ blocks-removed entries name old found format =
 module _ (entries : List (ℕ × Entry)) (name : ℕ) (old new : Entry) (written : List (ℕ × Entry))
     (found : lookup (is_at (nat_cmp name)) entries ≡ Some old) (is : written ≡ set_value (is_at (nat_cmp name)) entries new) (same : (format : Format) → object_blocks new.object format ≡ object_blocks old.object format) where
   as_many : (format : Format) → entry_blocks written format ≡ entry_blocks entries format
-  as_many format = ap (λ l. entry_blocks l format) is ∙ blocks-written entries name old new format found (same format)
+  as_many format =
+      rw is (omega (arith, same format, blocks_is entries format, blocks_is (set_value (is_at (nat_cmp name)) entries new) format, sum-written (λ e. object_blocks e.1.object format) entries name old new found))
 
   pub owns-written : (pool : Pool) → LendsAtLeast pool (blocks_in (map entry_object entries)) → LendsAtLeast pool (blocks_in (map entry_object written))
   owns-written pool owns format = omega (arith, as_many format, owns format)
@@ -49,10 +44,6 @@ module _ (entries : List (ℕ × Entry)) (name : ℕ) (old new : Entry) (written
 
 -- ---- graphs
 
--- they have no samples
-no_blocks : (object : ObjectValue) → object_kind object ≡ Kind.Graph → (format : Format) → object_blocks object format ≡ 0
-no_blocks object is format = grind arith
-
--- so another graph under the same name occupies as many
+-- another graph under the same name occupies as many: none
 pub graph_blocks : (old new : ObjectValue) (graph : GraphValue) → object_kind old ≡ Kind.Graph → new ≡ GraphObject graph → (format : Format) → object_blocks new format ≡ object_blocks old format
-graph_blocks old new graph of_graph is format = ap (λ o. object_blocks o format) is ∙ sym (no_blocks old of_graph format)
+graph_blocks old new graph of_graph is format = grind (arith, of_graph, is)

@@ -1,15 +1,14 @@
 -- Nodes that are added and removed, the names that they use, and the objects held after that.
-use Rattle.std.proofs.Common.{inl, inr, ◌≡◌, ℕ, ◌+◌, ◌-◌, ◌*◌, ◌<◌, ◌≤◌, zero, suc, Bool, true, false, cond, List, [], ◌∷◌, ◌++◌, Some, None, length, map, get_or, IsTrue, refl, sym, ap, subst, ◌∙◌, arith, rules, ◌==◌, ◌||◌, nat_lt, find, sum_by, is_some, eqb-true, ne_eqb, length-append, All, ◌&&◌, not, filter, ltb-true, take_at, drop_at}
-use Rattle.object_table.proofs.Common.{map-map, keys_of, lookup, set_value, list_any, flat_map, AllPairs, IsStrictlyIncreasing, is_at, nat_cmp, cases_Bool, and_parts, map-append, length-map, All-nil, All-cons, All-head, All-tail, All-map, All-weaker, All-filter, filter_passes, AllPairs-from_increasing, sum_by-cons, sum_by-le, count_by-le-length, keys-set_value, length-set_value, Kind, Node, Numbered, Reference, GraphValue, can_add, with_node, without_node, optional_cells, ObjectValue, GraphObject, object_bytes, object_kind, Entry, Context, charge_of, object_named, still_held, without_name, NamedObject, object_held, graph_value, entry_object, used_more, used_less, is_kept, kept_entries, IsTable, used_names, nodes_in, names_used_by, names_used, name_count, GREATEST_SLOTS, GREATEST_BYTES, nat_tests, All-append, All-drop, All-take, AllPairs-cons, IsGraph, false≢true, flat_map-map, is_used, length-filter, list_any-append, nodes_of, operands, uses}
+use Rattle.std.proofs.Common.{inl, inr, ◌≡◌, ℕ, ◌+◌, ◌-◌, ◌*◌, ◌<◌, ◌≤◌, zero, suc, Bool, true, false, cond, List, [], ◌∷◌, ◌++◌, Some, None, length, map, IsTrue, refl, sym, ap, subst, ◌∙◌, arith, rules, ◌==◌, ◌||◌, nat_lt, find, sum_by, is_some, eqb-true, ne_eqb, length-append, All, ◌&&◌, not, filter, ltb-true, take_at, drop_at}
+use Rattle.object_table.proofs.Common.{map-map, keys_of, lookup, set_value, list_any, flat_map, AllPairs, IsStrictlyIncreasing, is_at, nat_cmp, cases_Bool, and_parts, map-append, length-map, All-nil, All-cons, All-head, All-tail, All-map, All-weaker, All-filter, filter_passes, AllPairs-from_increasing, sum_by-cons, sum_by-le, count_by-le-length, keys-set_value, length-set_value, Kind, Node, Numbered, Reference, GraphValue, can_add, with_node, without_node, optional_cells, ObjectValue, GraphObject, object_bytes, object_kind, Entry, Context, charge_of, object_named, still_held, NamedObject, object_held, graph_value, entry_object, used_more, used_less, is_kept, kept_entries, IsTable, used_names, nodes_in, names_used_by, names_used, name_count, GREATEST_SLOTS, GREATEST_BYTES, nat_tests, All-append, All-drop, All-take, AllPairs-cons, IsGraph, false≢true, flat_map-map, is_used, length-filter, list_any-append, nodes_of, operands, uses}
 use Rattle.std.proofs.lemmas.Grind.{flat_map-append}
 use Rattle.std.proofs.lemmas.List.Concat.{length-flat_map}
 use Rattle.std.proofs.lemmas.Map.Steps.{set_value_same}
 use Rattle.graph_verify.proofs.MemberLemmas.{any-map}
 use Rattle.object_table.proofs.HeldLemmas.{All-from_map, increasing_from_pairs, increasing_head, increasing_tail}
-use Rattle.object_table.proofs.KeptLemmas.{ended-one, shown-ended}
 use Rattle.object_table.proofs.SlotLemmas.{graph_of_kind}
 use Rattle.object_table.proofs.UseLemmas.{times-append}
-use Rattle.object_table.proofs.EntryLemmas.{none_named, InOrder, in_order, named_is, if_live, All-written, sum-written, charge_is}
+use Rattle.object_table.proofs.EntryLemmas.{none_named, in_order, named_is, if_live, All-written, sum-written, charge_is}
 
 -- ---- how often a name occurs in a list
 
@@ -52,10 +51,6 @@ any_alike p q (x ∷ xs) h = ap (λ b. b || list_any p xs) (All-head (λ x. p x 
 -- they are the cells that it reads and writes
 names_of_operands : (n : Node) → map (λ (operand : Reference × Kind). operand.0.name) (operands n) ≡ used_names n
 names_of_operands n = grind (arith, optional_cells)
-
--- a node has at most four
-four_names : (n : Node) → length (used_names n) ≤ 4
-four_names n = grind (arith, optional_cells)
 
 -- the names of an object's nodes
 abbrev pub names_in : ObjectValue → List ℕ
@@ -147,9 +142,6 @@ pub record AreEntries (next : ℕ) (entries : List (ℕ × Entry)) : Type 0 wher
   pub nodes : All (λ e. length (nodes_in e.1.object) ≤ 256) entries
   pub given : All (λ e. All (λ name. name < next) (used_by e)) entries
 
-entries_of : (next charge : ℕ) (entries : List (ℕ × Entry)) → IsTable next charge entries → AreEntries next entries
-entries_of next charge entries t = grind (arith, All-parts used_by (λ name. name < next) entries (subst (All (λ name. name < next)) (used_is entries) t.given), used_is entries)
-
 table_of : (next charge : ℕ) (entries : List (ℕ × Entry)) → AreEntries next entries → charge ≡ charge_of (map entry_object entries) → All (λ e. e.1.uses ≡ name_count e.0 (names_used (map entry_object entries))) entries
     → All (λ e. IsTrue (is_kept e)) entries → IsTable next charge entries
 table_of next charge entries h charged uses held = grind (arith, used_is entries, All-flat_map used_by (λ name. name < next) entries h.given)
@@ -162,9 +154,7 @@ used_limit entries count nodes =
   where
     one : (e : ℕ × Entry) → length (nodes_in e.1.object) ≤ 256 → length (used_by e) ≤ 1024
     one e few =
-        let each : sum_by (λ n. length (used_names n)) (nodes_in e.1.object) ≤ length (nodes_in e.1.object) * 4 =
-        sum_by-le (λ n. length (used_names n)) 4 (nodes_in e.1.object) (λ k d below. four_names (get_or (nodes_in e.1.object) k d)) in
-        elim (cases_Bool e.1.live) [ inl k ↦ rw k (omega (arith, each, few, length-flat_map used_names (nodes_in e.1.object))) | inr k ↦ rw k (omega arith) ]
+        grind (arith, length-flat_map used_names (nodes_in e.1.object), sum_by-le (λ n. length (used_names n)) 4 (nodes_in e.1.object) (λ k d below. grind (arith, optional_cells)))
 
 -- a name that is held is below the next
 pub held_below : (next : ℕ) (entries : List (ℕ × Entry)) (name : ℕ) → All (λ e. e.0 < next) entries → IsTrue (is_some (object_held (map entry_object entries) name)) → name < next
@@ -172,11 +162,6 @@ held_below next [] name h there = absurd (false≢true there)
 held_below next (e ∷ entries) name h there = grind (arith, held_below next entries name (All-tail (λ e. e.0 < next) e entries h), All-tail, All-head)
 
 -- ---- an entry that is written
-
--- one that isn't live from now on
-pub named-unlive : (entries : List (ℕ × Entry)) (name : ℕ) (old : Entry) → InOrder entries → lookup (is_at (nat_cmp name)) entries ≡ Some old
-    → map entry_object (set_value (is_at (nat_cmp name)) entries (record old { live = false })) ≡ without_name (map entry_object entries) name
-named-unlive entries name old order found = ap (map entry_object) (ended-one entries name old order found) ∙ shown-ended name entries
 
 module _ (next charge : ℕ) (entries : List (ℕ × Entry)) (h : IsTable next charge entries) (name : ℕ) (old new : Entry) (found : lookup (is_at (nat_cmp name)) entries ≡ Some old) (same : new.uses ≡ old.uses) where
   abbrev pub after : List (ℕ × Entry)
@@ -203,7 +188,8 @@ module _ (next charge : ℕ) (entries : List (ℕ × Entry)) (h : IsTable next c
 
   entries-after : (length (nodes_in old.object) ≤ 256 → length (nodes_in new.object) ≤ 256) → object_bytes new.object ≡ object_bytes old.object → ((k : ℕ) → All (λ n. n < next) (used_by (k, old)) → All (λ n. n < next) (used_by (k, new))) → AreEntries next after
   entries-after few bytes optional_cells =
-      let t = entries_of next charge entries h in
+      let t : AreEntries next entries =
+      grind (arith, All-parts used_by (λ name. name < next) entries (subst (All (λ name. name < next)) (used_is entries) h.given), used_is entries) in
       let test = is_at (nat_cmp name) in
       record {
         names = subst IsStrictlyIncreasing (sym (keys-set_value test entries new)) t.names;

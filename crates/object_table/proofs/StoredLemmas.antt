@@ -1,10 +1,9 @@
 -- Images that are stored.
 use Rattle.std.proofs.Common.{◌≡◌, ℕ, ℤ, List, pos, replicate, arith}
-use Rattle.object_table.proofs.Common.{Description, IsImage, new_image, image_over, band, zero_outside, with_valid, values, sample_from, IsPicture, PictureValue, Rectangle, sample_count, whole_rectangle}
+use Rattle.object_table.proofs.Common.{Description, new_image, image_over, band, zero_outside, with_valid, values, sample_from, Rectangle, sample_count, whole_rectangle}
 use Rattle.vx_base.specs.declared.samples.Samples.{Samples}
 use Rattle.image_core.specs.declared.band.Band.{Band}
 use Rattle.image_core.specs.Bands.{all_rows}
-use Rattle.vx_base.proofs.PictureLaws.{pictured_image}
 use Rattle.vx_base.proofs.ZeroLaws.{samples-new_image}
 
 -- samples that are all 0 make a new image
@@ -16,8 +15,3 @@ zeros_are_new d area samples count all long zero = grind (arith, samples-new_ima
 pub cleared_is : (d : Description) (valid old : Rectangle) (samples out : List ℤ) (width : ℕ) (rows : Band) → width ≡ d.width → rows ≡ all_rows d.height
     → out ≡ band width rows.start rows.count (zero_outside valid (sample_from width rows.start samples)) → image_over d valid out ≡ with_valid valid (image_over d old samples)
 cleared_is d valid old samples out width rows wide all is = grind arith
-
--- the samples of a picture make an image, which is wholly valid
-pub picture_is_image : (d : Description) (area : Rectangle) (samples : Samples) (p : PictureValue) → p.description ≡ d → area ≡ whole_rectangle d.width d.height → values samples ≡ p.samples → IsPicture p
-    → IsImage (image_over d area (values samples))
-picture_is_image d area samples p described all is picture = rw (all, is, ← described) (pictured_image p picture)

@@ -86,16 +86,6 @@ module _ (after : List ℕ → List (ℕ × Entry) → List (ℕ × Entry)) (twi
       ∙ ap (flat_map used_names) (ap (λ n. take k nodes ++ n ∷ []) (sym at) ∙ sym (take_more nodes k node within)) in
       then ∙ ap (after (used_names node)) so_far ∙ twice (flat_map used_names (take k nodes)) (used_names node) old ∙ ap (λ l. after l old) names
 
--- an operand that there is
-pub operand_uses : (after : List ℕ → List (ℕ × Entry) → List (ℕ × Entry)) (operand : Option Reference) (cell : Reference) (name : ℕ) (entries : List (ℕ × Entry)) → operand ≡ Some cell → name ≡ cell.name
-    → after (name ∷ []) entries ≡ after (map (λ cell. cell.name) (optional_cells operand)) entries
-operand_uses after operand cell name entries some same = grind arith
-
--- an operand that there isn't
-pub no_operand_uses : (after : List ℕ → List (ℕ × Entry) → List (ℕ × Entry)) (operand : Option Reference) (entries : List (ℕ × Entry)) → operand ≡ None
-    → after [] entries ≡ after (map (λ cell. cell.name) (optional_cells operand)) entries
-no_operand_uses after operand entries none = grind arith
-
 -- more uses are no more than there are names
 pub uses_within : (limit : ℕ) (names : List ℕ) (entries : List (ℕ × Entry)) → All (λ e. e.1.uses ≤ limit) entries → All (λ e. e.1.uses ≤ limit + length names) (used_more names entries)
 uses_within limit names entries h =

@@ -22,10 +22,7 @@ pub loop-k-init : goal.loop-k-init
 loop-k-init c = ap (with_objects c.args.self.now) (sym (map-id c.args.self.now.objects))
 
 pub graph-requires-in-loop-k : goal.graph-requires-in-loop-k
-graph-requires-in-loop-k c =
-    let old = c.args.self.now in
-    let ages = take c.loop-k.k (graph_under old.objects c.args.graph).delays in
-    rw c.loop-k.invariant (kind_aged ages old.objects _ c.args.graph c.requires)
+graph-requires-in-loop-k c = rw c.loop-k.invariant (kind_aged _ c.args.self.now.objects _ c.args.graph c.requires)
 
 pub bounds-delays-k : goal.bounds-delays-k
 bounds-delays-k c =

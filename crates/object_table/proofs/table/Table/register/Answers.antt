@@ -1,6 +1,6 @@
-use Rattle.std.proofs.Common.{◌≡◌, ◌≢◌, ℕ, true, false, [], ◌∷◌, ◌++◌, sym, ap, subst, ◌∙◌, if◌then◌else◌, ◌==◌, filter}
+use Rattle.std.proofs.Common.{arith, ◌≡◌, ◌≢◌, ℕ, true, false, [], ◌∷◌, ◌++◌, sym, ap, subst, ◌∙◌, if◌then◌else◌, ◌==◌, filter}
 use Rattle.object_table.proofs.Common.{AllPairs, list_any, GraphValue, with_delays, GraphObject, is_there, with_objects, graph_value, graph_under, nodes_in, is_registered, one_more, with_graph}
-use Rattle.object_table.proofs.AgeLemmas.{apart_and, graph_nodes}
+use Rattle.object_table.proofs.AgeLemmas.{apart_and}
 use Rattle.object_table.proofs.EntryLemmas.{nothing_under, kind_under, under_is, shown_name, IsTable-written}
 use Rattle.object_table.proofs.table.Table.register.Goals as goal
 
@@ -27,7 +27,7 @@ pub invariant_of-self : goal.invariant_of-self
 invariant_of-self c =
     IsTable-written _ _ _ _ _ c.set_delays.new.self _ c.self.invariant (sym c.in-Some.ensures.value) (c.get_mut.follows.holds _).0
     (ap nodes_in c.set_delays.ensures.value
-    ∙ graph_nodes c.in-Some.entry.now.object c.in_ok-delays.delays.items (kind_under _ _ _ c.self.view_is _ c.args.graph _ (sym c.in-Some.ensures.value) c.requires))
+    ∙ grind (arith, kind_under _ _ _ c.self.view_is _ c.args.graph _ (sym c.in-Some.ensures.value) c.requires))
     c.set_delays.ensures.bytes
 
 pub returns-clause-ok : goal.returns-clause-ok

@@ -1,8 +1,8 @@
 use Rattle.std.proofs.Common.{◌≡◌, ℕ, List, [], map, Option, false, refl, sym, ap, ◌∙◌, unwrap_or}
 use Rattle.object_table.proofs.Common.{flat_map, set_value, is_at, option_map, nat_cmp, Node, Entry, Context, charge_of, with_objects, still_held, without_name, NamedObject, entry_object, used_less, entries_without_name, kept_entries, used_names, nodes_in}
 use Rattle.object_table.proofs.EntryLemmas.{in_order, plain}
-use Rattle.object_table.proofs.KeptLemmas.{left_of, left-nil, left-ended, held-left}
-use Rattle.object_table.proofs.GraphLemmas.{AreLeft, names_in, named-unlive, none_there, named_there, released-left, IsTable-same}
+use Rattle.object_table.proofs.KeptLemmas.{left_of, left-nil, left-ended, held-left, ended-one, shown-ended}
+use Rattle.object_table.proofs.GraphLemmas.{AreLeft, names_in, none_there, named_there, released-left, IsTable-same}
 use Rattle.object_table.proofs.table.Table.release.Goals as goal
 use Rattle.object_table.proofs.table.Table.release.Goals.{Joined-kind, in-Graph, in_default-kind}
 
@@ -73,5 +73,6 @@ returns-clause-ok c =
     ∙ ap (λ (l : List (ℕ × Entry)). let t : Context = record { next = s.next; objects = map entry_object l } in t) (left_is at c.end_name-self-inside.new.entries.entries c.end_name-self-inside.ensures.entries)
     ∙ ap (λ (l : List NamedObject). let t : Context = record { next = s.next; objects = l } in t) (are_left at).shown
     ∙ ap (λ (t : Context). with_objects t (still_held t.objects))
-    (ap (λ (l : List NamedObject). let t : Context = record { next = s.next; objects = l } in t) (named-unlive s.entries.entries c.args.name c.in-Some.entry.now (in_order s.entries.entries c.self.invariant.names) (sym c.in-Some.ensures.value))
+    (ap (λ (l : List NamedObject). let t : Context = record { next = s.next; objects = l } in t)
+    (ap (map entry_object) (ended-one s.entries.entries c.args.name c.in-Some.entry.now (in_order s.entries.entries c.self.invariant.names) (sym c.in-Some.ensures.value)) ∙ shown-ended c.args.name s.entries.entries)
     ∙ ap (λ (t : Context). with_objects t (without_name t.objects c.args.name)) c.self.view_is)

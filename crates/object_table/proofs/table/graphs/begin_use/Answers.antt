@@ -1,6 +1,6 @@
-use Rattle.std.proofs.Common.{◌+◌, ◌<◌, Option, IfSome, ap, sym, subst, ◌∙◌, arith}
+use Rattle.std.proofs.Common.{refl, ◌+◌, ◌<◌, Option, IfSome, ap, sym, subst, ◌∙◌, arith}
 use Rattle.object_table.proofs.Common.{nat_cmp, is_at, All-lookup, Entry}
-use Rattle.object_table.proofs.UseLemmas.{with_uses, more, more_is, used, used-nil, used-one, used-none, operand_uses, no_operand_uses}
+use Rattle.object_table.proofs.UseLemmas.{with_uses, more, more_is, used-nil, used-one, used-none}
 use Rattle.object_table.proofs.table.graphs.begin_use.Goals as goal
 
 pub overflow_add-entry : goal.overflow_add-entry
@@ -16,14 +16,13 @@ returns-in-Some-get_mut c =
     let old = c.in-Some-get_mut.entry.now in
     (c.get_mut.follows.holds (with_uses old (old.uses + 1))).0
     ∙ used-one more more_is entries c.name.result old c.get_mut.ensures.ordered (sym c.in-Some-get_mut.ensures.value)
-    ∙ operand_uses (used more) c.args.operand c.in-Some.cell c.name.result entries c.in-Some.is c.name.ensures.value
+    ∙ (rw (c.in-Some.is, c.name.ensures.value) refl)
 
 pub returns-in_default-get_mut : goal.returns-in_default-get_mut
 returns-in_default-get_mut c =
-    let entries = c.args.entries.now.entries in
     ap (λ m. m.entries) c.get_mut.follows.holds-at-none
-    ∙ used-none more more_is entries c.name.result (sym c.in_default-get_mut.ensures.value)
-    ∙ operand_uses (used more) c.args.operand c.in-Some.cell c.name.result entries c.in-Some.is c.name.ensures.value
+    ∙ used-none more more_is c.args.entries.now.entries c.name.result (sym c.in_default-get_mut.ensures.value)
+    ∙ (rw (c.in-Some.is, c.name.ensures.value) refl)
 
 pub returns-in_default : goal.returns-in_default
-returns-in_default c = sym (used-nil more more_is c.args.entries.now.entries) ∙ no_operand_uses (used more) c.args.operand c.args.entries.now.entries c.in_default.is
+returns-in_default c = sym (used-nil more more_is c.args.entries.now.entries) ∙ (rw c.in_default.is refl)

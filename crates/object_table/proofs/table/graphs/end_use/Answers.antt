@@ -1,22 +1,20 @@
 use Rattle.std.proofs.Common.{◌≡◌, arith, true, refl, sym, ap, ◌∙◌, nat_lt, ◌||◌, le-ltb}
 use Rattle.object_table.proofs.Common.{remove_entry, set_value, is_at, nat_cmp, kept_entries, nat_tests, or_from}
-use Rattle.object_table.proofs.UseLemmas.{with_uses, less, less_is, used-one, used-none, operand_uses, no_operand_uses}
-use Rattle.object_table.proofs.KeptLemmas.{all_kept, held-written, dropped, charge-written, left_of, left-nil}
+use Rattle.object_table.proofs.UseLemmas.{with_uses, less, less_is, used-one, used-none}
+use Rattle.object_table.proofs.KeptLemmas.{all_kept, held-written, dropped, charge-written, left-nil}
 use Rattle.object_table.proofs.EntryBlockLemmas.{owns-written, Balances-written, Balances-written_then}
 use Rattle.object_table.proofs.table.graphs.end_use.Goals as goal
 
 pub returns-in_default-clause-entries : goal.returns-in_default-clause-entries
 returns-in_default-clause-entries c =
-    let entries = c.args.entries.now.entries in
-    left-nil entries c.requires.held ∙ no_operand_uses left_of c.args.operand entries c.in_default.is
+    left-nil c.args.entries.now.entries c.requires.held ∙ (rw c.in_default.is refl)
 
 pub returns-in_default-get_mut-clause-entries : goal.returns-in_default-get_mut-clause-entries
 returns-in_default-get_mut-clause-entries c =
     let entries = c.args.entries.now.entries in
-    let name = c.name-name.result in
     ap (λ m. m.entries) c.get_mut.follows.holds-at-none ∙ sym (all_kept entries c.requires.held)
-    ∙ ap kept_entries (used-none less less_is entries name (sym c.in_default-get_mut.ensures.value))
-    ∙ operand_uses left_of c.args.operand c.in-Some.cell name entries c.in-Some.is c.name-name.ensures.value
+    ∙ ap kept_entries (used-none less less_is entries c.name-name.result (sym c.in_default-get_mut.ensures.value))
+    ∙ (rw (c.in-Some.is, c.name-name.ensures.value) refl)
 
 -- the entry that is left of it
 then_is : (c : goal.Joined-then-entry) → c.then-entry.entries.entries ≡ set_value (is_at (nat_cmp c.name-name.result)) c.args.entries.now.entries (with_uses c.in-Some-get_mut.entry.now c.saturating_sub-entry.result)
@@ -37,7 +35,7 @@ returns-then-entry-clause-entries c =
     then_is c ∙ held-written entries name old new found c.requires.held is
     ∙ ap (λ n. kept_entries (set_value (is_at (nat_cmp name)) entries (with_uses old n))) c.saturating_sub-entry.ensures
     ∙ ap kept_entries (used-one less less_is entries name old c.get_mut.ensures.ordered found)
-    ∙ operand_uses left_of c.args.operand c.in-Some.cell name entries c.in-Some.is c.name-name.ensures.value
+    ∙ (rw (c.in-Some.is, c.name-name.ensures.value) refl)
 
 pub returns-then-entry-clause-charge : goal.returns-then-entry-clause-charge
 returns-then-entry-clause-charge c =
@@ -60,7 +58,7 @@ returns-clause-entries c =
     ∙ dropped entries name old new found c.requires.held (or_from old.live (nat_lt 0 left) c.if-entry.false (le-ltb 0 left c.if-entry-gt0.false))
     ∙ ap (λ n. kept_entries (set_value (is_at (nat_cmp name)) entries (with_uses old n))) c.saturating_sub-entry.ensures
     ∙ ap kept_entries (used-one less less_is entries name old c.get_mut.ensures.ordered found)
-    ∙ operand_uses left_of c.args.operand c.in-Some.cell name entries c.in-Some.is c.name-name.ensures.value
+    ∙ (rw (c.in-Some.is, c.name-name.ensures.value) refl)
 
 pub returns-then-entry-clause-balances : goal.returns-then-entry-clause-balances
 returns-then-entry-clause-balances c =
