@@ -101,11 +101,20 @@ pub IsTable-written : (next charge : ℕ) (entries : List (ℕ × Entry)) (name 
     → nodes_in object ≡ nodes_in old.object → object_bytes object ≡ object_bytes old.object → IsTable next charge after
 IsTable-written next charge entries name old object after t found then nodes bytes =
     let new : Entry = record old { object = object } in
-    rw then (grind (arith, used-written entries name old new found refl nodes, sum-written (λ e. object_bytes e.1.object) entries name old new found, bytes, All-written (λ e. e.0 < next) entries name old new found (λ k h. h) t.below,
-    All-written (λ e. object_bytes e.1.object ≤ GREATEST_SLOTS * GREATEST_BYTES) entries name old new found (λ k h. omega (arith, h, bytes)) t.each,
-    All-written (λ e. length (nodes_in e.1.object) ≤ 256) entries name old new found (λ k h. subst (λ l. length l ≤ 256) (sym nodes) h) t.nodes,
-    All-written (λ e. e.1.uses ≡ name_count e.0 (names_used (map entry_object entries))) entries name old new found (λ k h. h) t.uses,
-    All-written (λ e. IsTrue (is_kept e)) entries name old new found (λ k h. h) t.held, keys-set_value, length-set_value, charge_is))
+    rw then (grind (
+      arith,
+      used-written entries name old new found refl nodes,
+      sum-written (λ e. object_bytes e.1.object) entries name old new found,
+      bytes,
+      All-written (λ e. e.0 < next) entries name old new found (λ k h. h) t.below,
+      All-written (λ e. object_bytes e.1.object ≤ GREATEST_SLOTS * GREATEST_BYTES) entries name old new found (λ k h. omega (arith, h, bytes)) t.each,
+      All-written (λ e. length (nodes_in e.1.object) ≤ 256) entries name old new found (λ k h. subst (λ l. length l ≤ 256) (sym nodes) h) t.nodes,
+      All-written (λ e. e.1.uses ≡ name_count e.0 (names_used (map entry_object entries))) entries name old new found (λ k h. h) t.uses,
+      All-written (λ e. IsTrue (is_kept e)) entries name old new found (λ k h. h) t.held,
+      keys-set_value,
+      length-set_value,
+      charge_is,
+    ))
 
 -- one object more, under the next name
 pub IsTable-inserted : (next charge : ℕ) (entries : List (ℕ × Entry)) (new : Entry) → IsTable next charge entries → next < 4294967296 → length entries < 1024

@@ -115,7 +115,7 @@ ended-less name names (e ∷ entries) = grind (arith, ended-less name names entr
 pub left-ended : (entries now next : List (ℕ × Entry)) (names : List ℕ) (name : ℕ) (old : Entry) → InOrder entries → lookup (is_at (nat_cmp name)) entries ≡ Some old
     → now ≡ left_of names entries → next ≡ kept_entries (entries_without_name name now) → next ≡ left_of names (set_value (is_at (nat_cmp name)) entries (record old { live = false }))
 left-ended entries now next names name old order found so_far then =
-    then ∙ ap (λ l. kept_entries (entries_without_name name l)) so_far 
+    then ∙ ap (λ l. kept_entries (entries_without_name name l)) so_far
     ∙ kept-map (λ e. let n : Entry = e.1 in cond (e.0 == name) (e.0, record n { live = false }) e) (λ e is. grind (arith, cases_Bool e.1.live)) (used_less names entries)
     ∙ ap kept_entries (ended-less name names entries)
     ∙ ap (left_of names) (sym (ended-one entries name old order found))

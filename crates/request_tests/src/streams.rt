@@ -193,7 +193,15 @@ fn fails_at_each_call(
 #[test]
 fn each_read_and_each_write_failing(rt: HostRuntime) {
     fails_at_each_call(&rt, rt.alloc(), TURNS, REPLIES, &REPLY_ENDS, 98, 91);
-    fails_at_each_call(&rt, rt.alloc(), STORED, STORED_REPLIES, &STORED_ENDS, 93, 67);
+    fails_at_each_call(
+        &rt,
+        rt.alloc(),
+        STORED,
+        STORED_REPLIES,
+        &STORED_ENDS,
+        93,
+        67,
+    );
 }
 
 #[test]

@@ -342,7 +342,12 @@ fn applies_functions(rt: HostRuntime) {
 /// Runs `apply`, which has to fail and write nothing.
 fn ends<R: Read + Drop>(rt: &impl Abort, alloc: Global, reader: R, status: u8, line: &str) {
     let mut written = Vec::new(alloc);
-    let ended = run(alloc, &["apply", "box", "--border", "replicate"], reader, &mut written);
+    let ended = run(
+        alloc,
+        &["apply", "box", "--border", "replicate"],
+        reader,
+        &mut written,
+    );
     match ended {
         Ok(()) => assert!(rt; false, "ended well, not {line}"),
         Err(ended) => {
