@@ -12,7 +12,8 @@ use window_kernels::{convolve, median3, sobel3};
 /// The samples of a 3 by 3 image.
 const SAMPLES: [u8; 9] = [1, 2, 9, 3, 4, 8, 5, 6, 7];
 
-/// Returns two rows of the median, of a convolution and of the integral image.
+/// Returns the rows `start` and `start + 1` of three results: the median, a convolution and the
+/// integral image.
 fn two_rows(start: u16) -> Option<([u8; 6], [i16; 6], [u32; 6])>
     requires { start + 2 ≤ 3 }
 {

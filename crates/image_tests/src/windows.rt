@@ -2,7 +2,7 @@
 //! whole images of sizes around it under each border.
 ghost use Rattle.std.specs.Prelude.{◌≡◌, ◌<◌, ◌≤◌, length};
 ghost use Rattle.vx_base.specs.declared.format.Format.TheVariants.{U8, S16};
-ghost use Rattle.lane_rows.specs.Windows.{place_count};
+ghost use Rattle.lane_rows.specs.Windows.{window_count};
 ghost use Rattle.window_kernels.specs.Fits.{WindowFits};
 
 use crate::images::lend;
@@ -120,7 +120,7 @@ fn three_of<'a>(
 /// Returns the first `count` windows of nine rows.
 fn windows(rows: &[[u8; LONGEST]; 9], count: usize) -> Nine<'_>
     requires { count ≤ 65 }
-    ensures { place_count result ≡ count }
+    ensures { window_count result ≡ count }
 {
     Nine {
         above: three_of(&rows[0], &rows[1], &rows[2], count),
