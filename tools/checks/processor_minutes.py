@@ -106,10 +106,13 @@ def run(command: List[str]) -> Tuple[int, Sums]:
 
 
 def main() -> int:
-    if len(sys.argv) < 2:
+    if len(sys.argv) < 2 or sys.argv[1].startswith("-"):
         sys.exit("usage: tools/processor_minutes COMMAND [WORD ..]")
     start = time.time()
-    status, sums = run(sys.argv[1:])
+    try:
+        status, sums = run(sys.argv[1:])
+    except OSError as error:
+        sys.exit(f"processor_minutes: {sys.argv[1]} can't be run: {error.strerror}")
     print(f"\nprocessor minutes      {'  '.join(f'{kind:>7}' for kind in KINDS)}      all")
     for crate, minutes in sums.items():
         print(line(crate, minutes))
