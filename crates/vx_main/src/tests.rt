@@ -208,11 +208,11 @@ fn refuses_other_numbers_of_bytes(rt: HostRuntime) {
     for (option, text) in [
         (
             "--quota",
-            "invalid value '0' for '--quota <BYTES>': it must be a decimal number",
+            "invalid value '0' for '--quota <BYTES>': it must be a number from 1",
         ),
         (
             "--work",
-            "invalid value '0' for '--work <BYTES>': it must be a decimal number",
+            "invalid value '0' for '--work <BYTES>': it must be a number from 1",
         ),
         ("--quota", "1099511627776\n\nUsage: vx_main serve"),
         ("--work", "1099511627776\n\nUsage: vx_main serve"),
