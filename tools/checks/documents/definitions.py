@@ -33,10 +33,10 @@ def uncommented(text: str) -> Iterator[Tuple[int, str]]:
     """Returns the line and the name of each public definition without a comment directly above
     it."""
     for found in HEAD.finditer(text):
-        above = text[:found.start()].rstrip("\n").rpartition("\n")[2]
-        gap = text[:found.start()].endswith("\n\n")
-        if found[1] != "mod" and (gap or not above.startswith("--") or above.startswith("-- --")):
-            yield text.count("\n", 0, found.start()) + 1, found[1]
+        before = text[:found.start()].split("\n")[:-1]
+        above = before[-1] if before else ""
+        if found[1] != "mod" and (not above.startswith("--") or above.startswith("-- --")):
+            yield len(before) + 1, found[1]
 
 
 def bare() -> Iterator[Tuple[str, int, str]]:
