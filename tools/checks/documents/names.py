@@ -9,10 +9,10 @@ DOCUMENTS = ["README.md", "CONTRIBUTING.md", "docs/DECISIONS.md", "docs/architec
              "docs/limits.md", "docs/model.md", "docs/proved.md", "docs/roadmap.md"]
 # Names that others define: the toolchain, the languages, system tools.
 FOREIGN = {
-    "rt", "rattle-kit-13f", "ensures", "requires", "unfolding", "search", "grind", "proves",
-    "file:", "old:", "new:", "no", "TheVariants", "clap", "thiserror", "itoa", "slab", "assert",
-    "assert_eq", "Option", "List", "Bool", "Type", "pos", "negsuc", "poll", "objdump", "cc",
-    "impl", "Clone", "AllocError", "BufWriter", "GLIBC_TUNABLES", "tolist",
+    "rt", "rattle-kit-13b", "rattle-kit-13f", "ensures", "requires", "unfolding", "search", "grind",
+    "proves", "file:", "old:", "new:", "no", "TheVariants", "clap", "thiserror", "itoa", "slab",
+    "assert", "assert_eq", "Option", "List", "Bool", "Type", "pos", "negsuc", "poll", "objdump",
+    "cc", "impl", "Clone", "AllocError", "BufWriter", "GLIBC_TUNABLES", "tolist",
 }
 # The names of OpenVX, and words that stand for any name or path.
 FREE = re.compile(r"vx[A-Z]|VX_|vx_\w+_[et]$|Rattle\.|(.*/)?(NAME|PATH|CRATE|WORD)(/|$)|.*\*")
