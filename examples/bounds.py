@@ -1,6 +1,7 @@
 """
-Finds the bounding rectangle of the marked pixels of a picture with MinMaxLoc, and Min with
-coordinate pictures.
+Finds the bounding rectangle of the marked pixels of a picture. In a coordinate picture the sample
+of a pixel is the pixel's coordinate. Min selects the coordinates of the marked pixels, and
+MinMaxLoc finds the greatest.
 """
 
 from array import array

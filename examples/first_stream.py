@@ -1,5 +1,5 @@
 #!/usr/bin/env python3
-"""A first stream: two clients, each with its own image, and Not of one of them.
+"""A first stream: client 7 computes Not of an image, and client 8 can't read the result.
 
     examples/first_stream.py [--bytes]
 

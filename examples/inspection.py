@@ -4,10 +4,10 @@
     examples/inspection.py FOLDER
 
 Inspects two flanges. For each picture a graph removes specks by a median, takes the absolute
-difference to the reference, keeps differences above 24, removes single pixels by a second median,
-and finds the bounding rectangle of the rest. Prints the result, and writes FOLDER/inspection.png:
-the reference, the scratched part with the rectangle, the difference four times as bright, and the
-marked pixels.
+difference to the reference, marks differences above 24, removes single marked pixels by a second
+median, and finds the bounding rectangle of the marks. Prints the result, and writes
+FOLDER/inspection.png: the reference, the scratched part with the rectangle, the difference four
+times as bright, and the marked pixels.
 """
 
 import math

@@ -3,12 +3,12 @@
 
     examples/live.py FOLDER [VIDEO | NUMBER]
 
-Reads frames of a video, or of the camera with that number, through OpenCV. Without either it makes
-test frames, 30 a second. A graph accumulates the frames, and marks differences from the background
-and from the previous frame. After 16 frames the mean of the sums becomes the new background. A
-stream yields each result as soon as it is ready, even while the camera has no new frame. Ctrl-C
-ends the program. It prints the number of frames and the latency of the results, and writes
-FOLDER/live.png: the last frame with motion, and its marks.
+Reads the frames of a video, or of the camera with that number, through OpenCV. Without VIDEO and
+NUMBER it makes test frames, 30 a second. A graph adds up the frames, and marks pixels that differ
+both from the background and from the previous frame. After every 16 frames their mean becomes the
+new background. A stream yields each result as soon as it is ready, even if the camera has no new
+frame yet. Ctrl-C ends the program. It prints the number of frames and the latency of the results,
+and writes FOLDER/live.png: the last frame with motion, and its marks.
 """
 
 from __future__ import annotations

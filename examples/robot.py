@@ -4,9 +4,9 @@
     examples/robot.py
 
 Starts a door, which starts a server for each connection, and two programs. Each program has a graph
-and processes 10 pictures a second. After a second it stops the door and its servers, and restarts
-them another second later. Each program reconnects, rebuilds its graph and repeats the interrupted
-picture, so none is lost. Prints a summary of each program.
+and processes 10 pictures a second. After a second the example stops the door and its servers, and
+starts a new door another second later. Each program reconnects, rebuilds its graph and repeats the
+interrupted picture, so no picture is lost. Prints a summary of each program.
 """
 
 from __future__ import annotations

@@ -4,10 +4,11 @@
     examples/station.py FOLDER
 
 Inspects 5-megapixel pictures of two types of parts. OpenCV aligns each part with its reference by
-phase correlation. A graph marks pixels that are brighter or darker than the reference within two
-pixels allows, so small remaining shifts don't count. If the graph finds any, OpenCV finds the
-connected regions. A picture of another size is rejected, and the station continues. Prints the
-result and the time of each picture, and writes FOLDER/station.png: a part with its regions framed.
+phase correlation. A graph marks pixels that are clearly brighter or darker than all pixels of the
+reference within two pixels, so small remaining shifts don't count. If pixels are marked, OpenCV
+finds their connected regions. A picture of another size is rejected, and the station continues.
+Prints the result and the time of each picture, and writes FOLDER/station.png: a part with its
+regions framed.
 """
 
 from __future__ import annotations

@@ -4,11 +4,11 @@
     examples/video.py FOLDER [VIDEO]
 
 Reads the frames of a video through OpenCV (Debian's python3-opencv) as NumPy arrays. Without VIDEO
-it makes one in FOLDER: parts on a belt, 1080p at 25 frames a second. The frames arrive at the
-video's pace. A frame that arrives while the previous one is still waiting replaces it, and the
-previous one is dropped. A graph finds the bounding rectangle of the motion since the last processed
-frame. Prints the number of processed and dropped frames and the time per frame, and writes
-FOLDER/video.png: frames with that rectangle.
+it makes a video in FOLDER: parts on a belt, 1080p at 25 frames a second. The frames arrive at the
+video's pace. If a frame arrives while an earlier frame still waits, the earlier frame is dropped. A
+graph finds the bounding rectangle of the motion since the last processed frame. Prints the number
+of processed and dropped frames and the time per frame, and writes FOLDER/video.png: frames with
+that rectangle.
 """
 
 import os
