@@ -26,13 +26,16 @@ const LEAST_SAMPLES_WITH_HALO: usize = 500_000;
 const BAND_SAMPLES: u32 = 65_536;
 
 /// The greatest number of samples of an image in a band, whatever the halo.
-const GREATEST_BAND_SAMPLES: u32 = 131_072;
+const GREATEST_BAND_SAMPLES: u32 = 2_097_152;
 
 /// The least number of rows of a band. With fewer rows, the calls of the steps cost too much time.
 const LEAST_ROWS: u32 = 16;
 
-/// The greatest number of rows of a band. More rows gain nothing.
+/// The greatest number of rows of a band that its halo doesn't ask for. More rows gain nothing.
 const GREATEST_ROWS: u32 = 64;
+
+/// The greatest number of rows of a band, whatever the halo.
+const GREATEST_ROWS_WITH_HALO: u32 = 1_024;
 
 /// The least number of bands. With fewer bands, a graph gains nothing.
 const LEAST_BANDS: u16 = 4;
@@ -160,9 +163,10 @@ fn wanted_rows(desc: Desc, halo: u16) -> u16
     ensures { 0 < result }
 {
     let width = u32::from(desc.width());
-    let wanted = (BAND_SAMPLES / width).max(u32::from(halo) * ROWS_FOR_HALO_ROW);
-    let greatest = (GREATEST_BAND_SAMPLES / width).min(GREATEST_ROWS);
-    wanted.min(greatest).max(LEAST_ROWS) as u16
+    let for_cache = (BAND_SAMPLES / width).min(GREATEST_ROWS);
+    let for_halo = u32::from(halo) * ROWS_FOR_HALO_ROW;
+    let greatest = (GREATEST_BAND_SAMPLES / width).min(GREATEST_ROWS_WITH_HALO);
+    for_cache.max(for_halo).min(greatest).max(LEAST_ROWS) as u16
 }
 
 /// Returns whether each step that reads its output writes each row once, to a block of all rows.
