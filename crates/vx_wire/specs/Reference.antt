@@ -1,4 +1,4 @@
--- References to objects: a name and a slot. Slot 255 is the object itself.
+-- References to objects: a name and a slot. Slot 255 means the object itself.
 use Rattle.std.specs.Prelude.{ℕ, ◌==◌, if◌then◌else◌, List, [], ◌∷◌, ◌++◌, Option, Some, None, unwrap_or, Ok}
 use Rattle.std.specs.Int.{w32, to_be_bytes}
 use Rattle.vx_base.specs.Reference.{Reference}

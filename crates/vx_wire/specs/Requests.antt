@@ -58,7 +58,7 @@ request_with ops.CreateDelay body = create_delay_in body
 request_with ops.AgeDelay body = age_delay_in body
 request_with ops.RegisterAutoAging body = register_auto_aging_in body
 
--- the request that a body of this op encodes, or a fault without an op
+-- the request that a body of this op encodes; InvalidParameters if there is no op
 abbrev pub request_with_known : Option Op → List ℕ → Result Request BodyFault
 request_with_known None body = Err InvalidParameters
 request_with_known (Some op) body = request_with op body

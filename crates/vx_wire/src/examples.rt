@@ -32,7 +32,8 @@ ghost use Rattle.vx_wire.specs.Described.{described_bytes};
 ghost use Rattle.vx_wire.specs.Counts.{counts_bytes};
 ghost use Rattle.vx_wire.specs.Extremes.{extremes_bytes};
 
-/// Opening and releasing a context has an empty body. No request has an op that isn't in the table.
+/// OpenContext and ReleaseContext have an empty body. An op that isn't in the table encodes no
+/// request.
 pub fn ops()
     ensures open { request_of 1 [] ≡ Ok OpenContext }
     ensures open_with_more { request_of 1 (0 ∷ []) ≡ Err InvalidParameters }
@@ -74,8 +75,8 @@ pub fn images_written_and_read()
         ≡ Ok (ReadImage (record { name = 258; slot = Some 3 })) }
 {}
 
-/// Writing texts to image 7, also an empty one: the text isn't parsed here. A reference that is cut
-/// short leaves no text.
+/// Writing texts to image 7, one of them empty: the text isn't parsed with the body. A reference
+/// that is cut short is a fault.
 pub fn texts_written()
     ensures written { request_of 6 (0 ∷ 0 ∷ 0 ∷ 7 ∷ 255 ∷ 80 ∷ 53 ∷ 10 ∷ [])
         ≡ Ok (WriteImagePgm (record { name = 7; slot = None }) (80 ∷ 53 ∷ 10 ∷ [])) }
@@ -161,7 +162,7 @@ pub fn objects_released()
     ensures with_a_slot { request_of 10 (0 ∷ 0 ∷ 1 ∷ 2 ∷ 255 ∷ []) ≡ Err InvalidParameters }
 {}
 
-/// Lookup tables of an invalid format, and ones that are cut short.
+/// Lookup tables of an invalid format, and lookup tables that are cut short.
 pub fn tables()
     ensures no_format { request_of 11 (3 ∷ []) ≡ Err InvalidFormat }
     ensures one_entry { request_of 11 (1 ∷ 5 ∷ []) ≡ Err InvalidParameters }
@@ -197,7 +198,7 @@ pub fn thresholds()
 {}
 
 /// A convolution of 3 columns and 5 rows whose sums are divided by 2^31; and invalid sizes and
-/// exponents. The first of these decides the fault, even if the coefficients are cut short.
+/// exponents. The first invalid field decides the fault, even if the coefficients are cut short.
 pub fn convolutions()
     ensures made { request_of 13 (3 ∷ 5 ∷ 31 ∷ 0 ∷ 1 ∷ 255 ∷ 254 ∷ 0 ∷ 3 ∷ 0 ∷ 4 ∷ 0 ∷ 5 ∷ 0 ∷ 6 ∷ 0
         ∷ 7 ∷ 0 ∷ 8 ∷ 0 ∷ 9 ∷ 0 ∷ 10 ∷ 0 ∷ 11 ∷ 0 ∷ 12 ∷ 0 ∷ 13 ∷ 127 ∷ 255 ∷ 128 ∷ 0 ∷ [])
@@ -258,8 +259,8 @@ pub fn extremes_made_and_read()
     ensures with_a_slot { request_of 17 (0 ∷ 0 ∷ 1 ∷ 2 ∷ 255 ∷ []) ≡ Err InvalidParameters }
 {}
 
-/// The replies for a distribution of 3 bins, and for extremes -2 and 258. The first occurs once, in
-/// column 3 and row 4; the second 65,536 times, first in column 5 and row 515.
+/// The replies for a distribution of 3 bins, and for extremes -2 and 258. Sample -2 occurs once, in
+/// column 3 and row 4. Sample 258 occurs 65,536 times, first in column 5 and row 515.
 pub fn statistics_told()
     ensures counts { counts_bytes (1 ∷ 0 ∷ 16777216 ∷ [])
         ≡ 0 ∷ 3 ∷ 0 ∷ 0 ∷ 0 ∷ 1 ∷ 0 ∷ 0 ∷ 0 ∷ 0 ∷ 1 ∷ 0 ∷ 0 ∷ 0 ∷ [] }
@@ -314,8 +315,8 @@ pub fn virtual_images_made()
     ensures no_name { request_of 19 (0 ∷ 0 ∷ 0 ∷ []) ≡ Err InvalidParameters }
 {}
 
-/// Adding Not of image 1 to image 2 to graph 258; and nodes that aren't valid. The name is read
-/// before the node.
+/// Adding a node to graph 258, Not from image 1 to image 2; and invalid nodes. The graph's name is
+/// read before the node.
 pub fn nodes_added()
     ensures added { request_of 20 (0 ∷ 0 ∷ 1 ∷ 2 ∷ 4 ∷ 0 ∷ 0 ∷ 0 ∷ 0 ∷ 0 ∷ 0 ∷ 0 ∷ 1 ∷ 255 ∷ 0 ∷ 0
         ∷ 0 ∷ 0 ∷ 255 ∷ 0 ∷ 0 ∷ 0 ∷ 2 ∷ 255 ∷ 0 ∷ 0 ∷ 0 ∷ 0 ∷ 255 ∷ [])
@@ -364,7 +365,7 @@ pub fn graphs_verified_and_run()
     ensures run_with_a_slot { request_of 23 (0 ∷ 0 ∷ 1 ∷ 2 ∷ 255 ∷ []) ≡ Err InvalidParameters }
 {}
 
-/// Not of image 1 to image 2; and nodes of Not with one operand too many or too few.
+/// A node Not from image 1 to image 2; and nodes Not with one operand too many or too few.
 pub fn nodes()
     ensures whole { request_of 24 (4 ∷ 0 ∷ 0 ∷ 0 ∷ 0 ∷ 0 ∷ 0 ∷ 0 ∷ 1 ∷ 255 ∷ 0 ∷ 0 ∷ 0 ∷ 0 ∷ 255 ∷ 0
         ∷ 0 ∷ 0 ∷ 2 ∷ 255 ∷ 0 ∷ 0 ∷ 0 ∷ 0 ∷ 255 ∷ [])
@@ -407,7 +408,8 @@ pub fn nodes()
         ∷ 0 ∷ 0 ∷ 255 ∷ []) ≡ Err InvalidParameters }
 {}
 
-/// Multiply of images 1 and 2 to image 3 by 1 / 2^15, saturating; and amounts above 15.
+/// A node Multiply of images 1 and 2 to image 3, saturating, with the scale 1 / 2^15; and amounts
+/// above 15.
 pub fn multiply_nodes()
     ensures whole { request_of 24 (7 ∷ 0 ∷ 0 ∷ 1 ∷ 15 ∷ 0 ∷ 0 ∷ 0 ∷ 1 ∷ 255 ∷ 0 ∷ 0 ∷ 0 ∷ 2 ∷ 255
         ∷ 0 ∷ 0 ∷ 0 ∷ 3 ∷ 255 ∷ 0 ∷ 0 ∷ 0 ∷ 0 ∷ 255 ∷ [])
