@@ -22,7 +22,9 @@ pub struct Reader<'a, S> {
 }
 
 impl<S: Source> Reader<'_, S> {
-    /// Reads the length of the next frame, and no byte after it. `None`: the stream has ended.
+    /// Reads the length of the next frame, and no byte after the length. `None`: the stream has
+    /// ended. `BadLength`: the length is out of range. `Truncated`: the stream ends within the
+    /// length.
     pub fn read_length(&mut self) -> Result<Option<u32>, StreamFault>
         requires { CanRead S.reads S.failures self.old }
         ensures read { ReadsLength
