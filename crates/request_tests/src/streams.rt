@@ -1,5 +1,5 @@
-//! One stream of two clients, over devices that move it in pieces or fail; and how far a stream
-//! with a fault is read.
+//! Streams over devices that move them in pieces or fail; and how far a stream with a fault is
+//! read.
 use crate::devices::{NEVER, PiecewiseSink, PiecewiseSource};
 use client_contexts::Runtime;
 use client_model::Limits;
@@ -46,10 +46,10 @@ const STORED_REPLIES: &[u8] = b"\x00\x00\x00\x04\x00\x07\x01\x00\
 \x00\x00\x00\x04\x00\x07\x18\x00\
 \x00\x00\x00\x0a\x00\x07\x07\x00\x01\x00\x01\x00\x01\xf5";
 
-/// The offsets at which the replies end.
+/// The offsets at which the replies in `REPLIES` end.
 const REPLY_ENDS: [usize; 9] = [0, 8, 16, 28, 40, 48, 56, 70, 84];
 
-/// The same for `STORED_REPLIES`.
+/// The offsets at which the replies in `STORED_REPLIES` end.
 const STORED_ENDS: [usize; 7] = [0, 8, 20, 32, 40, 48, 62];
 
 /// The devices of a stream: the sizes of their pieces, and the number of calls until one fails.
@@ -132,8 +132,9 @@ fn in_pieces(rt: HostRuntime) {
     }
 }
 
-/// Serves a stream over devices of which one may fail with this fault. Returns whether it
-/// succeeded, with all replies, which end at these offsets.
+/// Serves a stream over devices of which one may fail with this fault, and returns whether serving
+/// succeeded. Checks that the bytes written are whole replies, which end at these offsets; the last
+/// reply may be cut short only if a write failed.
 fn ends_well(
     rt: &impl Abort,
     alloc: Global,
@@ -153,8 +154,9 @@ fn ends_well(
     is_ok
 }
 
-/// Serves a stream, with a byte in each call, and each read and each write failing in turn. It
-/// succeeds with more than this number of good reads, or of good writes.
+/// Serves a stream, with one byte in each call, and each read and each write failing in turn.
+/// Checks that serving succeeds exactly with more than `most_reads` good reads, or more than
+/// `most_writes` good writes.
 fn fails_at_each_call(
     rt: &impl Abort,
     alloc: Global,
@@ -188,8 +190,8 @@ fn fails_at_each_call(
     }
 }
 
-/// `TURNS` has 98 bytes and its replies 84, `STORED` 93 and 62, and each byte takes a call here.
-/// Further calls are the flushes, and the read that finds the end.
+/// Each byte takes one call: `TURNS` has 98 bytes and its replies 84, `STORED` 93 and its replies
+/// 62. The other calls are a flush for each reply, and the read that finds the end.
 #[test]
 fn each_read_and_each_write_failing(rt: HostRuntime) {
     fails_at_each_call(&rt, rt.alloc(), TURNS, REPLIES, &REPLY_ENDS, 98, 91);

@@ -1,5 +1,5 @@
-//! A reply is written and flushed before a byte of the next frame is read, as a source finds that
-//! watches the sink.
+//! Checks that a reply is written and flushed before a byte of the next frame is read. To find out,
+//! the source watches the sink.
 ghost use Rattle.std.specs.Prelude.{None};
 
 use crate::devices::NEVER;
@@ -14,7 +14,7 @@ use vx_requests::{Failed, Sink, Source, Summary, serve};
 #[derive(Drop)]
 struct InTurns<'a> {
     stream: &'a [u8],
-    /// The number of bytes left of the frame.
+    /// The number of bytes of the current frame that are left.
     frame: usize,
     begun: u64,
     flushed: &'a Cell<u64>,
@@ -65,8 +65,8 @@ impl Source for InTurns<'_> {
     }
 }
 
-/// A sink that counts its flushes, and shows the source whether it holds bytes that were written
-/// since the last.
+/// A sink that counts its flushes, and shows the source whether any bytes were written after the
+/// last flush.
 #[derive(Drop)]
 struct Flushed<'a> {
     bytes: Vec<u8>,
