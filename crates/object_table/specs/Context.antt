@@ -7,7 +7,7 @@ use Rattle.vx_base.specs.Object.{ObjectValue, GraphObject, object_bytes}
 use Rattle.object_table.specs.NamedObject.{NamedObject, with_object}
 use Rattle.object_table.specs.declared.table.TheConstants.{END_OF_NAMES, GREATEST_OBJECTS}
 
--- the next name, and the objects in the order of their names
+-- a context: the next name, and the objects in the order of their names
 pub record Context : Type 0 where
   pub next : ℕ
   pub objects : List NamedObject
@@ -24,7 +24,7 @@ object_named objects name = option_map (λ o. o.object) (find (λ o. o.live && o
 abbrev pub charge_of : List NamedObject → ℕ
 charge_of objects = sum_by (λ o. object_bytes o.object) objects
 
--- whether one more object can be held: a name is left, and fewer than 1,024 are held
+-- whether one more object can be held: a name is left, and fewer than 1,024 objects are held
 abbrev pub can_insert : Context → Bool
 can_insert c = nat_lt c.next END_OF_NAMES && nat_lt (length c.objects) GREATEST_OBJECTS
 

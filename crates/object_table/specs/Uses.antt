@@ -16,7 +16,8 @@ abbrev pub nodes_in : ObjectValue → List Node
 nodes_in (GraphObject graph) = nodes_of graph
 nodes_in other = []
 
--- the names that the nodes of an unreleased graph use, each as often as it is used
+-- the names that an object's nodes use, each as often as it is used; none unless the object is an
+-- unreleased graph
 abbrev pub names_used_by : NamedObject → List ℕ
 names_used_by o = if o.live then flat_map used_names (nodes_in o.object) else []
 

@@ -80,7 +80,7 @@ impl Delay {
         }
     }
 
-    /// Returns the bytes of all images' samples.
+    /// Returns the number of bytes of all images' samples.
     pub fn bytes(&self) -> usize
         ensures value { result ≡ sum_by image_bytes self.now }
         ensures limit { result ≤ GREATEST_SLOTS * GREATEST_BYTES }
@@ -96,7 +96,8 @@ impl Delay {
         self.images.rotate_right(1);
     }
 
-    /// Writes a picture to the image in a slot; both are of one description.
+    /// Writes a picture to the image in a slot. The picture and the image have the same
+    /// description.
     pub fn write(&mut self, k: u8, picture: &Picture)
         requires within { k < length self.old }
         requires image { IsImage (image_in self.old k) }
@@ -121,8 +122,8 @@ impl Delay {
         image.set_valid(valid);
     }
 
-    /// Takes the samples out of the image in a slot, and returns them with its size and format;
-    /// `put` brings them back.
+    /// Takes the samples out of the image in a slot, and returns them with the image's size and
+    /// format. `put` brings the samples back.
     pub fn take(&mut self, k: u8) -> (Desc, Samples)
         requires within { k < length self.old }
         ensures desc { result.0 ≡ description_of (image_in self.old k) }

@@ -121,9 +121,9 @@ impl Table {
         self.next < END_OF_NAMES && self.entries.len() < GREATEST_OBJECTS
     }
 
-    /// Inserts an object under the next name, and returns the name, which is live. A graph has no
-    /// nodes yet. A fault hands the object back, and has changed nothing. `NoResources`: no name is
-    /// left, or 1,024 objects are held. `NoMemory`: the allocation failed.
+    /// Inserts an object under the next name, and returns the name, which is live. A graph must
+    /// have no nodes yet. A fault hands the object back, and the table is unchanged. `NoResources`:
+    /// no name is left, or 1,024 objects are held. `NoMemory`: the allocation failed.
     pub fn insert(&mut self, object: Object) -> Result<u32, InsertFault>
         requires { nodes_in object ≡ [] }
         ensures name { IfOk result (λ name. name ≡ self.old.next) }
@@ -194,7 +194,8 @@ impl Table {
         }
     }
 
-    /// Writes a picture to the image that a reference names; both are of one description.
+    /// Writes a picture to the image that a reference names. The picture and the image have the
+    /// same description.
     pub fn write(&mut self, cell: ObjRef, picture: &Picture)
         requires there { HoldsImage self.old.objects cell }
         requires object { IsObject (object_under self.old.objects cell.name) }
@@ -227,8 +228,8 @@ impl Table {
         entry.object.set_valid(cell.slot(), valid);
     }
 
-    /// Takes the samples out of the image that a reference names, and returns them with its size
-    /// and format; `put` brings them back.
+    /// Takes the samples out of the image that a reference names, and returns them with the image's
+    /// size and format. `put` brings the samples back.
     pub fn take(&mut self, cell: ObjRef) -> (Desc, Samples)
         requires { HoldsImage self.old.objects cell }
         ensures desc { result.0 ≡ description_of (image_held self.old.objects cell) }
