@@ -19,7 +19,8 @@ pub record PlanView : Type 0 where
   pub peak_step : Format → Option ℕ
 
 -- a valid plan with a slot for each image and for nothing else. Each format has as many slots as
--- its peak, and each slot has the greatest sample count of the images that share it.
+-- images that are live at its peak, and each slot has the greatest sample count of the images that
+-- share it.
 pub record IsPlan (steps : List Node) (images : List VirtualOutput) (p : PlanView) : Type 0 where
   pub once : has_twice (map (λ o. o.cell) images) ≡ false
   pub given : (cell : Reference) →

@@ -35,7 +35,7 @@ use Rattle.client_model.specs.Operands.{is_kind, is_of_other_graph}
 abbrev pub IsContext : Context → Type 0
 IsContext c = (limits : LimitsValue) × KeepsLimits limits c
 
--- a context still keeps all limits that it kept
+-- a context still keeps all limits that it kept before
 abbrev pub Keeps : Context → Context → Type 0
 Keeps old new = (limits : LimitsValue) → KeepsLimits limits old → KeepsLimits limits new
 
@@ -116,7 +116,7 @@ abbrev pub is_outside : Option ℕ → Option ObjectValue → Bool
 is_outside None object = false
 is_outside (Some graph) object = is_of_other_graph graph object
 
--- the reason why an object, or the image in a slot of it, can't be used, if there is one
+-- the reason why an object, or the image in one of its slots, can't be used, if there is one
 abbrev pub slot_refusal : Kind → Option ℕ → Option ℕ → ObjectValue → Option Refusal
 slot_refusal wanted scope slot object =
     if not (is_kind wanted (slot_kind slot object)) then Some InvalidType

@@ -1,5 +1,5 @@
-//! Requests on delays: creating and ageing them, and registering them with graphs. OpenVX 1.3,
-//! "Object: Delay".
+//! Requests that create and age delays, and register delays with graphs. OpenVX 1.3, "Object:
+//! Delay".
 ghost use Rattle.std.specs.Prelude.{◌≡◌, Err, IfErr, OnOk};
 ghost use Rattle.client_model.specs.Delays.{create_delay, age_delay, register_auto_aging};
 ghost use Rattle.client_model.specs.States.{KeepsLimits};
@@ -35,7 +35,7 @@ pub fn create_delay(
     hold_images(table, pool, limits, Object::new(Content::Delay(delay)))
 }
 
-/// Ages a delay: each image moves to the next slot, and the last one to slot 0.
+/// Ages a delay: each image moves to the next slot, and the last image to slot 0.
 pub fn age_delay(table: &mut Table, name: u32) -> Result<Reply, Refusal>
     requires { IsContext table.old }
     ensures comes { ComesTo (age_delay table.old name) table.old table.new result }

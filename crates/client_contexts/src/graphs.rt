@@ -1,5 +1,5 @@
-//! Requests on graphs: creating them and their virtual images, adding and removing nodes, verifying
-//! and running them. OpenVX 1.3, "Object: Graph".
+//! Requests that create graphs and virtual images, add and remove nodes, and verify and run graphs.
+//! OpenVX 1.3, "Object: Graph".
 ghost use Rattle.std.specs.Prelude.{◌≡◌, ◌≢◌, true, false, Some, OnOk, IfErr};
 ghost use Rattle.vx_base.specs.Graph.{new_graph};
 ghost use Rattle.vx_base.specs.Object.{GraphObject};

@@ -1,6 +1,5 @@
-//! Requests on images: creating and querying them, writing and reading their samples, also as PGM
-//! texts, and setting valid rectangles. OpenVX 1.3, "Object: Image". Writes from a source or a text
-//! are in `incoming`.
+//! Requests that create and query images, write and read their samples, also as PGM texts, and set
+//! valid rectangles. OpenVX 1.3, "Object: Image". Writes from a source or a text are in `incoming`.
 ghost use Rattle.std.specs.Prelude.{◌≡◌, Some, Ok, Err, IfOk, IfErr, OnOk};
 ghost use Rattle.vx_base.specs.declared.format.Format.TheVariants.{U8 as FormatU8};
 ghost use Rattle.vx_base.specs.Image.{IsImage};
@@ -173,7 +172,7 @@ fn valid_refusal(image: Desc, valid: Rect) -> Option<Refusal>
     }
 }
 
-/// Sets the valid rectangle of an image, and each sample outside it to 0.
+/// Sets the valid rectangle of an image, and each sample outside the rectangle to 0.
 pub fn set_valid(table: &mut Table, reference: ObjRef, valid: Rect) -> Result<Reply, Refusal>
     requires { IsContext table.old }
     ensures comes { ComesTo (set_valid table.old reference valid) table.old table.new result }

@@ -18,7 +18,7 @@
 //! its memory before it changes anything.
 //!
 //! - `memory`, `fault`: the faults of requests
-//! - `lookup`: finds the objects that references and the operands of nodes name
+//! - `lookup`: finds objects by reference, by name, and by the operands of a node
 //! - `room`: limits on new objects, and their insertion
 //! - `images`: creates, queries, writes and reads images, and sets valid rectangles
 //! - `objects`: releases objects of any kind

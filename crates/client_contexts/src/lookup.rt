@@ -1,4 +1,4 @@
-//! Finds the objects that references and the operands of nodes name.
+//! Finds objects by reference, by name, and by the operands of a node.
 ghost use Rattle.std.specs.Prelude.{◌≡◌, ◌∷◌, [], is_some, Some, Ok, Err, IsTrue, All, IfOk, IfErr};
 ghost use Rattle.std.specs.Prelude.{OnOk};
 ghost use Rattle.std.specs.List.{list_any};
@@ -54,7 +54,8 @@ fn is_outside(object: &Object, slot: Option<u8>, scope: Option<u32>) -> bool
     }
 }
 
-/// Returns the reason why an object, or the image in a slot of it, can't be used, if there is one.
+/// Returns the reason why an object, or the image in one of its slots, can't be used, if there is
+/// one.
 fn slot_refusal(
     object: &Object,
     slot: Option<u8>,

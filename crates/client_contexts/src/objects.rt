@@ -1,4 +1,4 @@
-//! Requests on objects of any kind: releasing them.
+//! Requests that release objects of any kind.
 ghost use Rattle.object_table.specs.Blocks.{blocks_in, LendsAtLeast, Balances};
 ghost use Rattle.client_model.specs.Objects.{release};
 ghost use Rattle.client_contexts.specs.Steps.{ComesTo, IsContext, Keeps};

@@ -1,4 +1,4 @@
-//! Requests on distributions and extremes: creating and reading them.
+//! Requests that create and read distributions and extremes.
 ghost use Rattle.vx_base.specs.Object.{DistributionObject, ExtremesObject, new_distribution};
 ghost use Rattle.vx_base.specs.Object.{no_extremes};
 ghost use Rattle.client_model.specs.Images.{create};

@@ -46,9 +46,9 @@ pub fn a_run_is_the_only_solution()
 ///   the node's inputs after the run. A function that adds to an output also takes that output as
 ///   it was before the run. The law covers nodes that name no virtual image and no delay that ages
 ///   with the graph.
-/// - `others`: an object that no node writes is unchanged. The law covers slots of delays, if the
-///   delay doesn't age with the graph. It doesn't cover whole delays, since a delay changes when
-///   one of its slots is written.
+/// - `others`: an object that no node writes is unchanged. The law covers a slot of a delay, if the
+///   delay doesn't age with the graph. The law doesn't cover whole delays, since a delay changes
+///   when one of its slots is written.
 /// - `virtual_images`: a virtual image is unchanged.
 pub fn what_a_run_leaves()
     ensures written { (limits : LimitsValue) (c later : Context) (name : ℕ) (graph : GraphValue)

@@ -28,7 +28,7 @@ ghost use Rattle.client_model.specs.States.{IsLater, Stays, changes_nodes};
 /// invariant:
 ///
 /// - Each object is valid: an image has samples of its format, and 0 outside its valid rectangle.
-/// - Names are distinct and below the next one, which is at most 2^32.
+/// - Names are distinct and below the next name, which is at most 2^32.
 /// - Each object has a live name or is used by a node, and nodes still find their operands.
 /// - At most 1,024 objects are held, and their charge is at most the quota.
 pub fn limits_are_kept()

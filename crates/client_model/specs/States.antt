@@ -20,7 +20,7 @@ use Rattle.client_model.specs.Request.{IsRequest}
 use Rattle.client_model.specs.Answer.{answer_to}
 use Rattle.object_table.specs.declared.table.TheConstants.{GREATEST_OBJECTS}
 
--- the kind of a reference in a node, whether its name is still live or not
+-- the kind of a reference in a node, whether the reference's name is still live or not
 abbrev pub kind_held : List NamedObject → Reference → Option Kind
 kind_held objects cell = option_and_then (slot_kind cell.slot) (object_held objects cell.name)
 

@@ -1,4 +1,4 @@
-//! Requests and replies, and what they mean.
+//! Requests, replies and their meaning.
 //!
 //! A client's objects are named 1, 2, .. in the order in which it creates them. `specs/Answer.antt`
 //! defines the reply to a request in any state of the client, and the client's new state. The

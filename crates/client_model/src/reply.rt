@@ -33,6 +33,6 @@ pub enum Reply {
     Text(Text),
     /// How many samples fell into each bin of a distribution.
     Counts(Counts),
-    /// The least and the greatest sample of an image.
+    /// The least and the greatest sample of an image, with the count and the first pixel of each.
     Extremes(Extremes),
 }

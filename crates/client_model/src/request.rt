@@ -27,9 +27,9 @@ pub enum Request {
     ReadImage(ObjRef),
     /// Asks for all samples of a U8 image, as a PGM text.
     ReadImagePgm(ObjRef),
-    /// Sets the valid rectangle of an image, and the samples outside it to 0.
+    /// Sets the valid rectangle of an image, and the samples outside the rectangle to 0.
     SetValid(ObjRef, Rect),
-    /// Releases a name. Its object is dropped once no node uses it.
+    /// Releases the name of an object. The object is dropped once no node uses it.
     Release(u32),
     /// Creates a lookup table.
     CreateLut(Lut),
@@ -56,8 +56,8 @@ pub enum Request {
     RemoveNode(u32, u32),
     /// Asks for the verdict on the graph with this name.
     VerifyGraph(u32),
-    /// Runs the graph with this name, if the graph is valid. Delays that are registered with it
-    /// then age.
+    /// Runs the graph with this name, if the graph is valid. Delays that are registered with the
+    /// graph then age.
     ProcessGraph(u32),
     /// Runs one node by itself (immediate mode).
     Immediate(NodeSpec),

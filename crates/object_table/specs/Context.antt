@@ -32,10 +32,10 @@ can_insert c = nat_lt c.next END_OF_NAMES && nat_lt (length c.objects) GREATEST_
 abbrev pub with_new : Context → ObjectValue → Context
 with_new c object = record { next = c.next + 1; objects = c.objects ++ record { name = c.next; live = true; object = object } ∷ [] }
 
--- the context with other objects
+-- the context with these objects
 abbrev pub with_objects : Context → List NamedObject → Context
 with_objects c objects = record { next = c.next; objects = objects }
 
--- the objects with another graph under this name
+-- the objects, with the graph under this name replaced
 abbrev pub with_graph : List NamedObject → ℕ → GraphValue → List NamedObject
 with_graph objects name graph = with_object objects (reference_to name) (GraphObject graph)

@@ -59,7 +59,7 @@ impl Delay {
         Ok(Delay { desc, images })
     }
 
-    /// Gives the blocks of all images back to the pool. It allocates nothing.
+    /// Gives the blocks of all images back to the pool. Allocates nothing.
     pub fn end(self, pool: &mut Pool)
         requires { LendsAtLeast pool.old (delay_blocks self) }
         ensures { LendsLess pool.old pool.new (delay_blocks self) }
@@ -88,7 +88,7 @@ impl Delay {
         self.images.len() * self.desc.byte_count()
     }
 
-    /// Moves each image to the next slot, and the last one to slot 0. It allocates nothing.
+    /// Moves each image to the next slot, and the last image to slot 0. Allocates nothing.
     pub fn age(&mut self)
         ensures value { self.new ≡ aged_images self.old }
         ensures bytes { sum_by image_bytes self.new ≡ sum_by image_bytes self.old }
@@ -110,7 +110,7 @@ impl Delay {
         image.write(picture);
     }
 
-    /// Sets the valid rectangle of the image in a slot, and each sample outside it to 0.
+    /// Sets the valid rectangle of the image in a slot, and each sample outside the rectangle to 0.
     pub fn set_valid(&mut self, k: u8, valid: Rect)
         requires within { k < length self.old }
         requires image { IsImage (image_in self.old k) }

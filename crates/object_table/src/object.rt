@@ -69,7 +69,7 @@ impl Object {
         Object { content }
     }
 
-    /// Gives the blocks of the object's images back to the pool, and drops the object. It allocates
+    /// Gives the blocks of the object's images back to the pool, and drops the object. Allocates
     /// nothing.
     pub fn end(self, pool: &mut Pool)
         requires { LendsAtLeast pool.old (object_blocks self) }
@@ -172,8 +172,8 @@ impl Object {
         }
     }
 
-    /// Sets the valid rectangle of the image that `image(slot)` returns, and each sample outside it
-    /// to 0.
+    /// Sets the valid rectangle of the image that `image(slot)` returns, and each sample outside
+    /// the rectangle to 0.
     pub fn set_valid(&mut self, slot: Option<u8>, valid: Rect)
         requires there { HasImage slot self.old }
         requires object { IsObject self.old }
@@ -225,7 +225,7 @@ impl Object {
         }
     }
 
-    /// Ages the object if it is a delay. It allocates nothing.
+    /// Ages the object if it is a delay. Allocates nothing.
     pub fn age(&mut self)
         ensures value { self.new ≡ aged_object self.old }
         ensures bytes { object_bytes self.new ≡ object_bytes self.old }
@@ -236,7 +236,7 @@ impl Object {
         }
     }
 
-    /// Replaces the counts of a distribution, one for each bin. It allocates nothing.
+    /// Replaces the counts of a distribution, one for each bin. Allocates nothing.
     pub fn set_counts(&mut self, counts: &[u32])
         requires kind { object_kind self.old ≡ kind.Distribution }
         requires size { length counts.now ≡ (distribution_value self.old).bins.bins }

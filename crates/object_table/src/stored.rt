@@ -52,7 +52,7 @@ impl Stored {
         })
     }
 
-    /// Gives the image's block back to the pool. It allocates nothing.
+    /// Gives the image's block back to the pool. Allocates nothing.
     pub fn end(self, pool: &mut Pool)
         requires { LendsAtLeast pool.old (image_blocks self) }
         ensures { LendsLess pool.old pool.new (image_blocks self) }
@@ -116,7 +116,7 @@ impl Stored {
         self.block.put(samples);
     }
 
-    /// Sets the valid rectangle, and each sample outside it to 0.
+    /// Sets the valid rectangle, and each sample outside the rectangle to 0.
     pub fn set_valid(&mut self, valid: Rect)
         requires image { IsImage self.old }
         requires room { IsWithin valid self.old.width self.old.height }

@@ -82,8 +82,7 @@ impl Table {
         }
     }
 
-    /// Gives the blocks of all images back to the pool, and drops the objects. It allocates
-    /// nothing.
+    /// Gives the blocks of all images back to the pool, and drops the objects. Allocates nothing.
     pub fn end(self, pool: &mut Pool)
         requires { LendsAtLeast pool.old (blocks_in self.objects) }
         ensures { LendsLess pool.old pool.new (blocks_in self.objects) }
@@ -211,8 +210,8 @@ impl Table {
         entry.object.write(cell.slot(), picture);
     }
 
-    /// Sets the valid rectangle of the image that a reference names, and each sample outside it to
-    /// 0.
+    /// Sets the valid rectangle of the image that a reference names, and each sample outside the
+    /// rectangle to 0.
     pub fn set_valid(&mut self, cell: ObjRef, valid: Rect)
         requires there { HoldsImage self.old.objects cell }
         requires object { IsObject (object_under self.old.objects cell.name) }
@@ -260,7 +259,7 @@ impl Table {
         entry.object.put(cell.slot(), samples, valid);
     }
 
-    /// Ages the delay under a name. It allocates nothing.
+    /// Ages the delay under a name. Allocates nothing.
     pub fn age(&mut self, name: u32)
         requires { IsUnder self.old.objects kind.Delay name }
         ensures { self.new ≡ with_objects self.old

@@ -37,8 +37,8 @@ const MOST_READS: u64 = 1_099_511_627_776;
 /// Ok: the stream ended between two frames. Faults:
 ///
 /// - `Truncated`: the stream ended within a frame
-/// - `BadLength`: a frame's length is below 3 or above 2^29; it is reported as soon as its four
-///   bytes are read
+/// - `BadLength`: a frame's length is below 3 or above 2^29; this fault is reported as soon as the
+///   four bytes of the length are read
 /// - `ReadFailed`: a read failed
 /// - `WriteFailed`: a write or a flush failed
 /// - `ReaderWouldNotEnd`: 2^40 reads were made

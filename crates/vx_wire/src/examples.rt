@@ -155,7 +155,7 @@ pub fn valid_rectangles_set()
         ≡ Err InvalidParameters }
 {}
 
-/// Releasing object 258; a name that is cut short or has a slot.
+/// Releasing object 258; a name that is cut short or is followed by a slot.
 pub fn objects_released()
     ensures released { request_of 10 (0 ∷ 0 ∷ 1 ∷ 2 ∷ []) ≡ Ok (Release 258) }
     ensures cut { request_of 10 (0 ∷ 0 ∷ 1 ∷ []) ≡ Err InvalidParameters }
@@ -243,7 +243,7 @@ pub fn distributions_made()
     ensures more { request_of 14 (0 ∷ 3 ∷ 0 ∷ 0 ∷ 1 ∷ 0 ∷ 0 ∷ []) ≡ Err InvalidParameters }
 {}
 
-/// Reading distribution 258; a name that is cut short or has a slot.
+/// Reading distribution 258; a name that is cut short or is followed by a slot.
 pub fn distributions_read()
     ensures read { request_of 15 (0 ∷ 0 ∷ 1 ∷ 2 ∷ []) ≡ Ok (ReadDistribution 258) }
     ensures cut { request_of 15 (0 ∷ 0 ∷ 1 ∷ []) ≡ Err InvalidParameters }
@@ -354,7 +354,7 @@ pub fn nodes_removed()
         ≡ Err InvalidParameters }
 {}
 
-/// Verifying and running graph 258; a name that is cut short or has a slot.
+/// Verifying and running graph 258; a name that is cut short or is followed by a slot.
 pub fn graphs_verified_and_run()
     ensures verified { request_of 22 (0 ∷ 0 ∷ 1 ∷ 2 ∷ []) ≡ Ok (VerifyGraph 258) }
     ensures verified_cut { request_of 22 (0 ∷ 0 ∷ 1 ∷ []) ≡ Err InvalidParameters }
@@ -449,7 +449,7 @@ pub fn delays_made()
     ensures more { request_of 25 (0 ∷ 0 ∷ 0 ∷ 1 ∷ 255 ∷ 3 ∷ 0 ∷ []) ≡ Err InvalidParameters }
 {}
 
-/// Aging delay 2; a name that is cut short or has a slot.
+/// Aging delay 2; a name that is cut short or is followed by a slot.
 pub fn delays_aged()
     ensures aged { request_of 26 (0 ∷ 0 ∷ 0 ∷ 2 ∷ []) ≡ Ok (AgeDelay 2) }
     ensures cut { request_of 26 (0 ∷ 0 ∷ 0 ∷ []) ≡ Err InvalidParameters }

@@ -58,8 +58,8 @@ impl Table {
         }
     }
 
-    /// Ages each delay that is registered with the graph of this name and is still held. It
-    /// allocates nothing.
+    /// Ages each delay that is registered with the graph of this name and is still held. Allocates
+    /// nothing.
     pub fn age_registered(&mut self, graph: u32)
         requires { IsUnder self.old.objects kind.Graph graph }
         ensures { self.new ≡ with_objects self.old

@@ -71,9 +71,9 @@ impl Table {
         Ok(number)
     }
 
-    /// Removes the node of this number from the unreleased graph of this name. Objects that are
-    /// then neither named nor used are dropped, and their blocks go back to the pool.
-    /// `InvalidReference`: the graph has no such node. It allocates nothing.
+    /// Removes the node of this number from the unreleased graph of this name. Objects that then
+    /// have neither a live name nor a use are dropped, and their blocks go back to the pool.
+    /// Allocates nothing. `InvalidReference`: the graph has no such node.
     pub fn remove_node(
         &mut self,
         graph: u32,
@@ -102,8 +102,8 @@ impl Table {
     }
 
     /// Releases a name. If the name is a graph's, the graph's nodes no longer use their operands.
-    /// Objects that are then neither named nor used are dropped, and their blocks go back to the
-    /// pool. `InvalidReference`: the name isn't live. It allocates nothing.
+    /// Objects that then have neither a live name nor a use are dropped, and their blocks go back
+    /// to the pool. Allocates nothing. `InvalidReference`: the name isn't live.
     pub fn release(&mut self, name: u32, pool: &mut Pool) -> Result<(), TableFault>
         requires { LendsAtLeast pool.old (blocks_in self.old.objects) }
         ensures result { result ≡ (if is_none (object_named self.old.objects name)
@@ -151,8 +151,8 @@ fn begin_use(entries: &mut BTreeMap<u32, Entry>, operand: Option<ObjRef>)
     }
 }
 
-/// Removes one use for each operand of a node. Objects that are then neither named nor used are
-/// dropped. Returns the charge of the remaining objects.
+/// Removes one use for each operand of a node. Objects that then have neither a live name nor a use
+/// are dropped. Returns the charge of the remaining objects.
 fn end_uses(entries: &mut BTreeMap<u32, Entry>, charge: u64, node: &Node, pool: &mut Pool) -> u64
     requires held { All (λ e. IsTrue (is_kept e)) entries.old.entries }
     requires charge { charge ≡ charge_of (map entry_object entries.old.entries) }

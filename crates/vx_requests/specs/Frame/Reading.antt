@@ -62,7 +62,7 @@ pub record KeepsCount {S T : Type 0} (reads failures : S → ℕ) (old new : Rea
   pub failed : failures new.source.now ≡ failures old.source.now + read_failures result
 
 -- samples were replaced with samples of the format that were read; or reading failed before all
--- their bytes were read
+-- bytes were read
 pub record ReadsOver {S : Type 0} (left : S → Option (List ℕ)) (reads failures : S → ℕ) (old new : Reader S) (format : Format) (samples : List ℤ) (result : Result ⊤ StreamFault) : Type 0 where
   pub ok : OnOk result (ReadsSamples (left old.source.now) (left new.source.now) format samples)
   pub err : IfErr result (ReadsPart (left old.source.now) (left new.source.now) (length samples * sample_bytes format))

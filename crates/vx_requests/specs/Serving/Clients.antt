@@ -83,6 +83,7 @@ module _ {S : Type 0} (answer : S → ℕ → List ℕ → Said × S) where
   served_after start before [] = []
   served_after start before (m ∷ marked) = reply_in (states_after start before) m ∷ served_after start (before ++ m ∷ []) marked
 
-  -- the replies to frames that start in these states: one for each frame, in order
+  -- the replies to frames, one for each frame, in order; `start` has the state in which each client
+  -- starts
   abbrev pub served : (ℕ → S) → List ReceivedFrame → List ReplyFrame
   served start marked = served_after start [] marked

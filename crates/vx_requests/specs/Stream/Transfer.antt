@@ -37,18 +37,18 @@ Fills old new buf count = (count ≤ length buf) × Consumes old new (take count
 abbrev pub FillsPart : Option (List ℕ) → Option (List ℕ) → List ℕ → Type 0
 FillsPart old new buf = (count : ℕ) × (count < length buf) × Consumes old new (take count buf)
 
--- the sink took a front of the bytes, possibly empty, but not all of them
+-- the sink took a proper prefix of the bytes
 abbrev pub AppendsPart : Option (List ℕ) → Option (List ℕ) → List ℕ → Type 0
 AppendsPart old new bytes = (front : List ℕ) × (rest : List ℕ) × (bytes ≡ front ++ rest) × (0 < length rest) × Appends old new front
 
--- the sink took a front of the bytes, possibly empty and possibly all of them
+-- the sink took a prefix of the bytes
 abbrev pub AppendsFront : Option (List ℕ) → Option (List ℕ) → List ℕ → Type 0
 AppendsFront old new bytes = (front : List ℕ) × (rest : List ℕ) × (bytes ≡ front ++ rest) × Appends old new front
 
 -- ---- the bytes that a sink was given; `taken` and `failures` are the sink's bytes and its count
 -- of failed calls
 
--- all of the bytes were written; or a write failed, and the sink did not take all of them
+-- all of the bytes were written; or a write failed, and the sink took a proper prefix of the bytes
 pub record WritesAll {K T : Type 0} (taken : K → Option (List ℕ)) (failures : K → ℕ) (old new : K) (bytes : List ℕ) (result : Result T StreamFault) : Type 0 where
   pub ok : OnOk result (Appends (taken old) (taken new) bytes)
   pub err : OnErr result (AppendsPart (taken old) (taken new) bytes)
@@ -56,7 +56,7 @@ pub record WritesAll {K T : Type 0} (taken : K → Option (List ℕ)) (failures 
   pub failed : failures new ≡ failures old + failed_calls result
 
 -- all of the bytes were written and flushed; or a write or the flush failed, and the sink took a
--- front of the bytes, possibly all
+-- prefix of the bytes
 pub record Sends {K T : Type 0} (taken : K → Option (List ℕ)) (failures : K → ℕ) (old new : K) (bytes : List ℕ) (result : Result T StreamFault) : Type 0 where
   pub ok : OnOk result (Appends (taken old) (taken new) bytes)
   pub err : OnErr result (AppendsFront (taken old) (taken new) bytes)

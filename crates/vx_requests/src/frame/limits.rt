@@ -4,7 +4,7 @@ ghost use Rattle.vx_requests.specs.Frame.Frames.{fits_a_frame};
 
 use client_model::Request;
 
-/// The greatest length of a frame, which counts the bytes after the length field: 2^29.
+/// The greatest length of a frame: 2^29. The length counts the bytes after the length field.
 pub const GREATEST_LENGTH: u32 = 536_870_912;
 
 /// The most bytes of a text in a frame. The frame's length also counts the 8 bytes of the client,

@@ -90,7 +90,8 @@ pub fn session_splits()
 {}
 
 /// A client's frames preserve the invariant of its context, `KeepsLimits`. Each reference to an
-/// image then names a valid one: its samples are of its format, and 0 outside its valid rectangle.
+/// image then names a valid image: its samples are of its format, and 0 outside its valid
+/// rectangle.
 pub fn states_keep()
     ensures limits { (limits : LimitsValue) (state : State) (frames : List Frame) →
         All IsFrame frames → IfSome state (KeepsLimits limits) →

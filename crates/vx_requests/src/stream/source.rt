@@ -14,7 +14,7 @@ pub trait Source {
     /// The number of reads.
     ghost reads: { Self → ℕ };
 
-    /// The number of these reads that failed.
+    /// The number of reads that failed.
     ghost failures: { Self → ℕ };
 
     /// Reads bytes into the front of the buffer, and returns their number. The number is 0 only if
