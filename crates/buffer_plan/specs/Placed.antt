@@ -11,7 +11,7 @@ use Rattle.buffer_plan.specs.declared.slots.Places.{Places}
 use Rattle.buffer_plan.specs.Lives.{is_in}
 use Rattle.buffer_plan.specs.Slots.{maximum_of}
 
--- lives in the order of their first steps, each of which ends no earlier than it begins
+-- lives in the order of their first steps; each life ends no earlier than it begins
 abbrev pub AreRising : List Life → Type 0
 AreRising [] = Unit {0}
 AreRising (l ∷ ls) = (l.first ≤ l.last) × ((m : Life) → In m ls → l.first ≤ m.first) × AreRising ls

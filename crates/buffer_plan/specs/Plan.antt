@@ -11,7 +11,7 @@ use Rattle.graph_verify.specs.Members.{In}
 use Rattle.buffer_plan.specs.Slots.{of_format, is_slot, maximum_of, IsValid, IsPeak}
 
 -- a plan's view: the slot of each image; for each format the number of slots, the sample count of
--- each slot, and the first step that needs all of them
+-- each slot, and the first step that needs all slots
 pub record PlanView : Type 0 where
   pub slot_of : Reference → Option ℕ
   pub slot_count : Format → ℕ

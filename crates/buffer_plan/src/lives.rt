@@ -1,4 +1,4 @@
-//! The lives of virtual images: the steps at which each is live. Steps are counted from 1.
+//! The lives of virtual images: the steps at which each image is live. Steps are counted from 1.
 ghost use Rattle.std.specs.Prelude.{◌≡◌, ℕ, ◌+◌, ◌||◌, drop, nat_lt, position, IfOk};
 ghost use Rattle.std.specs.List.{position_or_len};
 ghost use Rattle.vx_base.specs.Sample.{same_format};

@@ -63,7 +63,8 @@ impl Plan {
         u8s.or(s16s).or(self.u32s.slot_of(cell))
     }
 
-    /// Returns the number of slots of a format: no plan for this order of the nodes has fewer.
+    /// Returns the number of slots of a format. No plan for this order of the nodes has fewer slots
+    /// of the format.
     pub fn slot_count(&self, format: Format) -> usize
         ensures value { result ≡ (plan_view self.now).slot_count format }
         ensures least { (steps : List NodeFields) (images : List Image) →

@@ -84,8 +84,8 @@ fn greatest_samples(
     Ok(samples)
 }
 
-/// Returns the peak step after one more image: the image's first step if its slot is new, else the
-/// old peak step.
+/// Returns the peak step after one more image: the image's first step if the image's slot is new,
+/// else the old peak step.
 fn peak_after(before: Option<usize>, life: &Life, is_new: bool) -> Option<usize>
     ensures { result ≡ (if is_new then Some life.now.first else before) }
 {

@@ -55,7 +55,7 @@ known_operands known l =
       out2 = known_given known l.node.out2 l.operands.out2;
     }
 
--- a virtual image with its full description, if no part of it is open
+-- a virtual image with its full description, if no part of the description is open
 abbrev pub described_output : ResolvedOutput → Option VirtualOutput
 described_output k = option_map (λ d. record { cell = k.cell; desc = d }) (full_description k.partial_desc)
 

@@ -25,7 +25,8 @@ use crate::operand::{Operand, Operands};
 use std::alloc::{AllocError, Global};
 use vx_base::{Desc, Function, ObjRef, PartialDesc};
 
-/// A virtual image that a node writes, with its description as far as it is resolved.
+/// A virtual image that a node writes, with its resolved description. Parts of the description may
+/// still be open.
 #[derive(Clone, Copy)]
 pub struct ResolvedOutput {
     pub cell: ObjRef,
@@ -40,7 +41,8 @@ pub struct VirtualOutput {
 }
 
 impl ResolvedOutput {
-    /// Returns the virtual image with its full description, or `None` if a part of it is open.
+    /// Returns the virtual image with its full description, or `None` if a part of the description
+    /// is open.
     pub fn described(self) -> Option<VirtualOutput>
         ensures { result ≡ described_output self }
     {

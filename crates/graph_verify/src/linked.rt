@@ -13,7 +13,7 @@ ghost use Rattle.graph_verify.specs.Verdict.{two_writers, writes_twice, has_unwr
 use crate::operand::{Operand, Operands};
 use vx_base::{Node, ObjRef};
 
-/// A node with its number in its graph and its operands.
+/// A node, its number in the graph, and its operands.
 #[derive(Clone, Copy, PartialEq, Eq, Debug)]
 pub struct Linked {
     pub number: u32,

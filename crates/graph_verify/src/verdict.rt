@@ -17,7 +17,7 @@ use vx_base::{Code, Desc, Format, Function, Node};
 /// Why a graph can't run (OpenVX 1.3, `vxVerifyGraph`).
 #[derive(Clone, Copy, PartialEq, Eq, Debug)]
 pub enum Verdict {
-    /// Two outputs, of two nodes or of one, are the same object.
+    /// Two outputs, of two nodes or of one node, are the same object.
     MultipleWriters,
     /// There is a cycle: each of its nodes writes an object that the next one reads, and the last
     /// one writes an object that the first one reads.
@@ -50,7 +50,7 @@ impl Verdict {
     }
 }
 
-/// Returns the verdict on a node alone, with these operands, or `None` if it can run.
+/// Returns the verdict on a node alone, with these operands, or `None` if the node can run.
 pub fn verdict_on(node: &Node, operands: &Operands) -> Option<Verdict>
     ensures { result ≡ verdict_on node.now operands.now }
 {

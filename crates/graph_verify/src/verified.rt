@@ -117,8 +117,8 @@ impl Verified {
     }
 }
 
-/// Returns the fault of the first node that has one, given the resolved virtual images. The nodes
-/// are in the order in which they were added.
+/// Returns the fault of the first node that has a fault, given the resolved virtual images. The
+/// nodes are in the order in which they were added.
 fn first_fault(nodes: &[Linked], known: &[ResolvedOutput]) -> Option<Verdict>
     ensures { (is : Reference → Operand) →
         All (λ l. known_operands known.now l ≡ operands_of is l.node)

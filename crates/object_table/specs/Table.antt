@@ -37,7 +37,7 @@ IsUnder objects wanted name = option_map object_kind (object_held objects name) 
 abbrev pub graph_under : List NamedObject → ℕ → GraphValue
 graph_under objects name = graph_value (object_under objects name)
 
--- the object that a reference names; an image without pixels if it names none
+-- the object that a reference names; an image without pixels if there is none
 abbrev pub cell_object : List NamedObject → Reference → ObjectValue
 cell_object objects cell = unwrap_or (object_at objects cell) (ImageObject (new_image 0 0 U8))
 

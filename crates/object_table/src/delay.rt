@@ -137,7 +137,7 @@ impl Delay {
         image.take()
     }
 
-    /// Puts samples into the image in a slot, and sets its valid rectangle.
+    /// Puts samples into the image in a slot, and sets the image's valid rectangle.
     pub fn put(&mut self, k: u8, samples: Samples, valid: Rect)
         requires within { k < length self.old }
         requires format { samples_format samples ≡ (image_in self.old k).format }

@@ -6,7 +6,7 @@ use std::alloc::{AllocError, Global};
 use std::marker::Model;
 use vx_base::Bins;
 
-/// Bins, and how many samples of an image fell into each (OpenVX 1.3, `vx_distribution`).
+/// Bins, and how many samples of an image fell into each bin (OpenVX 1.3, `vx_distribution`).
 #[derive(Drop)]
 pub struct Distribution {
     bins: Bins,

@@ -154,7 +154,8 @@ impl Object {
         }
     }
 
-    /// Copies a picture to the image that `image(slot)` returns. Both have the same description.
+    /// Copies a picture to the image that `image(slot)` returns. The picture and the image have the
+    /// same description.
     pub fn write(&mut self, slot: Option<u8>, picture: &Picture)
         requires there { HasImage slot self.old }
         requires object { IsObject self.old }

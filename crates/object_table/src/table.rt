@@ -245,7 +245,7 @@ impl Table {
         entry.object.take(cell.slot())
     }
 
-    /// Puts samples into the image that a reference names, and sets its valid rectangle.
+    /// Puts samples into the image that a reference names, and sets the image's valid rectangle.
     pub fn put(&mut self, cell: ObjRef, samples: Samples, valid: Rect)
         requires there { HoldsImage self.old.objects cell }
         requires format { samples_format samples ≡ (image_held self.old.objects cell).format }

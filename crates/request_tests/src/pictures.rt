@@ -157,9 +157,9 @@ fn pictures_in_pieces(rt: HostRuntime) -> Result<(), Fail> {
     Ok(())
 }
 
-/// Returns whether the image still has the first picture after two failed writes of the next one.
-/// In one write, the stream ends after `part` of the frame. In the other, a read within `part`
-/// fails.
+/// Returns whether the image still has the first picture after two failed writes of the next
+/// picture. In one write, the stream ends after `part` of the frame. In the other, a read within
+/// `part` fails.
 fn stays(
     alloc: Global,
     runtime: &mut Runtime,
@@ -228,7 +228,7 @@ fn is_refused(
     Ok(replies.len() > 16 && replies[7] == code && &replies[16..] == read(first))
 }
 
-/// A refused picture is skipped, and the next one is written.
+/// A refused picture is skipped, and the next picture is written.
 #[test]
 fn pictures_refused(rt: HostRuntime) -> Result<(), Fail> {
     let alloc = rt.alloc();

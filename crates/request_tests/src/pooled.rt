@@ -61,8 +61,8 @@ fn is_cleared(alloc: Global, runtime: &mut Runtime, cell: ObjRef) -> Result<bool
     }
 }
 
-/// Returns whether the image that a reference names was 0 everywhere, and fills it with other
-/// samples.
+/// Returns whether the image that a reference names was 0 everywhere, and fills the image with
+/// other samples.
 fn was_cleared(
     alloc: Global,
     runtime: &mut Runtime,

@@ -8,7 +8,7 @@ use std::process::Abort;
 use vx_requests::{StreamFault, Summary, serve};
 
 /// Clients 1 and 2 in turn: each opens a context, creates an image of one U8 sample, writes 10 or
-/// 20, and reads it.
+/// 20 to the image, and reads the image.
 pub const TURNS: &[u8] = b"\x00\x00\x00\x03\x00\x01\x01\
 \x00\x00\x00\x03\x00\x02\x01\
 \x00\x00\x00\x08\x00\x01\x03\x01\x00\x01\x00\x01\
@@ -272,8 +272,8 @@ fn how_far_it_reads(rt: HostRuntime) {
     }
 }
 
-/// Streams without a fault, one after the other to the same runtime: an empty one, one in which a
-/// client opens a context, and one that finds it open.
+/// Streams without a fault, one after the other to the same runtime: an empty stream, a stream in
+/// which a client opens a context, and a stream in which the client's context is open already.
 #[test]
 fn goes_on_after_a_good_end(rt: HostRuntime) {
     let mut runtime = Runtime::new(rt.alloc(), Limits::default());
@@ -292,7 +292,8 @@ fn goes_on_after_a_good_end(rt: HostRuntime) {
     }
 }
 
-/// A stream that ends within its second frame, and one that finds the context of the first open.
+/// A stream that ends within its second frame, and a stream in which the context that the first
+/// stream opened is open already.
 #[test]
 fn goes_on_after_a_stream_cut_short(rt: HostRuntime) {
     let mut runtime = Runtime::new(rt.alloc(), Limits::default());

@@ -49,7 +49,7 @@ fn holds(alloc: Global, runtime: &mut Runtime, text: &[u8]) -> Result<bool, Fail
     Ok(replies.as_slice() == answer(alloc, text)?.as_slice())
 }
 
-/// Splits replies after the first, which answers a write and has eight bytes.
+/// Splits replies after the first reply, which answers a write and has eight bytes.
 fn split_reply(replies: &[u8]) -> (&[u8], &[u8]) {
     replies.split_at(replies.len().min(8))
 }

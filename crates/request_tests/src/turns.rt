@@ -24,7 +24,7 @@ struct InTurns<'a> {
 }
 
 impl InTurns<'_> {
-    /// Returns the number of bytes of the next frame, or 0 while it must not be read.
+    /// Returns the number of bytes of the next frame, or 0 while that frame must not be read.
     fn next_frame(&self) -> usize {
         match self.stream {
             [a, b, c, d, ..] if self.flushed.get() == self.begun && !self.holds.get() => {

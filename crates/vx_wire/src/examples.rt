@@ -315,7 +315,7 @@ pub fn virtual_images_made()
     ensures no_name { request_of 19 (0 ∷ 0 ∷ 0 ∷ []) ≡ Err InvalidParameters }
 {}
 
-/// Adding a node to graph 258, Not from image 1 to image 2; and invalid nodes. The graph's name is
+/// Adding a Not node from image 1 to image 2 to graph 258; and invalid nodes. The graph's name is
 /// read before the node.
 pub fn nodes_added()
     ensures added { request_of 20 (0 ∷ 0 ∷ 1 ∷ 2 ∷ 4 ∷ 0 ∷ 0 ∷ 0 ∷ 0 ∷ 0 ∷ 0 ∷ 0 ∷ 1 ∷ 255 ∷ 0 ∷ 0
@@ -365,7 +365,7 @@ pub fn graphs_verified_and_run()
     ensures run_with_a_slot { request_of 23 (0 ∷ 0 ∷ 1 ∷ 2 ∷ 255 ∷ []) ≡ Err InvalidParameters }
 {}
 
-/// A node Not from image 1 to image 2; and nodes Not with one operand too many or too few.
+/// A Not node from image 1 to image 2; and Not nodes with one operand too many or too few.
 pub fn nodes()
     ensures whole { request_of 24 (4 ∷ 0 ∷ 0 ∷ 0 ∷ 0 ∷ 0 ∷ 0 ∷ 0 ∷ 1 ∷ 255 ∷ 0 ∷ 0 ∷ 0 ∷ 0 ∷ 255 ∷ 0
         ∷ 0 ∷ 0 ∷ 2 ∷ 255 ∷ 0 ∷ 0 ∷ 0 ∷ 0 ∷ 255 ∷ [])
@@ -408,7 +408,7 @@ pub fn nodes()
         ∷ 0 ∷ 0 ∷ 255 ∷ []) ≡ Err InvalidParameters }
 {}
 
-/// A node Multiply of images 1 and 2 to image 3, saturating, with the scale 1 / 2^15; and amounts
+/// A Multiply node from images 1 and 2 to image 3, saturating, with the scale 1 / 2^15; and amounts
 /// above 15.
 pub fn multiply_nodes()
     ensures whole { request_of 24 (7 ∷ 0 ∷ 0 ∷ 1 ∷ 15 ∷ 0 ∷ 0 ∷ 0 ∷ 1 ∷ 255 ∷ 0 ∷ 0 ∷ 0 ∷ 2 ∷ 255

@@ -1,4 +1,4 @@
-//! The delays of a table that age with its graphs.
+//! The delays of a table that age with the table's graphs.
 ghost use Rattle.std.specs.Prelude.{◌≡◌, [], ◌∷◌, ◌++◌, filter, IfOk, IfErr, OnOk, OnErr};
 ghost use Rattle.vx_base.specs.declared.kind.Kind.TheVariants as kind;
 ghost use Rattle.object_table.specs.declared.fault.TableFault.TheVariants.{NoMemory};

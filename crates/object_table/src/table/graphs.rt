@@ -1,4 +1,4 @@
-//! The graphs of a table, whose nodes use its objects.
+//! The graphs of a table, whose nodes use the table's objects.
 ghost use Rattle.std.specs.Prelude.{◌≡◌, ◌*◌, ◌<◌, ◌≤◌, true, map, not, if◌then◌else◌, IsTrue};
 ghost use Rattle.std.specs.Prelude.{is_some, is_none, All, Some, Ok, Err, IfOk, IfErr, OnOk, OnErr};
 ghost use Rattle.std.specs.Result.{is_err};
@@ -226,8 +226,8 @@ fn end_all_uses(entries: &mut BTreeMap<u32, Entry>, charge: u64, graph: u32, poo
     left
 }
 
-/// Makes a name no longer live, and drops its object if no node uses it. Returns the charge of the
-/// remaining objects.
+/// Marks a name as no longer live, and drops the object of the name if no node uses the object.
+/// Returns the charge of the remaining objects.
 fn end_name(entries: &mut BTreeMap<u32, Entry>, charge: u64, name: u32, pool: &mut Pool) -> u64
     requires held { All (λ e. IsTrue (is_kept e)) entries.old.entries }
     requires charge { charge ≡ charge_of (map entry_object entries.old.entries) }
