@@ -1,5 +1,5 @@
--- Convolutions: the columns, the rows, the exponent, and then the coefficients row by row from the top, which are one field.
--- OpenVX 1.3, "Object: Convolution".
+-- Convolutions: the columns, the rows, the exponent, and then the coefficients row by row from the
+-- top; all coefficients are one field. OpenVX 1.3, "Object: Convolution".
 use Rattle.std.specs.Prelude.{ℕ, ◌*◌, if◌then◌else◌, nat_le, List, ◌∷◌, Some, None, Ok}
 use Rattle.vx_base.specs.declared.format.Format.TheVariants.{S16}
 use Rattle.vx_base.specs.Convolution.{ConvolutionValue, is_odd_side}

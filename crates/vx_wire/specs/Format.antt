@@ -1,4 +1,5 @@
--- The formats of samples, and their numbers, which are this project's own. OpenVX 1.3, `vx_df_image_e`.
+-- The formats of samples (OpenVX 1.3, `vx_df_image_e`), and their numbers. The numbers are this
+-- project's own.
 use Rattle.std.specs.Prelude.{ℕ, List, [], ◌∷◌, Option, Some, None}
 use Rattle.vx_base.specs.declared.format.Format.{Format}
 use Rattle.vx_base.specs.declared.format.Format.TheVariants.{U8, S16, U32}

@@ -1,4 +1,4 @@
--- The operands of a node. An absent operand is name 0 without a slot.
+-- The operands of a node. An absent operand is encoded as name 0 without a slot.
 use Rattle.std.specs.Prelude.{ℕ, ◌&&◌, Bool, if◌then◌else◌, List, Option, Some, None, is_some, is_none, Ok}
 use Rattle.vx_base.specs.declared.function.Parameters.{Parameters}
 use Rattle.vx_base.specs.Reference.{Reference}
@@ -9,7 +9,7 @@ use Rattle.vx_wire.specs.declared.fields.operand.Presence.TheVariants.{Required,
 use Rattle.vx_wire.specs.Fields.{FieldResult, and_then, allowed_or_fault}
 use Rattle.vx_wire.specs.Reference.{take_reference, reference_bytes}
 
--- the operand that a reference encodes, if it is given or absent as its presence requires
+-- the operand that a reference encodes, if the operand is given or absent as its presence requires
 abbrev pub operand : Presence → Reference → Option (Option Reference)
 operand Required cell = if is_nothing cell then None else Some (Some cell)
 operand Absent cell = if is_nothing cell then Some None else None
@@ -19,7 +19,7 @@ operand Free cell = if is_nothing cell then Some None else Some (Some cell)
 abbrev pub take_operand : Presence → List ℕ → FieldResult (Option Reference)
 take_operand presence body = and_then (take_reference body) (λ cell rest. allowed_or_fault InvalidParameters (operand presence cell) rest)
 
--- the bytes of an operand: its reference, or name 0 without a slot if it is absent
+-- the bytes of an operand: its reference, or name 0 without a slot if the operand is absent
 abbrev pub operand_bytes : Option Reference → List ℕ
 operand_bytes None = reference_bytes (record { name = 0; slot = None })
 operand_bytes (Some cell) = reference_bytes cell

@@ -1,5 +1,6 @@
--- Requests and their bodies. Each table is ordered by families: contexts, images, objects of any kind, tables (and thresholds and
--- convolutions), statistics, graphs, immediate nodes, delays.
+-- Requests and their bodies. The cases of each definition are ordered by families: contexts,
+-- images, objects of any kind, lookup tables (with thresholds and convolutions), statistics,
+-- graphs, immediate nodes, delays.
 use Rattle.std.specs.Prelude.{ℕ, ⊤, List, [], ◌∷◌, ◌++◌, Option, Some, None, Result, Err}
 use Rattle.std.specs.Int.{w32, to_be_bytes}
 use Rattle.client_model.specs.declared.request.Request.{Request}
