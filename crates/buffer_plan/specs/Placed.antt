@@ -56,7 +56,7 @@ pub record IsReached (lives : List Life) (count step : ℕ) : Type 0 where
   pub fewer_before : (earlier : ℕ) → earlier < step → count_in earlier lives < count
 
 -- lives with their slots, and the size of each slot. If the lives are in the order of their first
--- steps, overlapping lives have different slots, and as many images are live at the peak step as
+-- steps, overlapping lives have different slots. As many images are then live at the peak step as
 -- there are slots.
 pub record ArePlaced (lives : List Life) (p : Places) : Type 0 where
   pub each : map (λ q. q.life) p.placed.items ≡ lives

@@ -19,8 +19,8 @@ pub record PlanView : Type 0 where
   pub peak_step : Format → Option ℕ
 
 -- a valid plan with a slot for each image and for nothing else. Each format has as many slots as
--- images that are live at its peak, and each slot has the greatest sample count of the images that
--- share it.
+-- images that are live at its peak. The sample count of a slot is the greatest of the images that
+-- share the slot.
 pub record IsPlan (steps : List Node) (images : List VirtualOutput) (p : PlanView) : Type 0 where
   pub once : has_twice (map (λ o. o.cell) images) ≡ false
   pub given : (cell : Reference) →

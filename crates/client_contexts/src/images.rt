@@ -134,7 +134,8 @@ pub fn read_image(table: &Table, alloc: Global, reference: ObjRef) -> Result<Rep
     Ok(Reply::Picture(image.picture(alloc)?))
 }
 
-/// Returns the U8 image that a reference names, to be read as a PGM text.
+/// Returns the U8 image that a reference names, for ReadImagePgm. Refused: the reference names no
+/// image with samples, or the image has another format.
 pub fn find_text_image(table: &Table, reference: ObjRef) -> Result<&Stored, Refusal>
     requires { IsContext table.now }
     ensures ok { IfOk result (λ image. read_text table.now reference

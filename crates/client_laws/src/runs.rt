@@ -30,10 +30,10 @@ pub fn what_verifies_runs()
 {}
 
 /// A successful ProcessGraph leaves the only solution of the graph. In the solution, each image,
-/// distribution and extremes that a node writes is the result of the node's function on the node's
-/// inputs at the end of the run. This includes virtual images. All other objects are unchanged.
-/// After the run, virtual images have no samples again, and the delays that are registered with the
-/// graph age.
+/// distribution and extremes that a node writes is the result of the node's function. The
+/// function's arguments are the node's inputs at the end of the run. This includes virtual images.
+/// All other objects are unchanged. After the run, virtual images have no samples again, and the
+/// delays that are registered with the graph age.
 pub fn a_run_is_the_only_solution()
     ensures { (limits : LimitsValue) (c later : Context) (name : ℕ) → KeepsLimits limits c →
         answer_to limits (Some c) (ProcessGraph name) ≡ (Empty, Some later) →

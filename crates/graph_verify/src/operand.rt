@@ -3,7 +3,7 @@ ghost use Rattle.std.specs.Prelude.{◌≡◌};
 
 use vx_base::{Desc, Format, Kind, PartialDesc};
 
-/// An object that a node names, by its kind and the properties on which a verdict depends.
+/// An object that a node names: its kind, and the properties on which a verdict depends.
 #[derive(Clone, Copy, PartialEq, Eq, Debug)]
 pub enum Operand {
     /// An image of this size and format.

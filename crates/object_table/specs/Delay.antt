@@ -12,8 +12,8 @@ use Rattle.vx_base.specs.Object.{ObjectValue, ImageObject, DelayObject, object_k
 abbrev pub new_delay : Description → ℕ → List ImageValue
 new_delay d slots = replicate slots (new_image d.width d.height d.format)
 
--- the images of a delay after one step: each image moves to the next slot, the last image to slot
--- 0. OpenVX 1.3, vxAgeDelay
+-- the images of a delay after it has aged once: each image moves to the next slot, the last image
+-- to slot 0. OpenVX 1.3, vxAgeDelay
 abbrev pub aged_images : List ImageValue → List ImageValue
 aged_images images = drop (length images - 1) images ++ take (length images - 1) images
 

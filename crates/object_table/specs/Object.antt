@@ -36,7 +36,7 @@ abbrev pub graph_value : ObjectValue → GraphValue
 graph_value (GraphObject graph) = graph
 graph_value other = new_graph
 
--- the object after one step, if it is a delay; other objects don't change
+-- the object aged once, if it is a delay; other objects don't change
 abbrev pub aged_object : ObjectValue → ObjectValue
 aged_object (DelayObject images) = DelayObject (aged_images images)
 aged_object other = other

@@ -23,7 +23,7 @@ use Rattle.vx_base.specs.declared.slots.TheConstants.{GREATEST_SLOTS}
 use Rattle.object_table.specs.declared.table.TheConstants.{GREATEST_OBJECTS}
 use Rattle.vx_base.specs.declared.node.TheConstants.{GREATEST_NODES}
 
--- ---- the objects of names and references
+-- ---- the objects that names and references denote
 
 -- the object held under a name; an image without pixels if there is none
 abbrev pub object_under : List NamedObject → ℕ → ObjectValue
@@ -81,9 +81,9 @@ kept_entries entries = filter is_kept entries
 
 -- ---- the invariant of a table
 
--- The invariant of a table: distinct names below the next one, at most 1,024 objects of bounded
--- size, the exact charge and use counts, each entry held, and nodes that use only names below the
--- next one.
+-- The invariant of a table. Names are distinct and below the next one. There are at most 1,024
+-- objects of bounded size, and each is held. The charge and the use counts are exact. Nodes use
+-- only names below the next one.
 pub record IsTable (next charge : ℕ) (entries : List (ℕ × Entry)) : Type 0 where
   pub names : IsStrictlyIncreasing (map (λ e. e.0) entries)
   pub below : All (λ e. e.0 < next) entries

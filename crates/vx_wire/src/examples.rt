@@ -107,8 +107,8 @@ pub fn images_queried()
     ensures more { request_of 4 (0 ∷ 0 ∷ 0 ∷ 1 ∷ 255 ∷ 0 ∷ []) ≡ Err InvalidParameters }
 {}
 
-/// The descriptions of a U8 image of 4 by 1 samples whose second and third are valid, and of an
-/// image of 258 by 1 samples with an open format and no valid pixels.
+/// The description of a U8 image of 4 by 1 samples, of which the second and the third are valid.
+/// The description of an image of 258 by 1 samples with an open format and no valid pixels.
 pub fn images_described()
     ensures known { described_bytes (record {
       format = Some U8;

@@ -54,8 +54,8 @@ pub fn one_client()
         ≡ alone (answer limits) (start client) (frames_of marked) }
 {}
 
-/// If a client starts in the same state in two streams, and its kept frames are the same in both
-/// streams, it gets the same replies to these frames.
+/// Let a client start in the same state in two streams, and have the same kept frames in both. The
+/// client gets the same replies to these frames in both streams.
 pub fn isolated()
     ensures { (limits : LimitsValue) (start other : ℕ → State)
         (marked others : List ReceivedFrame) (client : ℕ) →
@@ -80,8 +80,8 @@ pub fn lost_shows()
         map (λ r. r.code == 1) (served (answer limits) start marked) ≡ map (λ m. m.lost) marked }
 {}
 
-/// If the source's bytes are known, and `serve` succeeded or failed because of these bytes, the
-/// frames that `serve` read and the bytes after them are the split of the stream.
+/// Let the source's bytes be known, and let `serve` succeed, or fail because of these bytes. The
+/// frames that `serve` read and the bytes after them are then the split of the stream.
 pub fn session_splits()
     ensures { (limits : LimitsValue) (input more : List ℕ) (taken_old taken_new : Option (List ℕ))
         (old new : ℕ → State) (result : Result Summary StreamFault) →
