@@ -69,8 +69,8 @@ IsKeptWithin work graph verified = lookup (is_at (nat_cmp graph)) verified ≡ S
 abbrev pub StayKept : ℕ → List (ℕ × ℕ) → List (ℕ × ℕ) → Type 0
 StayKept work old new = (graph : ℕ) → IsKeptWithin work graph old → IsKeptWithin work graph new
 
--- whether a request, unless it is refused, drops a graph from the cache: it changes the graph's
--- nodes, or releases the graph or the context
+-- whether a request, unless it is refused, drops a graph from the cache: the request changes the
+-- graph's nodes, or releases the graph or the context
 abbrev pub ends_verification : Request → ℕ → Bool
 ends_verification ReleaseContext name = true
 ends_verification (Release released) name = released == name

@@ -1,4 +1,5 @@
-//! The cache of verified graphs. A graph stays in the cache until its nodes change.
+//! The cache of verified graphs. A graph stays in the cache until its nodes change or its name is
+//! released.
 ghost use Rattle.std.specs.Prelude.{◌≡◌, ℕ, false, All};
 ghost use Rattle.client_model.specs.States.{changes_nodes};
 ghost use Rattle.client_contexts.specs.Kept.{ends_verification, forgotten_by, kept_within};

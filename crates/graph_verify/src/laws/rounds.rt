@@ -19,8 +19,8 @@ pub fn once_through_an_order<V>()
         one_pass writes value steps held cell ≡ rounds writes value nodes (length nodes) held cell }
 {}
 
-/// The rounds of a graph that can run give its only solution: each written object has its node's
-/// value, and every other object is unchanged.
+/// The rounds of a graph that can run give the graph's only solution: each written object has the
+/// value of the node that writes it, and every other object is unchanged.
 pub fn only_solution<V>()
     ensures solves { (value : Node → (Reference → V) → Reference → V) (work : ℕ)
         (is : Reference → Operand)
