@@ -11,7 +11,7 @@ use Rattle.object_table.specs.NamedObject.{NamedObject}
 abbrev pub used_names : Node → List ℕ
 used_names n = map (λ cell. cell.name) (inputs n ++ outputs n)
 
--- the nodes of an object that is a graph
+-- the nodes of a graph; none for an object of another kind
 abbrev pub nodes_in : ObjectValue → List Node
 nodes_in (GraphObject graph) = nodes_of graph
 nodes_in other = []

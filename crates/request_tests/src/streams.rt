@@ -292,8 +292,8 @@ fn goes_on_after_a_good_end(rt: HostRuntime) {
     }
 }
 
-/// A stream that ends within its second frame, and a stream in which the context that the first
-/// stream opened is open already.
+/// First a stream that ends within its second frame; then a stream that finds the context of the
+/// first stream still open.
 #[test]
 fn goes_on_after_a_stream_cut_short(rt: HostRuntime) {
     let mut runtime = Runtime::new(rt.alloc(), Limits::default());

@@ -463,8 +463,8 @@ pub fn delays_registered()
     ensures cut { request_of 27 (0 ∷ 0 ∷ 0 ∷ 3 ∷ 0 ∷ 0 ∷ 0 ∷ []) ≡ Err InvalidParameters }
 {}
 
-/// The encodings of a picture, a text, a rectangle, a threshold, a convolution, bins, two partial
-/// descriptions, a node of a graph and a delay.
+/// The encodings of a picture, a text, a rectangle, a threshold, a convolution, a distribution's
+/// bins, two partial descriptions, a node of a graph and a delay.
 pub fn spelled()
     ensures picture { body_of (WriteImage (record { name = 7; slot = None })
         (record {
