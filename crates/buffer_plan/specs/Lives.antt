@@ -12,8 +12,8 @@ use Rattle.buffer_plan.specs.declared.lives.Life.{Life}
 abbrev pub is_node_operand : List Node → Reference → Bool
 is_node_operand nodes cell = list_any (λ n. reads n cell || writes n cell) nodes
 
--- whether an operand is live at a step: a step up to this one writes it, and a step from this one
--- on uses it
+-- whether an operand is live at a step: this step or an earlier one writes the operand, and this
+-- step or a later one uses it
 abbrev pub is_live : List Node → Reference → ℕ → Bool
 is_live steps cell step = is_written (take step steps) cell && is_node_operand (drop (step - 1) steps) cell
 
@@ -23,7 +23,8 @@ is_live steps cell step = is_written (take step steps) cell && is_node_operand (
 abbrev pub is_in : ℕ → Life → Bool
 is_in step l = nat_le l.first step && nat_le step l.last
 
--- a life has exactly the steps at which the image is live, and begins with the first that writes it
+-- a life has exactly the steps at which the image is live, and begins with the first step that
+-- writes the image
 pub record IsLife (steps : List Node) (l : Life) : Type 0 where
   pub first : l.first ≡ position_or_len (λ n. writes n l.image.cell) steps + 1
   pub live : (step : ℕ) → is_live steps l.image.cell step ≡ is_in step l

@@ -11,7 +11,7 @@ use Rattle.buffer_plan.specs.declared.slots.Places.{Places}
 use Rattle.buffer_plan.specs.Lives.{is_in}
 use Rattle.buffer_plan.specs.Slots.{maximum_of}
 
--- lives in the order of their first steps, each of which ends no earlier than it begins
+-- lives in the order of their first steps; each life ends no earlier than it begins
 abbrev pub AreRising : List Life → Type 0
 AreRising [] = Unit {0}
 AreRising (l ∷ ls) = (l.first ≤ l.last) × ((m : Life) → In m ls → l.first ≤ m.first) × AreRising ls
@@ -30,8 +30,8 @@ abbrev pub slot_capacity : List Placed → ℕ → ℕ
 slot_capacity placed k =
     maximum_of (map (λ p. sample_count p.life.image.desc) (filter (λ p. p.slot == k) placed))
 
--- a life takes a slot that is free again, or a new one if none is free; `ends` and `ends'` have the
--- last live step of each slot before and after
+-- an image takes a slot that is free again, or a new slot if none is free; `ends` and `ends'` have
+-- the last live step of each slot, before and after
 abbrev pub TakesSlot : Life → List ℕ → List ℕ → ℕ → Type 0
 TakesSlot l ends ends' slot =
     ((slot < length ends) × (slice_index_or ends slot 0 < l.first)
@@ -55,8 +55,9 @@ pub record IsReached (lives : List Life) (count step : ℕ) : Type 0 where
   pub there : count ≤ count_in step lives
   pub fewer_before : (earlier : ℕ) → earlier < step → count_in earlier lives < count
 
--- lives with their slots, and the size of each slot. For lives in the order of their first steps, those
--- that overlap have different slots, and as many images are live at the peak step as there are slots.
+-- lives with their slots, and the size of each slot. If the lives are in the order of their first
+-- steps, overlapping lives have different slots. As many images are then live at the peak step as
+-- there are slots.
 pub record ArePlaced (lives : List Life) (p : Places) : Type 0 where
   pub each : map (λ q. q.life) p.placed.items ≡ lives
   pub below : (q : Placed) → In q p.placed.items → q.slot < length p.samples.items

@@ -19,7 +19,7 @@ places_in p U8 = p.u8s
 places_in p S16 = p.s16s
 places_in p U32 = p.u32s
 
--- the plan's view
+-- the view of a plan
 abbrev pub plan_view : Plan → PlanView
 plan_view p =
     record {

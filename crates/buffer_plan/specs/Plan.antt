@@ -11,7 +11,7 @@ use Rattle.graph_verify.specs.Members.{In}
 use Rattle.buffer_plan.specs.Slots.{of_format, is_slot, maximum_of, IsValid, IsPeak}
 
 -- a plan's view: the slot of each image; for each format the number of slots, the sample count of
--- each slot, and the first step that needs all of them
+-- each slot, and the first step that needs all slots
 pub record PlanView : Type 0 where
   pub slot_of : Reference → Option ℕ
   pub slot_count : Format → ℕ
@@ -19,7 +19,8 @@ pub record PlanView : Type 0 where
   pub peak_step : Format → Option ℕ
 
 -- a valid plan with a slot for each image and for nothing else. Each format has as many slots as
--- its peak, and each slot has the greatest sample count of the images that share it.
+-- images that are live at its peak. The sample count of a slot is the greatest of the images that
+-- share the slot.
 pub record IsPlan (steps : List Node) (images : List VirtualOutput) (p : PlanView) : Type 0 where
   pub once : has_twice (map (λ o. o.cell) images) ≡ false
   pub given : (cell : Reference) →

@@ -50,7 +50,7 @@ abbrev pub maximum_of : List ℕ → ℕ
 maximum_of [] = 0
 maximum_of (n ∷ ns) = if nat_le n (maximum_of ns) then maximum_of ns else n
 
--- whether the slot is k
+-- whether there is a slot, and it is k
 abbrev pub is_slot : ℕ → Option ℕ → Bool
 is_slot k None = false
 is_slot k (Some slot) = slot == k

@@ -1,4 +1,4 @@
-//! The lives of virtual images: the steps at which each is live. Steps are counted from 1.
+//! The lives of virtual images: the steps at which each image is live. Steps are counted from 1.
 ghost use Rattle.std.specs.Prelude.{◌≡◌, ℕ, ◌+◌, ◌||◌, drop, nat_lt, position, IfOk};
 ghost use Rattle.std.specs.List.{position_or_len};
 ghost use Rattle.vx_base.specs.Sample.{same_format};
@@ -18,28 +18,30 @@ pub struct Life {
     pub last: usize,
 }
 
-/// Whether a node writes an operand.
+/// Returns whether a node writes an operand.
 fn writes(node: &Node, cell: ObjRef) -> bool
     ensures { result ≡ writes node.now cell }
 {
     node.out1 == Some(cell) || node.out2 == Some(cell)
 }
 
-/// Whether a node reads or writes an operand.
+/// Returns whether a node reads or writes an operand.
 fn uses(node: &Node, cell: ObjRef) -> bool
     ensures { result ≡ (reads node.now cell || writes node.now cell) }
 {
     node.in1 == cell || node.in2 == Some(cell) || writes(node, cell)
 }
 
-/// The number of steps before the first that writes an operand, if one does.
+/// Returns the number of steps before the first step that writes an operand, or `None` if no step
+/// writes it.
 fn steps_before(steps: &[Node], cell: ObjRef) -> Option<usize>
     ensures { result ≡ position (λ n. writes n cell) steps.now }
 {
     steps.iter().position(|node| writes(node, cell))
 }
 
-/// The first step that writes an operand, or the number of steps plus 1 if none does.
+/// Returns the first step that writes an operand, or the number of steps plus 1 if no step writes
+/// it.
 fn first_writing(steps: &[Node], cell: ObjRef) -> usize
     ensures { result ≡ position_or_len (λ n. writes n cell) steps.now + 1 }
 {
@@ -49,7 +51,7 @@ fn first_writing(steps: &[Node], cell: ObjRef) -> usize
     }
 }
 
-/// The last step that reads or writes an operand, or 0 if none does.
+/// Returns the last step that reads or writes an operand, or 0 if no step does.
 fn last_use(steps: &[Node], cell: ObjRef) -> usize
     ensures { (j : ℕ) → is_node_operand (drop j steps.now) cell ≡ nat_lt j result }
 {
@@ -63,7 +65,7 @@ fn last_use(steps: &[Node], cell: ObjRef) -> usize
     0
 }
 
-/// The life of an image.
+/// Returns the life of an image.
 fn life_of(steps: &[Node], image: VirtualOutput) -> Life
     ensures image { result.image ≡ image }
     ensures life { IsLife steps.now result }
@@ -75,14 +77,14 @@ fn life_of(steps: &[Node], image: VirtualOutput) -> Life
     }
 }
 
-/// Whether an image has this format.
+/// Returns whether an image has this format.
 fn is_of(image: &VirtualOutput, format: Format) -> bool
     ensures { result ≡ same_format image.now.desc.format format }
 {
     image.desc.format() == format
 }
 
-/// Returns the lives of the images of a format, or an error if there is no memory for them.
+/// Returns the lives of the images of a format, or an error if there is no memory for the result.
 pub fn lives_of(
     alloc: Global,
     steps: &[Node],

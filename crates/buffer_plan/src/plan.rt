@@ -54,8 +54,8 @@ impl Plan {
         }
     }
 
-    /// Returns the slot of a virtual image among those of its format. `None`: the operand isn't
-    /// virtual, or no node of the graph writes it.
+    /// Returns the slot of a virtual image; the slots of each format are counted from 0. `None`:
+    /// the operand isn't virtual, or no node of the graph writes it.
     pub fn slot_of(&self, cell: ObjRef) -> Option<usize>
         ensures { result ≡ (plan_view self.now).slot_of cell }
     {
@@ -63,7 +63,8 @@ impl Plan {
         u8s.or(s16s).or(self.u32s.slot_of(cell))
     }
 
-    /// Returns the number of slots of a format: no plan for this order of the nodes has fewer.
+    /// Returns the number of slots of a format. No plan for this order of the nodes has fewer slots
+    /// of the format.
     pub fn slot_count(&self, format: Format) -> usize
         ensures value { result ≡ (plan_view self.now).slot_count format }
         ensures least { (steps : List NodeFields) (images : List Image) →
@@ -83,8 +84,8 @@ impl Plan {
         samples.get(slot).copied().unwrap_or(0)
     }
 
-    /// Returns the first step, counted from 1, at which as many images of the format are live as it
-    /// has slots, or `None` if it has none.
+    /// Returns the first step, counted from 1, at which as many images of the format are live as
+    /// the format has slots. `None`: the format has no slot.
     pub fn peak_step(&self, format: Format) -> Option<usize>
         ensures { result ≡ (plan_view self.now).peak_step format }
     {

@@ -23,7 +23,7 @@ pub struct Placed {
 pub struct Places {
     /// The images in the order of their first steps.
     pub placed: Vec<Placed>,
-    /// The greatest sample count of the images of each slot.
+    /// For each slot, the greatest sample count of its images.
     pub samples: Vec<usize>,
     /// The first step at which as many images are live as there are slots; `None` if there is no
     /// slot.
@@ -50,7 +50,7 @@ fn free_slot(ends: &[usize], first: usize) -> Option<usize>
     ends.iter().position(|end| *end < first)
 }
 
-/// Takes the first free slot for an image, or a new one if none is free.
+/// Takes the first free slot for an image, or a new slot if none is free. Returns the slot.
 fn take_slot(ends: &mut Vec<usize>, life: &Life) -> Result<usize, AllocError>
     ensures { IfOk result (λ slot. TakesSlot life.now ends.old.items ends.new.items slot) }
 {
@@ -84,16 +84,16 @@ fn greatest_samples(
     Ok(samples)
 }
 
-/// Returns the peak step after one more image: the image's first step if its slot is new, else the
-/// old peak step.
+/// Returns the peak step after one more image: the image's first step if the image's slot is new,
+/// else the old peak step.
 fn peak_after(before: Option<usize>, life: &Life, is_new: bool) -> Option<usize>
     ensures { result ≡ (if is_new then Some life.now.first else before) }
 {
     if is_new { Some(life.first) } else { before }
 }
 
-/// Gives each image a slot: the first that is free. For lives in the order of their first steps
-/// this takes as few slots as possible. An error means that there is no memory for the result.
+/// Gives each image the first slot that is free. If the lives are in the order of their first
+/// steps, no assignment has fewer slots. An error means that there is no memory for the result.
 pub fn place(alloc: Global, lives: &[Life]) -> Result<Places, AllocError>
     ensures { IfOk result (λ places. ArePlaced lives.now places) }
 {

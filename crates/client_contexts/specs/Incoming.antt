@@ -18,20 +18,23 @@ use Rattle.client_contexts.specs.Lookup.{refusal_for}
 use Rattle.client_contexts.specs.World.{World}
 use Rattle.client_contexts.specs.Applies.{IsAnswered}
 
--- `fills` is the effect of a call of fill: on the source, the format of the samples, the samples afterwards, and the result
+-- `fills` is the effect of a call of fill, as a relation of the source before and after, the format
+-- of the samples, the samples after, and the result
 module _ {S E : Type 0} (fills : S → S → Format → List ℤ → Result ⊤ E → Type 0) (d : Description) (old new : S) where
-  -- p has this description, and its samples are those that the source gave, or any samples if it failed
+  -- p has this description, and its samples are those that the source gave, or any samples if the
+  -- source failed
   pub record IsRead (p : PictureValue) (result : Result ⊤ E) : Type 0 where
     pub described : p.description ≡ d
     pub size : length p.samples ≡ sample_count d
     pub came : fills old new d.format p.samples result
 
-  -- the reason why a picture isn't written: no memory or a refusal, in which case nothing was read; or the source failed
+  -- the reason why a picture isn't written: there is no memory or the picture is refused, and
+  -- nothing was read; or the source failed
   abbrev pub SaysWhyUnwritten : (Code → Type 0) → WriteFault E → Type 0
   SaysWhyUnwritten refuses (Refused code) = (new ≡ old) × ((code ≡ NoMemory) ⊎ refuses code)
   SaysWhyUnwritten refuses (Source fault) = (p : PictureValue) × IsRead p (Err fault)
 
--- an image, or a reference that names none, refuses a picture of this description with this code
+-- a picture of this description that is written to a reference is refused with this code
 abbrev pub IsRefusedFor : Context → Reference → Description → Code → Type 0
 IsRefusedFor c cell d code = (refusal : Refusal) × (code ≡ refusal_code refusal) × (refusal_for (image_of c.objects cell) d ≡ Some refusal)
 

@@ -21,9 +21,10 @@ use Rattle.client_model.specs.States.{changes_nodes}
 use Rattle.client_contexts.specs.declared.kept.KeptGraph.{KeptGraph}
 use Rattle.client_contexts.specs.declared.memory.NoMemory.{NoMemory}
 
--- The entry of a name is a verification of the graph that has the name now, and nothing refuses this graph within the quota of
--- work bytes. The plan gives slots to the virtual images along the order of the nodes. The schedule is one of a run on the objects that
--- the nodes name.
+-- A valid cache entry of a name. The entry has a verification of the graph that is held under the
+-- name, if one is held. No verdict refuses this graph within the entry's quota of work bytes. The
+-- plan gives slots to the virtual images along the order of the nodes. The schedule fits a run on
+-- the objects that the nodes name.
 pub record IsKept (c : Context) (name : ℕ) (k : KeptGraph) : Type 0 where
   pub below : name < c.next
   pub ready : IfSome (object_held c.objects name) (λ object. IsReady c.objects (nodes_in object) k.verified)
@@ -31,11 +32,11 @@ pub record IsKept (c : Context) (name : ℕ) (k : KeptGraph) : Type 0 where
   pub schedule : IfSome (object_held c.objects name) (λ object. IsSchedule c.objects k.verified (plan_view k.plan) k.schedule)
   pub allowed : IfSome (object_held c.objects name) (λ object. verdict k.work (operand_held c.objects) (nodes_in object) ≡ None)
 
--- each entry of the cache is a valid verification
+-- each entry of the cache is valid
 abbrev pub AreKept : Context → List (ℕ × KeptGraph) → Type 0
 AreKept c kept = All (λ k. IsKept c k.0 k.1) kept
 
--- the quota of work bytes with which a graph was verified, if it is kept
+-- the quota of work bytes with which a graph was verified, if the graph is in the cache
 abbrev pub kept_within : ℕ → List (ℕ × KeptGraph) → Option ℕ
 kept_within graph kept = option_map (λ k. k.work) (lookup (is_at (nat_cmp graph)) kept)
 
@@ -45,7 +46,8 @@ runs_graph (VerifyGraph graph) = true
 runs_graph (ProcessGraph graph) = true
 runs_graph other = false
 
--- the graphs that are kept after a request: it forgets a graph whose nodes it changes or whose name it ends
+-- the cache after a request, without the graph whose nodes the request changes or whose name it
+-- releases
 abbrev pub forgotten_by : Request → List (ℕ × KeptGraph) → List (ℕ × KeptGraph)
 forgotten_by (AddNode graph n) kept = remove_entry (is_at (nat_cmp graph)) kept
 forgotten_by (RemoveNode graph number) kept = remove_entry (is_at (nat_cmp graph)) kept
@@ -54,27 +56,30 @@ forgotten_by other kept = kept
 
 -- ---- the visible part of the cache
 
--- the names of the kept graphs, each with the quota of work bytes with which it was verified
+-- the names of the graphs in the cache, each with the quota of work bytes with which the graph was
+-- verified
 abbrev pub verified_in : List (ℕ × KeptGraph) → List (ℕ × ℕ)
 verified_in kept = map (λ k. (k.0, k.1.work)) kept
 
--- the graph is kept as verified with this quota of work bytes
+-- the graph is in the cache, verified with this quota of work bytes
 abbrev pub IsKeptWithin : ℕ → ℕ → List (ℕ × ℕ) → Type 0
 IsKeptWithin work graph verified = lookup (is_at (nat_cmp graph)) verified ≡ Some work
 
--- each graph that was kept with this quota still is
+-- each graph that was in the cache with this quota still is
 abbrev pub StayKept : ℕ → List (ℕ × ℕ) → List (ℕ × ℕ) → Type 0
 StayKept work old new = (graph : ℕ) → IsKeptWithin work graph old → IsKeptWithin work graph new
 
--- whether a request, if it is done, drops a graph from the cache: it changes the graph's nodes, or ends its name or its context
+-- whether a request, unless it is refused, drops a graph from the cache: the request changes the
+-- graph's nodes, or releases the graph or the context
 abbrev pub ends_verification : Request → ℕ → Bool
 ends_verification ReleaseContext name = true
 ends_verification (Release released) name = released == name
 ends_verification other name = changes_nodes other name
 
--- the effect of a request on the kept graphs of its client. VerifyGraph finds no memory only if its graph wasn't kept. After VerifyGraph or
--- ProcessGraph has succeeded, the graph is kept until its nodes change or it ends. OpenVX 1.3, "Object: Graph", vxVerifyGraph and
--- vxProcessGraph
+-- the effect of a request on its client's cache of verified graphs. VerifyGraph of a graph in the
+-- cache never runs out of memory. After VerifyGraph or ProcessGraph has succeeded, the graph stays
+-- in the cache until its nodes change, or the graph or the context is released. OpenVX 1.3,
+-- "Object: Graph", vxVerifyGraph and vxProcessGraph.
 pub record KeepsVerified (work : ℕ) (request : Request) (old new : List (ℕ × ℕ)) (result : Result Reply NoMemory) : Type 0 where
   pub lost : OnErr result ((graph : ℕ) → request ≡ VerifyGraph graph → IsKeptWithin work graph old → ⊥)
   pub found : result ≡ Ok Empty → (graph : ℕ) → (request ≡ VerifyGraph graph) ⊎ (request ≡ ProcessGraph graph) → IsKeptWithin work graph new

@@ -1,4 +1,4 @@
--- The objects of a context that references, names and the operands of nodes name.
+-- The lookup of objects in a context, by reference, by name, and by the operands of a node.
 use Rattle.std.specs.Prelude.{ℕ, ◌≡◌, IsTrue, is_some, List, Option, Some, Result, Ok, Err}
 use Rattle.vx_base.specs.declared.kind.Kind.{Kind}
 use Rattle.vx_base.specs.declared.kind.Kind.TheVariants as kind
@@ -14,14 +14,15 @@ use Rattle.client_model.specs.declared.refusal.Refusal.{Refusal}
 use Rattle.client_model.specs.Images.{picture_refusal}
 use Rattle.client_model.specs.Operands.{stands_for, image_of}
 
--- the reference names this object, and its slot is there and of the wanted kind; a virtual image counts as an image
+-- the reference names this object, and the reference's slot exists and is of the wanted kind; a
+-- virtual image counts as an image
 pub record Found (objects : List NamedObject) (cell : Reference) (wanted : Kind) (object : ObjectValue) : Type 0 where
   pub live : object_named objects cell.name ≡ Some object
   pub held : object_held objects cell.name ≡ Some object
   pub there : IsTrue (is_some (in_slot cell.slot object))
   pub kind : IsTrue (stands_for (object_kind (object_in cell.slot object)) wanted)
 
--- the object of this kind has this name
+-- this object has this name and the wanted kind
 pub record IsNamed (objects : List NamedObject) (name : ℕ) (wanted : Kind) (object : ObjectValue) : Type 0 where
   pub live : object_named objects name ≡ Some object
   pub held : object_held objects name ≡ Some object

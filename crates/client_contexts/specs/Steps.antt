@@ -31,11 +31,11 @@ use Rattle.client_model.specs.Operands.{is_kind, is_of_other_graph}
 
 -- ---- contexts
 
--- the context keeps some limits
+-- a context that keeps the limits, for some values of the limits
 abbrev pub IsContext : Context → Type 0
 IsContext c = (limits : LimitsValue) × KeepsLimits limits c
 
--- a context still keeps all limits that it kept
+-- a context still keeps all limits that it kept before
 abbrev pub Keeps : Context → Context → Type 0
 Keeps old new = (limits : LimitsValue) → KeepsLimits limits old → KeepsLimits limits new
 
@@ -58,7 +58,7 @@ pub record MayComeTo (outcome : Outcome) (old new : Context) (result : Result Re
   pub refused : IfErr result (SaysWhy outcome)
   pub kept : OnErr result (new ≡ old)
 
--- the reply to the client: for a refusal its code
+-- the result for the client: a refusal becomes a reply with the refusal's code
 abbrev pub client_result : Result Reply RequestFault → Result Reply memory.NoMemory
 client_result (Ok r) = Ok r
 client_result (Err (Refused refusal)) = Ok (reply.Refused (refusal_code refusal))
@@ -69,7 +69,7 @@ abbrev pub WantsMemory : RequestFault → Type 0 → Type 0
 WantsMemory (Refused refusal) takes = ⊤
 WantsMemory NoMemory takes = takes
 
--- the fault of a text that can't be written: it has no picture, or there is no memory for it
+-- the fault of a text that can't be written: the text encodes no picture, or there is no memory
 abbrev pub text_fault : PgmFault → RequestFault
 text_fault fault.NoMemory = NoMemory
 text_fault other = Refused (fault_refusal other)
@@ -92,7 +92,7 @@ abbrev pub verify_fault : VerifyFault → RequestFault
 verify_fault verified.NoMemory = NoMemory
 verify_fault (verified.Refused verdict) = Refused (Rejected verdict)
 
--- there is no memory, or the fault is the refusal by a verdict that has this property
+-- the fault is NoMemory, or a refusal by a verdict with this property
 abbrev pub IfRejected : RequestFault → (Verdict → Type 0) → Type 0
 IfRejected NoMemory P = ⊤
 IfRejected (Refused (Rejected verdict)) P = P verdict
@@ -100,29 +100,31 @@ IfRejected (Refused other) P = ⊥
 
 -- ---- operands
 
--- the refusal in a result, if it is one
+-- the refusal, if the result is one
 abbrev pub refusal_in : {A : Type 0} → Result A Refusal → Option Refusal
 refusal_in (Ok value) = None
 refusal_in (Err refusal) = Some refusal
 
--- the reason why a name can't be used, if there is one: no object has it, or one of another kind
+-- the reason why a name can't be used, if there is one: no object has the name, or the object is of
+-- another kind
 abbrev pub name_refusal : Kind → Option ObjectValue → Option Refusal
 name_refusal wanted None = Some InvalidReference
 name_refusal wanted (Some object) = if same_kind wanted (object_kind object) then None else Some InvalidType
 
--- whether an object is out of a scope: a virtual image of another graph
+-- whether an object is outside a scope: a virtual image of another graph
 abbrev pub is_outside : Option ℕ → Option ObjectValue → Bool
 is_outside None object = false
 is_outside (Some graph) object = is_of_other_graph graph object
 
--- the reason why an object, or the image in a slot of it, can't be used, if there is one
+-- the reason why an object, or the image in one of its slots, can't be used, if there is one
 abbrev pub slot_refusal : Kind → Option ℕ → Option ℕ → ObjectValue → Option Refusal
 slot_refusal wanted scope slot object =
     if not (is_kind wanted (slot_kind slot object)) then Some InvalidType
     else (if is_outside scope (in_slot slot object) then Some InvalidScope
     else (if is_none (in_slot slot object) then Some InvalidValue else None))
 
--- of two refusals of operands, the one of the earlier class; the classes in order are names, kinds, scopes and slots
+-- of two refusals of operands, the one whose class comes first; the order of the classes is names,
+-- kinds, scopes, slots
 abbrev pub first_class : Option Refusal → Option Refusal → Option Refusal
 first_class None other = other
 first_class one None = one

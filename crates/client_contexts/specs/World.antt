@@ -8,8 +8,8 @@ use Rattle.object_table.specs.Context.{Context}
 use Rattle.client_model.specs.Limits.{LimitsValue}
 use Rattle.client_model.specs.Context.{State}
 
--- an open context, and the names of its kept graphs, each with the quota of work bytes with which it was verified. The replies and states
--- of the model don't depend on these
+-- an open context, and the names of the graphs in its cache, each with the quota of work bytes with
+-- which the graph was verified. The model's replies and states don't depend on the cache.
 pub record ClientContext : Type 0 where
   pub context : Context
   pub verified : List (ℕ × ℕ)
@@ -23,6 +23,7 @@ pub record World : Type 0 where
 abbrev pub state_of : ℕ → World → State
 state_of client world = option_map (λ o. o.context) (lookup (is_at (nat_cmp client)) world.contexts)
 
--- a client's kept graphs, each with its quota of work bytes; none if it has no context
+-- the graphs in a client's cache, each with its quota of work bytes; none if the client has no
+-- context
 abbrev pub verified_of : ℕ → World → List (ℕ × ℕ)
 verified_of client world = unwrap_or (option_map (λ o. o.verified) (lookup (is_at (nat_cmp client)) world.contexts)) []

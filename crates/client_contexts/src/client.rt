@@ -1,4 +1,4 @@
-//! A client's context: its objects, and the graphs that are kept as verified.
+//! A client's context: its objects, and its cache of verified graphs.
 ghost use Rattle.std.specs.Prelude.{◌≡◌, ◌≢◌, false, [], Some, Ok, Err, IfSome, IfOk, IfErr, OnOk};
 ghost use Rattle.std.specs.Prelude.{OnErr};
 ghost use Rattle.std.specs.BTreeMap.{is_at};
@@ -48,8 +48,8 @@ use std::collections::BTreeMap;
 use std::marker::Model;
 use vx_base::{Desc, ObjRef};
 
-/// The objects of a client, and its verified graphs. A verified graph is kept until its nodes
-/// change or its name is released.
+/// The objects of a client, and the client's cache of verified graphs. A graph stays in the cache
+/// until its nodes change or its name is released.
 #[derive(Drop)]
 pub struct Client {
     table: Table,
@@ -78,8 +78,8 @@ impl Client {
         }
     }
 
-    /// Returns what is kept for a verified graph, if anything: its verification, the slots of its
-    /// virtual images and the schedule of its runs. All are for the graph's current nodes.
+    /// Returns the cache entry of a verified graph, if there is one: the verification, the slots of
+    /// the virtual images and the schedule of a run, all for the graph's current nodes.
     pub fn kept(&self, graph: u32) -> Option<&KeptGraph>
         ensures holds { IfSome result (λ kept. IsKept self.now.context graph kept.now) }
         ensures work { option_map (λ kept. kept.now.work) result
@@ -88,7 +88,7 @@ impl Client {
         self.kept.get(&graph)
     }
 
-    /// Gives back the blocks of all images, and drops the objects. Allocates nothing.
+    /// Gives the blocks of all images back to the pool, and drops the objects. Allocates nothing.
     pub fn end(self, pool: &mut Pool)
         requires { LendsAtLeast pool.old (blocks_in self.context.objects) }
         ensures { LendsLess pool.old pool.new (blocks_in self.context.objects) }
@@ -96,8 +96,8 @@ impl Client {
         self.table.end(pool);
     }
 
-    /// Answers a request other than ReleaseContext. A verified graph is forgotten when its nodes
-    /// change or its name is released. A run reuses the memory of `lists`.
+    /// Answers a request other than ReleaseContext. A graph leaves the cache when its nodes change
+    /// or its name is released. A run of a graph reuses the memory of `lists`.
     pub fn answer(
         &mut self,
         lists: &mut Workspace,
@@ -132,7 +132,7 @@ impl Client {
                 *graph,
             ),
             _ => {
-                // The laws of requests need this fact.
+                // The laws of requests need the fact that this call states.
                 request.prove_request();
                 let reply = answer(&mut self.table, pool, limits, alloc, request)?;
                 forget(&mut self.kept, request);
@@ -163,7 +163,7 @@ impl Client {
             self.old.context.objects self.new.context.objects }
         ensures verified { self.new.verified ≡ self.old.verified }
     {
-        // The laws of requests need this fact.
+        // The laws of requests need the fact that this call states.
         reference.prove_reference();
         write_from(&mut self.table, pool, reference, desc, source)
     }
@@ -183,12 +183,12 @@ impl Client {
             self.old.context.objects self.new.context.objects }
         ensures verified { self.new.verified ≡ self.old.verified }
     {
-        // The laws of requests need this fact.
+        // The laws of requests need the fact that this call states.
         reference.prove_reference();
         write_text(&mut self.table, pool, reference, text)
     }
 
-    /// Returns the image that a reference names. It is refused if the reference names no image with
+    /// Returns the image that a reference names. Refused: the reference names no image with
     /// samples.
     pub fn image(&self, reference: ObjRef) -> Result<&Stored, Refusal>
         requires { IsContext self.now.context }
@@ -201,7 +201,8 @@ impl Client {
         find_image(&self.table, reference)
     }
 
-    /// Returns the U8 image that a reference names. It is refused if the reference names none.
+    /// Returns the U8 image that a reference names. Refused: the reference names no U8 image with
+    /// samples.
     pub fn text_image(&self, reference: ObjRef) -> Result<&Stored, Refusal>
         requires { IsContext self.now.context }
         ensures ok { IfOk result (λ image. read_text self.now.context reference

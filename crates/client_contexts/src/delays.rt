@@ -1,5 +1,5 @@
-//! Requests on delays: creating and ageing them, and registering them with graphs. OpenVX 1.3,
-//! "Object: Delay".
+//! Requests that create and age delays, and register delays with graphs. OpenVX 1.3, "Object:
+//! Delay".
 ghost use Rattle.std.specs.Prelude.{◌≡◌, Err, IfErr, OnOk};
 ghost use Rattle.client_model.specs.Delays.{create_delay, age_delay, register_auto_aging};
 ghost use Rattle.client_model.specs.States.{KeepsLimits};
@@ -15,7 +15,8 @@ use object_table::{Content, Delay, Object, Table};
 use pixel_pool::Pool;
 use vx_base::{Kind, ObjRef, SlotCount};
 
-/// Creates a delay with `slots` new images of the size and format of an image.
+/// Creates a delay with `slots` new images, of the size and format of the image that `exemplar`
+/// names.
 pub fn create_delay(
     table: &mut Table,
     pool: &mut Pool,
@@ -34,7 +35,7 @@ pub fn create_delay(
     hold_images(table, pool, limits, Object::new(Content::Delay(delay)))
 }
 
-/// Ages a delay: each image moves to the next slot, and the last one to slot 0.
+/// Ages a delay: each image moves to the next slot, and the last image to slot 0.
 pub fn age_delay(table: &mut Table, name: u32) -> Result<Reply, Refusal>
     requires { IsContext table.old }
     ensures comes { ComesTo (age_delay table.old name) table.old table.new result }
@@ -46,7 +47,7 @@ pub fn age_delay(table: &mut Table, name: u32) -> Result<Reply, Refusal>
     Ok(Reply::Empty)
 }
 
-/// Registers a delay with a graph. From then on it ages after each run of the graph.
+/// Registers a delay with a graph. From then on the delay ages after each run of the graph.
 pub fn register_auto_aging(table: &mut Table, graph: u32, delay: u32) -> Result<Reply, RequestFault>
     requires { IsContext table.old }
     ensures comes { MayComeTo (register_auto_aging table.old graph delay)
@@ -59,8 +60,8 @@ pub fn register_auto_aging(table: &mut Table, graph: u32, delay: u32) -> Result<
     Ok(Reply::Empty)
 }
 
-/// Checks that these are the names of a graph and of a delay. A name that isn't there is refused
-/// before one of another kind.
+/// Checks that these are the names of a graph and of a delay. A name that isn't live is refused
+/// before an object of another kind.
 fn find_graph_and_delay(table: &Table, graph: u32, delay: u32) -> Result<(), Refusal>
     ensures ok { OnOk result (NameGraphAndDelay table.now.objects graph delay) }
     ensures err { IfErr result (λ refusal.

@@ -1,5 +1,5 @@
-//! Requests on graphs: creating them and their virtual images, adding and removing nodes, verifying
-//! and running them. OpenVX 1.3, "Object: Graph".
+//! Requests that create graphs and virtual images, add and remove nodes, and verify and run graphs.
+//! OpenVX 1.3, "Object: Graph".
 ghost use Rattle.std.specs.Prelude.{◌≡◌, ◌≢◌, true, false, Some, OnOk, IfErr};
 ghost use Rattle.vx_base.specs.Graph.{new_graph};
 ghost use Rattle.vx_base.specs.Object.{GraphObject};
@@ -37,8 +37,8 @@ pub fn create_graph(table: &mut Table, limits: Limits) -> Result<Reply, RequestF
     hold(table, limits, Object::new(Content::Graph(graph)))
 }
 
-/// Creates a virtual image of a graph. `declared` is its partial description: width, height and
-/// format, each of which may be open.
+/// Creates a virtual image of a graph. `declared` is the image's partial description: width, height
+/// and format, each of which may be open.
 pub fn create_virtual_image(
     table: &mut Table,
     limits: Limits,
@@ -91,8 +91,8 @@ pub fn remove_node(
 /// Verifies a graph. OpenVX 1.3, "Object: Graph", vxVerifyGraph. A graph that can't run is refused
 /// with its verdict.
 ///
-/// The result is kept until the graph's nodes change. Until then the same request with the same
-/// quota of work bytes verifies nothing and allocates nothing.
+/// The result stays in the cache until the graph's nodes change. Until then, the same request with
+/// the same quota of work bytes verifies nothing and allocates nothing.
 pub fn verify_graph(
     table: &Table,
     kept: &mut BTreeMap<u32, KeptGraph>,
@@ -108,7 +108,7 @@ pub fn verify_graph(
     ensures stay { StayKept limits.work (verified_in kept.old.entries)
         (verified_in kept.new.entries) }
 
-    // The request takes no memory while the graph is kept.
+    // The request takes no memory while the graph is in the cache.
     ensures takes { IfErr result (λ fault. WantsMemory fault
         (kept_within graph kept.old.entries ≢ Some limits.work)) }
 {
@@ -132,7 +132,7 @@ pub fn verify_graph(
     }
 }
 
-/// Returns whether a graph is in `kept`, verified with this quota of work bytes.
+/// Returns whether a graph is in the cache `kept`, verified with this quota of work bytes.
 fn is_kept(kept: &BTreeMap<u32, KeptGraph>, graph: u32, work: u64) -> bool
     ensures kept { result ≡ true → kept_within graph kept.now.entries ≡ Some work }
     ensures other { result ≡ false → kept_within graph kept.now.entries ≢ Some work }

@@ -1,6 +1,5 @@
-//! Requests on images: creating and querying them, writing and reading their samples, also as PGM
-//! texts, and setting valid rectangles. OpenVX 1.3, "Object: Image". Writes from a source or a text
-//! are in `incoming`.
+//! Requests that create and query images, write and read their samples, also as PGM texts, and set
+//! valid rectangles. OpenVX 1.3, "Object: Image". Writes from a source or a text are in `incoming`.
 ghost use Rattle.std.specs.Prelude.{◌≡◌, Some, Ok, Err, IfOk, IfErr, OnOk};
 ghost use Rattle.vx_base.specs.declared.format.Format.TheVariants.{U8 as FormatU8};
 ghost use Rattle.vx_base.specs.Image.{IsImage};
@@ -54,8 +53,8 @@ fn described(image: &Stored) -> Described
     }
 }
 
-/// Returns the reply to a query of a virtual image: what was declared, 0 for an open side, and an
-/// empty valid rectangle.
+/// Returns the reply to a query of a virtual image: the declared format and sides, 0 for an open
+/// side, and an empty valid rectangle.
 fn described_virtual(declared: PartialDesc) -> Described
     ensures { result ≡ described_virtual declared }
 {
@@ -93,7 +92,7 @@ fn picture_refusal(image: Desc, picture: Desc) -> Option<Refusal>
     }
 }
 
-/// Checks that a picture of this description can be written to an image, which then has the same
+/// Checks that a picture of this description can be written to an image: the image has the same
 /// description.
 pub fn find_image_for(table: &Table, reference: ObjRef, picture: Desc) -> Result<(), Refusal>
     ensures ok { OnOk result (IsImageFor table.now.objects reference picture) }
@@ -135,7 +134,8 @@ pub fn read_image(table: &Table, alloc: Global, reference: ObjRef) -> Result<Rep
     Ok(Reply::Picture(image.picture(alloc)?))
 }
 
-/// Returns the U8 image that a reference names, for a PGM text.
+/// Returns the U8 image that a reference names, for ReadImagePgm. Refused: the reference names no
+/// image with samples, or the image has another format.
 pub fn find_text_image(table: &Table, reference: ObjRef) -> Result<&Stored, Refusal>
     requires { IsContext table.now }
     ensures ok { IfOk result (λ image. read_text table.now reference
@@ -161,8 +161,8 @@ pub fn read_text(table: &Table, alloc: Global, reference: ObjRef) -> Result<Repl
     Ok(Reply::Text(Text::new(pgm_images::write(alloc, &image.image())?)))
 }
 
-/// Returns the reason why a rectangle can't be the valid one of an image of this description, if
-/// there is one.
+/// Returns the reason why a rectangle can't be the valid rectangle of an image of this description,
+/// if there is one.
 fn valid_refusal(image: Desc, valid: Rect) -> Option<Refusal>
     ensures { result ≡ valid_refusal image valid }
 {
@@ -173,7 +173,7 @@ fn valid_refusal(image: Desc, valid: Rect) -> Option<Refusal>
     }
 }
 
-/// Sets the valid rectangle of an image, and each sample outside it to 0.
+/// Sets the valid rectangle of an image, and each sample outside the rectangle to 0.
 pub fn set_valid(table: &mut Table, reference: ObjRef, valid: Rect) -> Result<Reply, Refusal>
     requires { IsContext table.old }
     ensures comes { ComesTo (set_valid table.old reference valid) table.old table.new result }

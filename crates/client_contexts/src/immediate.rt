@@ -10,7 +10,7 @@ use graph_verify::verdict_on;
 use object_table::Table;
 use vx_base::NodeSpec;
 
-/// Runs a node immediately: writes the results of its function to its outputs.
+/// Runs a node immediately: writes the results of the node's function to the node's outputs.
 pub fn run_at_once(table: &mut Table, node: NodeSpec) -> Result<Reply, Refusal>
     requires { IsContext table.old }
     ensures comes { ComesTo (immediate table.old node) table.old table.new result }

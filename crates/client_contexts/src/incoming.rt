@@ -1,5 +1,5 @@
-//! Writes pictures to images. The samples are read into a block of the pool, which then swaps its
-//! memory with the image's block. In any case the block is given back.
+//! Writes pictures to images. The samples are read into a block of the pool. If all are read, this
+//! block swaps its memory with the image's block. The block is always given back to the pool.
 ghost use Rattle.std.specs.Prelude.{◌≡◌, length, Some, Ok, OnOk, IfOk, IfErr, OnErr};
 ghost use Rattle.vx_base.specs.Image.{ImageValue};
 ghost use Rattle.vx_base.specs.Picture.{PictureValue, IsPicture, Describes, values, samples_format};
@@ -79,8 +79,8 @@ pub fn write_text(
     written
 }
 
-/// Takes a block for the samples of a picture, with any contents. If there is no memory for it,
-/// drops the free blocks and tries once more.
+/// Takes a block for the samples of a picture, with any contents. If there is no memory for the
+/// block, drops the free blocks and tries once more.
 fn take_block(pool: &mut Pool, desc: Desc) -> Result<Block, AllocError>
     ensures described { IfOk result (Describes desc) }
     ensures lends { OnOk result (Lends pool.old pool.new desc.format) }
@@ -148,8 +148,8 @@ fn give_text(
     Ok(Reply::Empty)
 }
 
-/// Writes the samples of a block to an image, which is then wholly valid. The block gets the
-/// image's memory.
+/// Swaps the memory of a block with that of an image. The image then has the block's samples, and
+/// all of it is valid.
 fn exchange(table: &mut Table, reference: ObjRef, desc: Desc, block: &mut Block)
     requires context { IsContext table.old }
     requires image { IsImageFor table.old.objects reference desc }

@@ -1,4 +1,5 @@
-//! Verified graphs, which are kept until their nodes change.
+//! The cache of verified graphs. A graph stays in the cache until its nodes change or its name is
+//! released.
 ghost use Rattle.std.specs.Prelude.{◌≡◌, ℕ, false, All};
 ghost use Rattle.client_model.specs.States.{changes_nodes};
 ghost use Rattle.client_contexts.specs.Kept.{ends_verification, forgotten_by, kept_within};
@@ -10,8 +11,8 @@ use graph_verify::Verified;
 use std::collections::BTreeMap;
 
 /// A verified graph: its nodes in order, the slots of its virtual images, and the schedule of a
-/// run. `work` is the quota of work bytes with which it was verified. It is valid until the graph's
-/// nodes change.
+/// run. `work` is the quota of work bytes with which the graph was verified. All fields are valid
+/// until the graph's nodes change.
 #[derive(Drop)]
 pub struct KeptGraph {
     pub work: u64,
@@ -20,7 +21,8 @@ pub struct KeptGraph {
     pub schedule: Schedule,
 }
 
-/// Drops what is kept of a graph whose nodes the request has changed, or whose name it has ended.
+/// Drops the cache entry of the graph whose nodes the request has changed, or whose name the
+/// request has released.
 pub fn forget(kept: &mut BTreeMap<u32, KeptGraph>, request: &Request)
     ensures forgotten { kept.new.entries ≡ forgotten_by request.now kept.old.entries }
     ensures stay { (name : ℕ) → ends_verification request.now name ≡ false →

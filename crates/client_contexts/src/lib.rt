@@ -1,23 +1,24 @@
 //! The clients of the server: their contexts, and the replies to their requests.
 //!
-//! `Runtime::apply` answers a request. The reply and the client's new state are those of the model.
-//! The states of other clients don't change. A request that finds no memory changes nothing. So no
-//! client can see or change another's objects.
+//! `Runtime::apply` answers a request. The reply and the client's new state are those of the model
+//! (`client_model`). A request that finds no memory changes nothing. The states of other clients
+//! don't change, so no client can see or change another client's objects.
 //!
-//! After a graph was verified or has run, it is kept as verified until its nodes change or it ends.
-//! As long as it is kept, VerifyGraph of it takes no memory.
+//! Each client has a cache of verified graphs. A graph enters the cache when it is verified or
+//! runs, and stays until its nodes change or its name or context is released. While a graph is in
+//! the cache, VerifyGraph of this graph takes no memory.
 //!
 //! More methods move samples without a copy: `write_from` reads a picture from a source,
-//! `write_text` from a PGM text, and `image` and `text_image` lend an image to a reader. They
-//! answer as `apply` would.
+//! `write_text` from a PGM text, and `image` and `text_image` lend an image to a reader. Their
+//! results are those of `apply`.
 //!
 //! Each client names its objects 1, 2, .. in the order in which it created them. It holds at most
 //! 1,024 objects, and its images are charged against its quota. Nodes read their inputs in place.
-//! An object that a node uses is held after its name has ended. A run of a graph allocates all its
-//! memory before it changes anything.
+//! An object that a node uses stays held after its name is released. A run of a graph allocates all
+//! its memory before it changes anything.
 //!
 //! - `memory`, `fault`: the faults of requests
-//! - `lookup`: finds the objects that references and the operands of nodes name
+//! - `lookup`: finds objects by reference, by name, and by the operands of a node
 //! - `room`: limits on new objects, and their insertion
 //! - `images`: creates, queries, writes and reads images, and sets valid rectangles
 //! - `objects`: releases objects of any kind
@@ -27,12 +28,13 @@
 //!   graphs
 //! - `immediate`: runs single nodes
 //! - `delays`: creates and ages delays
-//! - `kept`: verified graphs
+//! - `kept`: the cache of verified graphs
 //! - `source`, `incoming`: pictures that are read from a source or a text, into a block of the pool
-//! - `client`: a client's context, which answers all requests but those that open or release it
+//! - `client`: a client's context, which answers all requests except those that open or release a
+//!   context
 //! - `runtime`: all clients, the pool for the samples of their images, and opening and releasing
 //!   contexts
-//! - `laws`: as long as a graph is kept as verified, VerifyGraph of it finds memory
+//! - `laws`: VerifyGraph of a graph in the cache never fails for want of memory
 #![tactic(auto)]
 
 mod client;

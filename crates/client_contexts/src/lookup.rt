@@ -1,4 +1,4 @@
-//! Finds the objects that references and the operands of nodes name.
+//! Finds objects by reference, by name, and by the operands of a node.
 ghost use Rattle.std.specs.Prelude.{◌≡◌, ◌∷◌, [], is_some, Some, Ok, Err, IsTrue, All, IfOk, IfErr};
 ghost use Rattle.std.specs.Prelude.{OnOk};
 ghost use Rattle.std.specs.List.{list_any};
@@ -31,8 +31,8 @@ fn same_kind(wanted: Kind, kind: Kind) -> bool
     kind == wanted
 }
 
-/// Returns whether an object of this kind is there and can be used where another kind is wanted: a
-/// virtual image counts as an image.
+/// Returns whether a kind is given, and is accepted where the wanted kind is expected. A virtual
+/// image is accepted as an image.
 fn is_kind(wanted: Kind, kind: Option<Kind>) -> bool
     ensures { result ≡ is_kind wanted kind }
 {
@@ -43,7 +43,8 @@ fn is_kind(wanted: Kind, kind: Option<Kind>) -> bool
     }
 }
 
-/// Returns whether an object is a virtual image of another graph than the node's.
+/// Returns whether an object is outside a scope: a virtual image of a graph other than the scope's.
+/// Without a scope, no object is outside.
 fn is_outside(object: &Object, slot: Option<u8>, scope: Option<u32>) -> bool
     ensures { result ≡ is_outside scope (in_slot slot object.now) }
 {
@@ -53,7 +54,8 @@ fn is_outside(object: &Object, slot: Option<u8>, scope: Option<u32>) -> bool
     }
 }
 
-/// Returns the reason why an object, or the image in a slot of it, can't be used, if there is one.
+/// Returns the reason why an object, or the image in one of its slots, can't be used, if there is
+/// one.
 fn slot_refusal(
     object: &Object,
     slot: Option<u8>,
@@ -73,8 +75,8 @@ fn slot_refusal(
     }
 }
 
-/// Returns the object that a reference names, if its slot is there and of the wanted kind. In the
-/// scope of a graph, a virtual image must be one of that graph.
+/// Returns the object that a reference names, if the reference's slot exists and is of the wanted
+/// kind. In the scope of a graph, a virtual image must belong to that graph.
 pub fn find(
     table: &Table,
     reference: ObjRef,
@@ -94,7 +96,8 @@ pub fn find(
     }
 }
 
-/// Returns the object of this kind with a name.
+/// Returns the object with this name. Refused: the name isn't live, or its object is of another
+/// kind.
 pub fn find_named(table: &Table, name: u32, kind: Kind) -> Result<&Object, Refusal>
     ensures ok { IfOk result (λ object. IsNamed table.now.objects name kind object.now) }
     ensures err { refusal_in result ≡ name_refusal kind (object_named table.now.objects name) }
@@ -109,8 +112,7 @@ pub fn find_named(table: &Table, name: u32, kind: Kind) -> Result<&Object, Refus
     }
 }
 
-/// Returns the image that a reference names. It is refused if the image is virtual, and so has no
-/// samples.
+/// Returns the image that a reference names. A virtual image is refused, since it has no samples.
 pub fn find_image(table: &Table, reference: ObjRef) -> Result<&Stored, Refusal>
     ensures ok { IfOk result (λ image. IsImageOf table.now.objects reference image.now) }
     ensures err { IfErr result (λ refusal. image_of table.now.objects reference ≡ Err refusal) }
@@ -123,7 +125,7 @@ pub fn find_image(table: &Table, reference: ObjRef) -> Result<&Stored, Refusal>
 }
 
 /// Returns the operand that a reference of a node names. `kind` is the kind that the node's
-/// function takes there.
+/// function expects.
 fn find_operand(
     table: &Table,
     cell: ObjRef,
@@ -141,7 +143,8 @@ fn find_operand(
     }
 }
 
-/// Returns the same for a reference that may be left out.
+/// Returns the operand that a reference of a node names, as `find_operand` does, or `None` if the
+/// node has no such reference.
 fn find_if_given(
     table: &Table,
     cell: Option<ObjRef>,
@@ -160,8 +163,8 @@ fn find_if_given(
     }
 }
 
-/// Returns the refusal of the earlier class. The classes in order are names, kinds, scopes and
-/// slots.
+/// Returns that of two refusals whose class comes first. The order of the classes is: names, kinds,
+/// scopes, slots.
 fn first_class(one: Refusal, other: Refusal) -> Refusal
     ensures { Some result ≡ first_class (Some one) (Some other) }
 {
@@ -175,7 +178,7 @@ fn first_class(one: Refusal, other: Refusal) -> Refusal
     }
 }
 
-/// Returns both results, or the refusal of the earlier class.
+/// Returns both values. If both results are refusals, returns the one whose class comes first.
 fn both<A: Drop, B: Drop>(
     one: Result<A, Refusal>,
     other: Result<B, Refusal>,
@@ -190,8 +193,8 @@ fn both<A: Drop, B: Drop>(
     }
 }
 
-/// Returns a node's operands, each of the kind that the node's function takes there. The scope is
-/// that of the node's graph, if it has one.
+/// Returns a node's operands, each of the kind that the node's function expects. `scope` is the
+/// node's graph, or `None` for an immediate node.
 pub fn find_operands(table: &Table, node: &Node, scope: Option<u32>) -> Result<Operands, Refusal>
     ensures ok { IfOk result (λ found. found
         ≡ operands_of (operand_held table.now.objects) node.now) }
@@ -213,8 +216,8 @@ pub fn find_operands(table: &Table, node: &Node, scope: Option<u32>) -> Result<O
     })
 }
 
-/// Checks that a node with these operands can be added to a graph: each of them is found in the
-/// graph's scope. Of several refusals, the one of the earliest class is returned.
+/// Checks that a node can be added to a graph: the graph exists, and each operand of the node is
+/// found in the graph's scope. Of several refusals, the one whose class comes first is returned.
 pub fn find_graph_for(table: &Table, graph: u32, node: &Node) -> Result<(), Refusal>
     ensures ok { OnOk result (IsTrue (is_some (object_named table.now.objects graph)) ×
         IsUnder table.now.objects kind.Graph graph) }

@@ -1,4 +1,4 @@
-//! Requests on objects of any kind: releasing them.
+//! Requests that release objects of any kind.
 ghost use Rattle.object_table.specs.Blocks.{blocks_in, LendsAtLeast, Balances};
 ghost use Rattle.client_model.specs.Objects.{release};
 ghost use Rattle.client_contexts.specs.Steps.{ComesTo, IsContext, Keeps};
@@ -7,8 +7,8 @@ use client_model::{Refusal, Reply};
 use object_table::Table;
 use pixel_pool::Pool;
 
-/// Ends an object's name. Unless a node uses the object, it is dropped and its blocks are given
-/// back. A graph's nodes are dropped with the graph.
+/// Releases an object's name. Unless a node uses the object, the object is dropped and its blocks
+/// are given back to the pool. A graph's nodes are dropped with the graph.
 pub fn release(table: &mut Table, pool: &mut Pool, name: u32) -> Result<Reply, Refusal>
     requires context { IsContext table.old }
     requires owns { LendsAtLeast pool.old (blocks_in table.old.objects) }

@@ -18,9 +18,9 @@ use client_model::{Limits, Refusal, Reply};
 use object_table::{InsertFault, Object, Table};
 use pixel_pool::Pool;
 
-/// Checks that a client can hold one more object that is charged `bytes`: at most the size of 16 of
-/// the largest images. `NoResources`: no name is left, 1,024 objects are held, or the quota would
-/// be exceeded.
+/// Checks that a client can hold one more object that is charged `bytes`. The caller's `bytes` are
+/// at most those of 16 images of the greatest size. `NoResources`: all names are used, 1,024
+/// objects are held, or the quota would be exceeded.
 pub fn look_for_room(table: &Table, limits: Limits, bytes: usize) -> Result<(), Refusal>
     requires { bytes ≤ GREATEST_SLOTS * GREATEST_BYTES }
     ensures { result ≡ (if has_capacity limits table.now bytes then Ok tt else Err NoResources) }
@@ -51,7 +51,7 @@ pub fn hold(table: &mut Table, limits: Limits, object: Object) -> Result<Reply, 
 }
 
 /// Adds a new image or delay. The caller has checked the limits. The reply has the object's name.
-/// If there is no memory for it, its blocks go back to the pool.
+/// If there is no memory for the object, its blocks go back to the pool.
 pub fn hold_images(
     table: &mut Table,
     pool: &mut Pool,

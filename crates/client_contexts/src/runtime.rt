@@ -34,8 +34,8 @@ use std::collections::BTreeMap;
 use std::marker::Model;
 use vx_base::{Code, Desc, Format, ObjRef};
 
-/// The contexts of the clients, at most one each, the pool whose blocks hold the samples of their
-/// images, and the lists with which their graphs run.
+/// The open contexts, at most one for each client; the pool whose blocks hold the samples of the
+/// clients' images; and the lists that runs of graphs reuse.
 #[derive(Drop)]
 pub struct Runtime {
     alloc: Global,
@@ -70,8 +70,8 @@ impl Runtime {
         }
     }
 
-    /// Returns the number of lent blocks of a format. They hold the samples of the clients' images,
-    /// and nothing else.
+    /// Returns the number of lent blocks of a format. Lent blocks hold the samples of the clients'
+    /// images, and nothing else.
     pub fn lent(&self, format: Format) -> usize
         ensures { result ≡ clients_blocks self.now.contexts format }
     {
@@ -85,10 +85,10 @@ impl Runtime {
         self.pool.blocks(format)
     }
 
-    /// Returns what is kept of a client's graph, if anything: its verification, the slots of its
-    /// virtual images and the schedule of its runs, all for the nodes that the graph has now.
-    /// VerifyGraph and ProcessGraph keep them when they succeed. They are dropped when the graph's
-    /// nodes change or the graph ends.
+    /// Returns the cache entry of a client's graph, if there is one: the verification, the slots of
+    /// the virtual images and the schedule of a run, all for the graph's current nodes. A
+    /// VerifyGraph or ProcessGraph that succeeds makes the entry. The entry is dropped when the
+    /// graph's nodes change, or its name or context is released.
     pub fn kept(&self, client: u16, graph: u32) -> Option<&KeptGraph>
         ensures holds { IfSome result (λ kept. (context : Context) ×
             (state_of client self.now ≡ Some context) × IsKept context graph kept.now) }
@@ -105,8 +105,8 @@ impl Runtime {
         self.pool.drop_free();
     }
 
-    /// Returns the result of `ask`. If it finds no memory, drops the free blocks and calls it once
-    /// more.
+    /// Returns the result of `ask`. If `ask` finds no memory, drops the free blocks and calls `ask`
+    /// once more.
     pub fn ask_again<T: Drop, F: Fn() -> Result<T, NoMemory> + Drop>(
         &mut self,
         ask: F,
@@ -133,10 +133,10 @@ impl Runtime {
 
     /// Answers a request of a client. Samples in a reply are allocated with `alloc`.
     ///
-    /// The result is `NoMemory` only if an allocation failed; then no state is changed. After a
-    /// graph was verified or has run, it is kept as verified until its nodes change or it ends. As
-    /// long as it is kept, VerifyGraph of it takes no memory. Free blocks above the limit are
-    /// dropped at the end.
+    /// The result is `NoMemory` only if an allocation failed; then no state is changed. A graph
+    /// that was verified or has run stays in the client's cache until its nodes change, or its name
+    /// or context is released. While a graph is in the cache, VerifyGraph of this graph takes no
+    /// memory. At the end, free blocks above the limit are dropped.
     pub fn apply(
         &mut self,
         alloc: Global,
@@ -151,8 +151,8 @@ impl Runtime {
         result
     }
 
-    /// Answers a request of a client, as `apply` does. If it finds no memory, drops the free blocks
-    /// and tries once more.
+    /// Answers a request of a client, as `apply` does. If the request finds no memory, drops the
+    /// free blocks and tries once more.
     fn answer_or_again(
         &mut self,
         alloc: Global,
@@ -193,8 +193,8 @@ impl Runtime {
         }
     }
 
-    /// Writes a picture of this description to an image of a client. Its samples are read from the
-    /// source into the block that the image has from then on. If a picture of this description is
+    /// Writes a picture of this description to an image of a client. The samples are read from the
+    /// source into memory that the image then takes over. If a picture of this description is
     /// refused or there is no memory for it, nothing is read.
     pub fn write_from<F: FillsSamples>(
         &mut self,
@@ -240,9 +240,9 @@ impl Runtime {
         held.write_from(&mut self.pool, reference, desc, source)
     }
 
-    /// Writes the picture of a PGM text to an image of a client. Its samples are read from the text
-    /// into the block that the image has from then on. The result is `NoMemory` only if an
-    /// allocation failed; then nothing is changed.
+    /// Writes the picture of a PGM text to an image of a client. The samples are read from the text
+    /// into memory that the image then takes over. The result is `NoMemory` only if an allocation
+    /// failed; then nothing is changed.
     pub fn write_text(
         &mut self,
         client: u16,
@@ -281,8 +281,8 @@ impl Runtime {
         }
     }
 
-    /// Returns the image that a client's reference names, as ReadImage finds it, or the code of
-    /// ReadImage's reply.
+    /// Returns the image that a client's reference names, as ReadImage finds it, or the code with
+    /// which ReadImage is refused.
     pub fn image(&self, client: u16, reference: ObjRef) -> Result<&Stored, Code>
         ensures ok { IfOk result (λ image. IsAnswered client (ReadImage reference) self.now
             (replies.Picture (picture_of image.now))) }
@@ -300,7 +300,7 @@ impl Runtime {
     }
 
     /// Returns the U8 image that a client's reference names, as ReadImagePgm finds it, or the code
-    /// of ReadImagePgm's reply.
+    /// with which ReadImagePgm is refused.
     pub fn text_image(&self, client: u16, reference: ObjRef) -> Result<&Stored, Code>
         ensures ok { IfOk result (λ image. IsAnswered client (ReadImagePgm reference) self.now
             (replies.Text (pgm_text (picture_of image.now)))) }
@@ -318,8 +318,8 @@ impl Runtime {
         }
     }
 
-    /// Releases the context of a client, if it has one. All its objects are dropped, and the blocks
-    /// of its images become free.
+    /// Releases the context of a client, if the client has one. Drops all objects of the context,
+    /// and gives the blocks of their images back to the pool.
     fn release_context(&mut self, client: u16) -> Reply
         ensures applies { Applies client ReleaseContext self.old self.new (Ok result) }
         ensures kept { AppliesToKept client ReleaseContext self.old self.new (Ok result) }

@@ -1,4 +1,4 @@
-//! Sources of the samples of pictures that are written to images.
+//! Sources of samples for pictures that are written to images.
 use client_model::Refusal;
 use std::alloc::AllocError;
 use vx_base::{Code, Samples};
@@ -15,11 +15,12 @@ pub trait FillsSamples {
     /// The source can be read.
     ghost can_fill: { Self → Type 0 };
 
-    /// The effect of a call of `fill`: the source before and after, the format of the samples, the
-    /// samples after, and the result.
+    /// The effect of a call of `fill`, as a relation of the source before and after, the format of
+    /// the samples, the samples after, and the result.
     ghost fills: { Self → Self → Format → List ℤ → Result ⊤ Self.Fault → Type 0 };
 
-    /// Replaces all samples with samples from the source. After a fault they may be anything.
+    /// Replaces all samples with samples from the source. After a fault the samples may have any
+    /// values.
     fn fill(&mut self, samples: &mut Samples) -> Result<(), Self::Fault>
         requires { can_fill self.old }
         ensures fills { fills self.old self.new

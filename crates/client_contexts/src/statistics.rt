@@ -1,4 +1,4 @@
-//! Requests on distributions and extremes: creating and reading them.
+//! Requests that create and read distributions and extremes.
 ghost use Rattle.vx_base.specs.Object.{DistributionObject, ExtremesObject, new_distribution};
 ghost use Rattle.vx_base.specs.Object.{no_extremes};
 ghost use Rattle.client_model.specs.Images.{create};
@@ -68,8 +68,8 @@ pub fn create_min_max(table: &mut Table, limits: Limits) -> Result<Reply, Reques
     hold(table, limits, Object::new(Content::Extremes(extremes)))
 }
 
-/// Returns the extremes with this name. It is refused if the client holds no object of this name,
-/// or one of another kind.
+/// Returns the extremes with this name. Refused: the name isn't live, or its object is of another
+/// kind.
 pub fn read_min_max(table: &Table, name: u32) -> Result<Reply, Refusal>
     ensures { ComesTo (read_min_max table.now name) table.now table.now result }
 {

@@ -29,11 +29,11 @@ pub fn what_verifies_runs()
         ≡ (answer_to limits state (VerifyGraph name)).0 }
 {}
 
-/// A successful ProcessGraph leaves the only solution of the graph. At the end of the run, each
-/// image, distribution and extremes that a node writes is the result of the node's function on its
-/// inputs as they are then. This includes virtual images. Everything else is unchanged. After the
-/// run, virtual images have no samples again, and the delays that are registered with the graph
-/// age.
+/// A successful ProcessGraph leaves the only solution of the graph. In the solution, each image,
+/// distribution and extremes that a node writes is the result of the node's function. The
+/// function's arguments are the node's inputs at the end of the run. This includes virtual images.
+/// All other objects are unchanged. After the run, virtual images have no samples again, and the
+/// delays that are registered with the graph age.
 pub fn a_run_is_the_only_solution()
     ensures { (limits : LimitsValue) (c later : Context) (name : ℕ) → KeepsLimits limits c →
         answer_to limits (Some c) (ProcessGraph name) ≡ (Empty, Some later) →
@@ -43,10 +43,12 @@ pub fn a_run_is_the_only_solution()
 /// What each reference names after a successful ProcessGraph:
 ///
 /// - `written`: the outputs of a node are the results of its function. The function's arguments are
-///   the node's inputs after the run and, if it adds to an output, that output before the run. The
-///   law covers nodes that name no virtual image and no delay that ages with the graph.
-/// - `others`: an object that no node writes is unchanged. The law covers slots of delays that
-///   don't age with the graph; a delay as a whole changes when one of its slots is written.
+///   the node's inputs after the run. A function that adds to an output also takes that output as
+///   it was before the run. The law covers nodes that name no virtual image and no delay that ages
+///   with the graph.
+/// - `others`: an object that no node writes is unchanged. The law covers a slot of a delay, if the
+///   delay doesn't age with the graph. The law doesn't cover whole delays, since a delay changes
+///   when one of its slots is written.
 /// - `virtual_images`: a virtual image is unchanged.
 pub fn what_a_run_leaves()
     ensures written { (limits : LimitsValue) (c later : Context) (name : ℕ) (graph : GraphValue)

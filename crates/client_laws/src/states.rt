@@ -24,10 +24,11 @@ ghost use Rattle.client_model.specs.Graphs.{graph_named, graph_verdict};
 ghost use Rattle.client_model.specs.States.{KeepsLimits, state_after};
 ghost use Rattle.client_model.specs.States.{IsLater, Stays, changes_nodes};
 
-/// The invariant of every context that a client reaches by requests, beginning without a context.
+/// Every context that a client reaches by requests, beginning without a context, has this
+/// invariant:
 ///
 /// - Each object is valid: an image has samples of its format, and 0 outside its valid rectangle.
-/// - Names are distinct and below the next one, which is at most 2^32.
+/// - Names are distinct and below the next name, which is at most 2^32.
 /// - Each object has a live name or is used by a node, and nodes still find their operands.
 /// - At most 1,024 objects are held, and their charge is at most the quota.
 pub fn limits_are_kept()
@@ -36,14 +37,14 @@ pub fn limits_are_kept()
 {}
 
 /// As long as an object is held, no request of its client except ReleaseContext changes its
-/// skeleton: its kind, sizes, formats, slots and bins. The skeleton of a table, a threshold, a
-/// matrix or a virtual image is the whole object. A graph keeps its nodes until one is added or
-/// removed. It follows that:
+/// skeleton: its kind, sizes, formats, slots and bins. The skeleton of a lookup table, a threshold,
+/// a convolution or a virtual image is the whole object. A graph keeps its nodes until a node is
+/// added or removed. It follows that:
 ///
 /// - while an object is held under a name, references to that name denote the same operand
-/// - the verdict on a graph is the same until a node is added to it or removed from it
+/// - the verdict on a graph is the same until the graph's nodes change
 /// - a verified graph can still run, in the same order and with the same descriptions, until its
-///   nodes change or it is dropped
+///   nodes change or the graph is dropped
 pub fn what_is_held_stays()
     ensures after_one { (limits : LimitsValue) (c later : Context) (request : Request) (name : ℕ) →
         KeepsLimits limits c → IsRequest request →

@@ -49,12 +49,13 @@ outcome_of limits c (CreateDelay cell slots) = create_delay limits c cell slots
 outcome_of limits c (AgeDelay name) = age_delay c name
 outcome_of limits c (RegisterAutoAging graph delay) = register_auto_aging c graph delay
 
--- the reply to a client with a context, and its new state, which a refusal leaves as it is
+-- the reply to a client with a context, and the client's new state; a refusal leaves the state
+-- unchanged
 abbrev pub reply_and_state : Context → Outcome → Reply × State
 reply_and_state c (Ok done) = done
 reply_and_state c (Err refusal) = (Refused (refusal_code refusal), Some c)
 
--- the reply to a client without a context, and its new state
+-- the reply to a client without a context, and the client's new state
 abbrev pub answer_without : Request → Reply × State
 answer_without OpenContext = (Empty, Some new_context)
 answer_without other = (Refused code.InvalidReference, None)

@@ -3,10 +3,11 @@ use Rattle.std.specs.Prelude.{ℕ, ◌+◌, Bool, ◌&&◌, nat_le, Option}
 use Rattle.object_table.specs.Context.{Context, charge_of, can_insert}
 use Rattle.client_model.specs.Limits.{LimitsValue}
 
--- no context, or the client's open one
+-- a client's state: no context, or the open context
 abbrev pub State : Type 0
 State = Option Context
 
--- whether an object that is charged `bytes` can be created: one more object can be held, and the quota allows it
+-- whether an object that is charged `bytes` can be created: one more object can be held, and the
+-- total charge stays within the quota
 abbrev pub has_capacity : LimitsValue → Context → ℕ → Bool
 has_capacity limits c bytes = can_insert c && nat_le (charge_of c.objects + bytes) limits.quota

@@ -28,7 +28,7 @@ use Rattle.client_model.specs.Images.{create}
 use Rattle.client_model.specs.Operands.{operands_refusal}
 use Rattle.client_model.specs.Refusal.{Outcome, refused_or, reply_unless}
 
--- the graph that an object is, or the refusal
+-- an object as a graph, or the refusal
 abbrev pub as_graph : Option ObjectValue → Result GraphValue Refusal
 as_graph None = Err InvalidReference
 as_graph (Some (GraphObject graph)) = Ok graph
@@ -47,7 +47,7 @@ create_virtual_in (Ok graph) limits c name declared = create limits c (VirtualOb
 abbrev pub create_virtual_image : LimitsValue → Context → ℕ → PartialDescription → Outcome
 create_virtual_image limits c name declared = create_virtual_in (graph_named c.objects name) limits c name declared
 
--- the graph with one more node, under its next number; or the refusal
+-- the graph with one more node, under the graph's next number; or the refusal
 abbrev pub add_to : Result GraphValue Refusal → Context → ℕ → Node → Outcome
 add_to (Err refusal) c name n = Err refusal
 add_to (Ok graph) c name n =
@@ -82,7 +82,8 @@ verify_found (Ok graph) limits c = reply_unless (option_map Rejected (graph_verd
 abbrev pub verify_graph : LimitsValue → Context → ℕ → Outcome
 verify_graph limits c name = verify_found (graph_named c.objects name) limits c
 
--- the reply for the verdict on a graph, and the objects after its run and the aging; or the refusal
+-- the reply for the verdict on a graph; the objects after the graph's run, with the delays
+-- registered with the graph aged; or the refusal
 abbrev pub process_found : Result GraphValue Refusal → LimitsValue → Context → Outcome
 process_found (Err refusal) limits c = Err refusal
 process_found (Ok graph) limits c =
@@ -90,6 +91,7 @@ process_found (Ok graph) limits c =
     reply_unless (option_map Rejected (graph_verdict limits c.objects graph)) Empty
     (with_objects c (aged_under graph.delays (run_of_graph (resolved_operand (operand_held c.objects) nodes) nodes c.objects)))
 
--- ProcessGraph: the verdict on the graph; if it is valid, the graph runs, and then the delays that are registered with it age
+-- ProcessGraph: the verdict on the graph; a valid graph runs, and then the delays that are
+-- registered with the graph age
 abbrev pub process_graph : LimitsValue → Context → ℕ → Outcome
 process_graph limits c name = process_found (graph_named c.objects name) limits c

@@ -27,7 +27,7 @@ use Rattle.object_table.specs.Context.{Context, with_new, with_objects}
 use Rattle.client_model.specs.Refusal.{Outcome, reply_unless}
 use Rattle.client_model.specs.Operands.{is_unknown, is_of_other_kind, image_of}
 
--- a create: the object gets the next name
+-- the creation of an object under the next name; refused if the limits don't allow it
 abbrev pub create : LimitsValue → Context → ObjectValue → Outcome
 create limits c object = if has_capacity limits c (object_bytes object) then Ok (Name c.next, Some (with_new c object)) else Err NoResources
 
@@ -43,7 +43,7 @@ described_image image = record { format = Some image.format; width = image.width
 abbrev pub described_virtual : PartialDescription → Described
 described_virtual declared = record { format = declared.format; width = unwrap_or declared.width 0; height = unwrap_or declared.height 0; valid = empty_rectangle }
 
--- the description that QueryImage returns for an object; a refusal if it isn't an image
+-- the description that QueryImage returns for an object; a refusal if the object isn't an image
 abbrev pub as_described : Option ObjectValue → Result Described Refusal
 as_described (Some (ImageObject image)) = Ok (described_image image)
 as_described (Some (VirtualObject image)) = Ok (described_virtual image.declared)
@@ -70,7 +70,7 @@ picture_refusal image picture =
     if not (same_format image.format picture.format) then Some InvalidFormat
     else (if same_size image picture then None else Some InvalidDimension)
 
--- the image with the samples of a picture of its format and size, or the refusal
+-- the image with the samples of a picture of the same format and size, or the refusal
 abbrev pub write_to : Result ImageValue Refusal → Context → Reference → PictureValue → Outcome
 write_to (Err refusal) c cell p = Err refusal
 write_to (Ok image) c cell p =
@@ -86,7 +86,8 @@ fault_refusal fault.InvalidDimension = InvalidDimension
 fault_refusal fault.InvalidValue = InvalidValue
 fault_refusal other = InvalidFormat
 
--- the image with the samples of a text's picture; or the refusal of the image, of the text or of the picture
+-- the image with the samples of a text's picture; or the refusal: of the image's reference, else of
+-- the text, else of the picture
 abbrev pub write_text_to : Result ImageValue Refusal → Context → Reference → Result PictureValue PgmFault → Outcome
 write_text_to (Err refusal) c cell picture = Err refusal
 write_text_to (Ok image) c cell (Err fault) = Err (fault_refusal fault)
@@ -118,12 +119,12 @@ read_text c cell = read_text_from (image_of c.objects cell) c
 abbrev pub valid_refusal : Description → Rectangle → Option Refusal
 valid_refusal image valid = if nat_le valid.x1 image.width && nat_le valid.y1 image.height then None else Some InvalidValue
 
--- the image with this valid rectangle, if that is within it, or the refusal
+-- the image with this valid rectangle, if the rectangle is within the image; or the refusal
 abbrev pub set_valid_of : Result ImageValue Refusal → Context → Reference → Rectangle → Outcome
 set_valid_of (Err refusal) c cell valid = Err refusal
 set_valid_of (Ok image) c cell valid =
     reply_unless (valid_refusal (description_of image) valid) Empty (with_objects c (with_object c.objects cell (ImageObject (with_valid valid image))))
 
--- SetValid: the image with this valid rectangle, and 0 outside it
+-- SetValid: the image with this valid rectangle, and with samples of 0 outside the rectangle
 abbrev pub set_valid : Context → Reference → Rectangle → Outcome
 set_valid c cell valid = set_valid_of (image_of c.objects cell) c cell valid

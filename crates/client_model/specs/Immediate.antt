@@ -38,12 +38,13 @@ abbrev pub is_some_virtual : Option ObjectValue → Bool
 is_some_virtual (Some object) = is_virtual_object object
 is_some_virtual None = false
 
--- the refusal of a node that names a virtual image: a node by itself can't have one
+-- the refusal of an immediate node that names a virtual image
 abbrev pub away_refusal : List NamedObject → Node → Option Refusal
 away_refusal objects n =
     if list_any (λ operand. is_some_virtual (object_at objects operand.0)) (operands n) then Some OptimizedAway else None
 
--- the refusal of a node by itself: first of its operands, then of virtual images, then the verdict on the graph of this node alone
+-- the refusal of an immediate node: that of its operands, else that of virtual images, else the
+-- verdict on the node
 abbrev pub node_refusal : List NamedObject → Node → Option Refusal
 node_refusal objects n =
     option_or (operands_refusal None objects (operands n))

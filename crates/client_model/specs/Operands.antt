@@ -17,7 +17,7 @@ use Rattle.client_model.specs.declared.refusal.Refusal.TheVariants.{InvalidRefer
 abbrev pub is_unknown : List NamedObject → Reference → Bool
 is_unknown objects cell = is_none (object_named objects cell.name)
 
--- the kind that a reference has: that of its object, or an image for a slot of a delay
+-- the kind of a reference: the kind of the named object, or Image for a slot of a delay
 abbrev pub kind_of : List NamedObject → Reference → Option Kind
 kind_of objects cell = option_and_then (slot_kind cell.slot) (object_named objects cell.name)
 
@@ -26,7 +26,7 @@ abbrev pub stands_for : Kind → Kind → Bool
 stands_for kind.VirtualImage kind.Image = true
 stands_for kind wanted = same_kind wanted kind
 
--- whether a reference has a kind that is accepted as the expected one
+-- whether a kind is given, and is accepted as the expected one
 abbrev pub is_kind : Kind → Option Kind → Bool
 is_kind wanted None = false
 is_kind wanted (Some kind) = stands_for kind wanted
@@ -44,13 +44,14 @@ abbrev pub is_of_other_graph : ℕ → Option ObjectValue → Bool
 is_of_other_graph graph (Some (VirtualObject image)) = not (image.graph == graph)
 is_of_other_graph graph other = false
 
--- whether a reference in a node of this graph is out of the graph's scope; a node by itself has no scope
+-- whether a reference in a node of this graph is out of the graph's scope; an immediate node has no
+-- scope
 abbrev pub is_beyond : Option ℕ → List NamedObject → Reference → Bool
 is_beyond None objects cell = false
 is_beyond (Some graph) objects cell = is_of_other_graph graph (object_at objects cell)
 
--- the first refusal of a list of references with their expected kinds: the names of all are checked first, then all kinds, all scopes
--- and all slots
+-- the first refusal of a list of references with their expected kinds: all names are checked first,
+-- then all kinds, then all scopes, then all slots
 abbrev pub operands_refusal : Option ℕ → List NamedObject → List (Reference × Kind) → Option Refusal
 operands_refusal scope objects operands =
     if list_any (λ operand. is_unknown objects operand.0) operands then Some InvalidReference
@@ -58,13 +59,13 @@ operands_refusal scope objects operands =
     else (if list_any (λ operand. is_beyond scope objects operand.0) operands then Some InvalidScope
     else (if list_any (λ operand. holds_nothing objects operand.0) operands then Some InvalidValue else None)))
 
--- the image that an object is, or the refusal of a slot that doesn't exist or of a virtual image
+-- an object as an image; or the refusal of a virtual image, or of a slot that doesn't exist
 abbrev pub as_image : Option ObjectValue → Result ImageValue Refusal
 as_image (Some (ImageObject image)) = Ok image
 as_image (Some (VirtualObject image)) = Err OptimizedAway
 as_image other = Err InvalidValue
 
--- the image that a reference names, or why it names none
+-- the image that a reference names, or the refusal
 abbrev pub image_of : List NamedObject → Reference → Result ImageValue Refusal
 image_of objects cell =
     if is_unknown objects cell then Err InvalidReference

@@ -20,17 +20,19 @@ use Rattle.client_model.specs.Request.{IsRequest}
 use Rattle.client_model.specs.Answer.{answer_to}
 use Rattle.object_table.specs.declared.table.TheConstants.{GREATEST_OBJECTS}
 
--- the kind of a reference in a node, whether its name is still live or not
+-- the kind of a reference in a node, whether the reference's name is still live or not
 abbrev pub kind_held : List NamedObject → Reference → Option Kind
 kind_held objects cell = option_and_then (slot_kind cell.slot) (object_held objects cell.name)
 
--- whether a reference in a node of this graph still names an operand that the node's function accepts there
+-- whether a reference in a node of this graph still names an operand of the expected kind, in the
+-- graph's scope
 abbrev pub holds_operand : List NamedObject → ℕ → Reference × Kind → Bool
 holds_operand objects graph operand =
     is_kind operand.1 (kind_held objects operand.0)
     && (not (is_of_other_graph graph (object_in_cell objects operand.0)) && not (holds_nothing objects operand.0))
 
--- each reference in a graph's nodes still names an operand that the node's function accepts there
+-- each reference in a graph's nodes still names an operand of the expected kind, in the graph's
+-- scope
 abbrev pub NodesStand : List NamedObject → NamedObject → Type 0
 NodesStand objects o = All (λ n. All (λ operand. IsTrue (holds_operand objects o.name operand)) (operands n)) (nodes_in o.object)
 
@@ -60,11 +62,12 @@ pub record IsLater (limits : LimitsValue) (c : Context) (requests : List Request
   pub unreleased : All (λ request. request ≢ ReleaseContext) requests
   pub state : state_after limits (Some c) requests ≡ Some later
 
--- the object that is now held under a name was held under it before, and this part of it has not changed
+-- if an object is held under a name afterwards, it was held before, and this part of it is
+-- unchanged
 abbrev pub Stays : {X : Type 0} → (ObjectValue → X) → List NamedObject → List NamedObject → ℕ → Type 0
 Stays part before after name = IfSome (object_held after name) (λ object. option_map part (object_held before name) ≡ Some (part object))
 
--- whether a request changes the nodes of the graph of this name, unless it is refused
+-- whether a request, unless it is refused, changes the nodes of the graph with this name
 abbrev pub changes_nodes : Request → ℕ → Bool
 changes_nodes (AddNode graph node) name = graph == name
 changes_nodes (RemoveNode graph number) name = graph == name

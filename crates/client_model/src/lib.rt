@@ -1,8 +1,9 @@
-//! Requests and replies, and what they mean.
+//! Requests, replies and their meaning.
 //!
 //! A client's objects are named 1, 2, .. in the order in which it creates them. `specs/Answer.antt`
 //! defines the reply to a request in any state of the client, and the client's new state. The
-//! crates above are proved against it. Nothing here depends on how objects are stored.
+//! crates above are proved against this definition. Nothing in this crate depends on how objects
+//! are stored.
 //!
 //! - `request`: what a client can ask for
 //! - `reply`, `text`, `counts`: replies and their parts

@@ -15,8 +15,8 @@ pub enum Refusal {
     /// The client has a context already, the delay has no such slot, a rectangle goes beyond the
     /// image, or a PGM text has a sample above its maxval.
     InvalidValue,
-    /// A picture has another format than the image, the image isn't U8, or the text isn't a PGM
-    /// text.
+    /// A picture has another format than the image, an image that is read as a PGM text isn't U8,
+    /// or a text that is written isn't a PGM text.
     InvalidFormat,
     /// A picture has another size than the image, or a side that a PGM text states isn't 1 to 8192.
     InvalidDimension,
@@ -24,10 +24,10 @@ pub enum Refusal {
     InvalidScope,
     /// A virtual image has no samples that a client can access.
     OptimizedAway,
-    /// No name is left, 1,024 objects are held, the object would exceed the quota, or the graph
-    /// can't take another node.
+    /// All names are used, 1,024 objects are held, a new object would exceed the quota, or the
+    /// graph can't take another node.
     NoResources,
-    /// The graph is invalid; the verdict says why.
+    /// A graph, or the node of an Immediate, can't run. The verdict says why.
     Rejected(Verdict),
 }
 

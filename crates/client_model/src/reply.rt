@@ -7,7 +7,7 @@ use vx_base::{Code, Extremes, Format, Picture, Rect};
 /// rectangle.
 #[derive(Clone, Copy, PartialEq, Eq, Debug)]
 pub struct Described {
-    /// `None` where the format of a virtual image is open. An open width or height is 0.
+    /// `None` if the format of a virtual image is open. An open width or height is 0.
     pub format: Option<Format>,
     pub width: u16,
     pub height: u16,
@@ -17,7 +17,7 @@ pub struct Described {
 /// The reply to a request.
 #[derive(Debug, Drop)]
 pub enum Reply {
-    /// The request has changed nothing; the code says why.
+    /// The request was refused with this code, and has changed nothing.
     Refused(Code),
     /// The request succeeded, and has no result.
     Empty,
@@ -33,6 +33,6 @@ pub enum Reply {
     Text(Text),
     /// How many samples fell into each bin of a distribution.
     Counts(Counts),
-    /// The least and the greatest sample of an image.
+    /// The least and the greatest sample of an image, with the count and the first pixel of each.
     Extremes(Extremes),
 }

@@ -27,9 +27,9 @@ pub enum Request {
     ReadImage(ObjRef),
     /// Asks for all samples of a U8 image, as a PGM text.
     ReadImagePgm(ObjRef),
-    /// Sets the valid rectangle of an image, and the samples outside it to 0.
+    /// Sets the valid rectangle of an image, and the samples outside the rectangle to 0.
     SetValid(ObjRef, Rect),
-    /// Releases a name. Its object is dropped once no node uses it.
+    /// Releases the name of an object. The object is dropped once no node uses it.
     Release(u32),
     /// Creates a lookup table.
     CreateLut(Lut),
@@ -41,14 +41,14 @@ pub enum Request {
     CreateDistribution(Bins),
     /// Asks for the counts of the distribution with this name.
     ReadDistribution(u32),
-    /// Creates extremes, which are empty until a node or an immediate request writes them.
+    /// Creates extremes. All their numbers are 0 until a node writes them.
     CreateMinMax,
     /// Asks for the extremes with this name.
     ReadMinMax(u32),
     /// Creates a graph without nodes.
     CreateGraph,
-    /// Creates a virtual image of the graph with this name. Its width, height and format may be
-    /// open.
+    /// Creates a virtual image of the graph with this name. The image's width, height and format
+    /// may be open.
     CreateVirtualImage(u32, PartialDesc),
     /// Adds a node to the graph with this name.
     AddNode(u32, NodeSpec),
@@ -56,24 +56,25 @@ pub enum Request {
     RemoveNode(u32, u32),
     /// Asks for the verdict on the graph with this name.
     VerifyGraph(u32),
-    /// Runs the graph with this name, if it is valid.
+    /// Runs the graph with this name, if the graph is valid. Delays that are registered with the
+    /// graph then age.
     ProcessGraph(u32),
     /// Runs one node by itself (immediate mode).
     Immediate(NodeSpec),
-    /// Creates a delay with this number of slots. Its images are new, with the size and format of
-    /// the referenced image.
+    /// Creates a delay with this number of slots. The slots hold new images, with the size and
+    /// format of the referenced image.
     CreateDelay(ObjRef, SlotCount),
-    /// Ages the delay with this name: each image moves to the next slot, the last one to slot 0.
+    /// Ages the delay with this name: each image moves to the next slot, the last image to slot 0.
     AgeDelay(u32),
-    /// Registers the delay of the second name with the graph of the first: it ages after each run
-    /// of the graph.
+    /// Registers the delay of the second name with the graph of the first name. The delay then ages
+    /// after each run of the graph.
     RegisterAutoAging(u32, u32),
 }
 
 impl Request {
     /// States for the prover that the request's fields are in range, as the laws of requests
-    /// require. It does nothing: the prover learns a type's invariant by reading a field of that
-    /// type.
+    /// require. The function has no effect: the prover learns a type's invariant when a field of
+    /// that type is read.
     pub fn prove_request(&self)
         ensures { IsRequest self.now }
     {

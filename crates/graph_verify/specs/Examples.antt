@@ -54,13 +54,14 @@ image_operand width height format = Image (record { width = width; height = heig
 abbrev pub virtual_of : Option Format → Operand
 virtual_of format = Virtual (record { width = None; height = None; format = format })
 
--- names 1 to 3 are U8 images of one pixel, 4 is an S16 image of one pixel, 5 is a U8 image of two; all others are virtual images
+-- names 1 to 3 are U8 images of one pixel, 4 is an S16 image of one pixel, 5 is a U8 image of two
+-- pixels; all other names are virtual images
 abbrev pub example_operand : Reference → Operand
 example_operand cell =
     if cell.name == 4 then image_operand 1 1 S16
     else (if cell.name == 5 then image_operand 2 1 U8
     else (if nat_lt cell.name 6 then image_operand 1 1 U8 else virtual_of None))
 
--- name 2 is this operand; all others are U8 images of this size
+-- name 2 is this operand; all other names are U8 images of this size
 abbrev pub operand_except : Operand → ℕ → ℕ → Reference → Operand
 operand_except second width height cell = if cell.name == 2 then second else image_operand width height U8

@@ -12,7 +12,7 @@ use Rattle.graph_verify.specs.Operand.{operands_of, is_virtual}
 abbrev pub linked_nodes : List Linked → List Node
 linked_nodes nodes = map (λ l. l.node) nodes
 
--- each node comes with the operands that its references stand for
+-- each node comes with the operands that its references denote
 abbrev pub AreOperands : (Reference → Operand) → List Linked → Type 0
 AreOperands is nodes = All (λ l. l.operands ≡ operands_of is l.node) nodes
 
@@ -20,16 +20,16 @@ AreOperands is nodes = All (λ l. l.operands ≡ operands_of is l.node) nodes
 abbrev pub lacks_writer : List Node → Reference → Operand → Bool
 lacks_writer nodes cell operand = is_virtual operand && not (is_written nodes cell)
 
--- whether an operand, if it is given, is a virtual image that none of the nodes writes
+-- whether an operand is given, and is a virtual image that none of the nodes writes
 abbrev pub given_unwritten : List Node → Option Reference → Option Operand → Bool
 given_unwritten nodes (Some cell) (Some operand) = lacks_writer nodes cell operand
 given_unwritten nodes cell operand = false
 
--- whether a node reads an unwritten virtual image
+-- whether a node reads a virtual image that none of the nodes writes
 abbrev pub reads_unwritten_virtual : List Node → Linked → Bool
 reads_unwritten_virtual nodes l = lacks_writer nodes l.node.in1 l.operands.in1 || given_unwritten nodes l.node.in2 l.operands.in2
 
--- whether an operand, if it is given, is a virtual image
+-- whether an operand is given, and is a virtual image
 abbrev pub is_given_virtual : Option Operand → Bool
 is_given_virtual None = false
 is_given_virtual (Some operand) = is_virtual operand

@@ -1,4 +1,5 @@
--- The links between the nodes of a graph, by the objects that they read and write, whatever the order of adding. OpenVX 1.3, "Graphs".
+-- The links between the nodes of a graph, by the objects that they read and write, whatever the
+-- order in which nodes were added. OpenVX 1.3, "Graphs".
 use Rattle.std.specs.Prelude.{Bool, false, ◌||◌, List, [], ◌∷◌}
 use Rattle.std.specs.List.{list_any}
 use Rattle.vx_base.specs.declared.node.Node.{Node}

@@ -48,7 +48,7 @@ operand_format (Threshold format) = Some format
 operand_format Convolution = Some S16
 operand_format other = None
 
--- whether two operands have the same size; true unless both are images
+-- whether two operands have the same size; true if one of them isn't an image
 abbrev pub are_of_one_size : Operand → Operand → Bool
 are_of_one_size (Image d) (Image e) = same_size d e
 are_of_one_size a b = true

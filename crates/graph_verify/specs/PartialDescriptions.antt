@@ -17,22 +17,25 @@ use Rattle.graph_verify.specs.Rounds.{rounds}
 abbrev pub all_unknown : PartialDescription
 all_unknown = record { width = None; height = None; format = None }
 
--- an operand's partial description: the full one of an image, the declared one of a virtual image, otherwise all open
+-- an operand's partial description: an image's full description, a virtual image's declared
+-- description, and all parts open for others
 abbrev pub operand_partial_desc : Operand → PartialDescription
 operand_partial_desc (Image d) = partial_desc_of d
 operand_partial_desc (Virtual declared) = declared
 operand_partial_desc other = all_unknown
 
--- the description that a function gives its output image: the size of its first input, and its own default format
+-- the description that a function gives its output image: the size of the first input, and the
+-- function's default format for that input
 abbrev pub given_partial_desc : Function → PartialDescription → PartialDescription
 given_partial_desc function first = record { width = first.width; height = first.height; format = option_map (open_format function) first.format }
 
--- the description of an output: the declared parts, with the open ones filled in by the node that writes it
+-- the description of an output: the declared parts, with open parts filled in by the node that
+-- writes the output
 abbrev pub written_partial_desc : (Reference → Operand) → Node → (Reference → PartialDescription) → Reference → PartialDescription
 written_partial_desc is n known cell = with_defaults (operand_partial_desc (is cell)) (given_partial_desc n.function (known n.in1))
 
--- the description of each image after as many rounds as there are nodes, starting from the declared ones; in a round all nodes fill in
--- their outputs simultaneously
+-- the description of each image after as many rounds as there are nodes, starting from the declared
+-- descriptions. In a round, all nodes fill in their outputs simultaneously.
 abbrev pub partial_descs : (Reference → Operand) → List Node → Reference → PartialDescription
 partial_descs is nodes = rounds writes (written_partial_desc is) nodes (length nodes) (λ cell. operand_partial_desc (is cell))
 

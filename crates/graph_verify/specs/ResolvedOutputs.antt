@@ -13,16 +13,19 @@ use Rattle.graph_verify.specs.declared.operand.Operands.{Operands}
 use Rattle.graph_verify.specs.PartialDescriptions.{operand_partial_desc, given_partial_desc, partial_descs, as_known}
 use Rattle.graph_verify.specs.Verdict.{virtual_outputs}
 
--- the description of a written virtual image, as far as it is resolved
+-- the resolved description of a virtual image, or None if no node has written the image yet; parts
+-- may still be open
 abbrev pub known_of : List ResolvedOutput → Reference → Option PartialDescription
 known_of known cell = option_map (λ k. k.partial_desc) (find (λ k. same_reference k.cell cell) known)
 
--- an operand's description as an image: for a virtual image the resolved one, or the declared one if no node has written it yet
+-- an operand's partial description; for a virtual image the resolved description, or the declared
+-- one if no node has written the image yet
 abbrev pub known_partial_desc : List ResolvedOutput → Reference → Operand → PartialDescription
 known_partial_desc known cell (Virtual declared) = unwrap_or (known_of known cell) declared
 known_partial_desc known cell operand = operand_partial_desc operand
 
--- an output that is a virtual image, its open parts filled in with what the node gives
+-- a list of one output, with open parts filled in from `given`; empty unless the output is a
+-- virtual image
 abbrev pub resolved_output : Option Reference → Option Operand → PartialDescription → List ResolvedOutput
 resolved_output (Some cell) (Some (Virtual declared)) given = record { cell = cell; partial_desc = with_defaults declared given } ∷ []
 resolved_output cell operand given = []
@@ -33,16 +36,16 @@ resolved_by known l =
     resolved_output l.node.out1 l.operands.out1 (given_partial_desc l.node.function (known_partial_desc known l.node.in1 l.operands.in1))
     ++ resolved_output l.node.out2 l.operands.out2 (given_partial_desc l.node.function (known_partial_desc known l.node.in1 l.operands.in1))
 
--- an operand as it is resolved: a virtual image without open parts becomes an image
+-- a resolved operand: a virtual image without open parts becomes an image
 abbrev pub known_operand : List ResolvedOutput → Reference → Operand → Operand
 known_operand known cell operand = as_known operand (known_partial_desc known cell operand)
 
--- an operand, if it is given, as it is resolved
+-- a resolved operand, if the operand is given
 abbrev pub known_given : List ResolvedOutput → Option Reference → Option Operand → Option Operand
 known_given known (Some cell) (Some operand) = Some (known_operand known cell operand)
 known_given known cell operand = None
 
--- the operands of a node as they are resolved
+-- the operands of a node, with virtual images resolved
 abbrev pub known_operands : List ResolvedOutput → Linked → Operands
 known_operands known l =
     record {
@@ -52,7 +55,7 @@ known_operands known l =
       out2 = known_given known l.node.out2 l.operands.out2;
     }
 
--- a virtual image with its full description, if no part of it is open
+-- a virtual image with its full description, if no part of the description is open
 abbrev pub described_output : ResolvedOutput → Option VirtualOutput
 described_output k = option_map (λ d. record { cell = k.cell; desc = d }) (full_description k.partial_desc)
 

@@ -52,7 +52,7 @@ node_fault function o =
     if not (takes_operands function o) then Some InvalidFormat
     else (if list_all (are_of_one_size o.in1) (other_operands o) then None else Some InvalidDimension)
 
--- the verdict on a node alone; None if it can run
+-- the verdict on a node alone; None if the node can run
 abbrev pub verdict_on : Node → Operands → Option Verdict
 verdict_on n o =
     if writes_twice n then Some MultipleWriters
@@ -61,7 +61,7 @@ verdict_on n o =
 
 -- ---- graphs
 
--- whether an object is an output twice, of two nodes or of one
+-- whether an object is written by two nodes, or as both outputs of one node
 abbrev pub two_writers : List Node → Bool
 two_writers nodes = has_twice (flat_map outputs nodes)
 
@@ -69,7 +69,7 @@ two_writers nodes = has_twice (flat_map outputs nodes)
 abbrev pub is_unwritten_image : (Reference → Operand) → List Node → Reference → Bool
 is_unwritten_image is nodes cell = is_virtual (is cell) && not (is_written nodes cell)
 
--- whether a node reads an unwritten virtual image
+-- whether a node reads a virtual image that no node writes
 abbrev pub reads_unwritten : (Reference → Operand) → List Node → Node → Bool
 reads_unwritten is nodes n = list_any (is_unwritten_image is nodes) (inputs n)
 
@@ -81,7 +81,8 @@ adds_to_virtual is n = accumulates n.function && list_any (λ cell. is_virtual (
 abbrev pub has_unwritten_input : (Reference → Operand) → List Node → Bool
 has_unwritten_input is nodes = list_any (λ n. reads_unwritten is nodes n || adds_to_virtual is n) nodes
 
--- the fault of the earliest added node that has one
+-- the fault of the first node in the list that has a fault; the nodes are in the order in which
+-- they were added
 abbrev pub first_fault : (Reference → Operand) → List Node → Option Verdict
 first_fault is [] = None
 first_fault is (n ∷ nodes) = option_or (node_fault n.function (operands_of is n)) (first_fault is nodes)
@@ -94,7 +95,8 @@ virtual_outputs is nodes = filter (λ cell. is_virtual (is cell)) (flat_map outp
 abbrev pub work_bytes : (Reference → Operand) → List Node → ℕ
 work_bytes is nodes = sum_by (λ cell. virtual_bytes (resolved_operand is nodes cell)) (virtual_outputs is nodes)
 
--- the verdict on a graph with these operands, whose virtual images may take `work` bytes; None if it can run
+-- the verdict on a graph with these operands, whose virtual images may take `work` bytes; None if
+-- the graph can run
 abbrev pub verdict : ℕ → (Reference → Operand) → List Node → Option Verdict
 verdict work is nodes =
     if two_writers nodes then Some MultipleWriters

@@ -15,8 +15,8 @@ use Rattle.graph_verify.specs.Order.{IsOrder}
 use Rattle.graph_verify.specs.PartialDescriptions.{resolved_operand}
 use Rattle.graph_verify.specs.Verdict.{two_writers, virtual_outputs}
 
--- a verified graph: its nodes, each after all that feed it; the virtual images that they write, in the order of writing; the numbers
--- of the nodes, in the same order
+-- a verified graph: its nodes, each after all nodes that feed it; the virtual images that they
+-- write, in the order of writing; the numbers of the nodes, in the order of `steps`
 pub record VerifiedValue : Type 0 where
   pub steps : List Node
   pub virtual_outputs : List VirtualOutput
@@ -28,7 +28,8 @@ pub record IsVerified (is : Reference → Operand) (nodes : List Node) (v : Veri
   pub cells : map (λ o. o.cell) v.virtual_outputs ≡ virtual_outputs is v.steps
   pub descriptions : All (λ o. resolved_operand is nodes o.cell ≡ Image o.desc) v.virtual_outputs
 
--- a graph is verified, for some operands of its references, no object has two writers, and each step has a number
+-- the verification of some graph with some operands; no object has two writers, and each step has a
+-- number
 pub record IsVerifiedGraph (v : VerifiedValue) : Type 0 where
   pub is : Reference → Operand
   pub nodes : List Node

@@ -6,18 +6,19 @@ use Rattle.vx_base.specs.Node.{optional_cells}
 use Rattle.graph_verify.specs.declared.linked.Linked.{Linked}
 use Rattle.graph_verify.specs.Links.{writes, is_written}
 
--- a node that isn't ordered yet, and for each input whether it waits for another node that isn't ordered yet
+-- a node that isn't ordered yet, and for each input whether another unordered node has to write
+-- that input first
 pub record WaitingNode : Type 0 where
   pub linked : Linked
   pub for_in1 : Bool
   pub for_in2 : Bool
 
--- a node among those that aren't ordered yet
+-- an unordered node, with the inputs for which it waits; `nodes` are all unordered nodes
 abbrev pub waiting_among : List Node → Linked → WaitingNode
 waiting_among nodes l =
     record { linked = l; for_in1 = is_written nodes l.node.in1; for_in2 = list_any (is_written nodes) (optional_cells l.node.in2) }
 
--- the same after another node is ordered; the inputs that it writes have no other writer
+-- a node after another node is ordered: it no longer waits for inputs that the ordered node writes
 abbrev pub once_ordered : Node → WaitingNode → WaitingNode
 once_ordered ordered w =
     record {

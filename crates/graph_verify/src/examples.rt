@@ -19,7 +19,7 @@ ghost use Rattle.graph_verify.specs.Examples.{not_to, and_to, adds, convert_to, 
 ghost use Rattle.graph_verify.specs.Examples.{accumulate_to, virtual_of, example_operand};
 ghost use Rattle.graph_verify.specs.Examples.{operand_except};
 
-/// A node that reads its own output is a cycle, and a node can't write both outputs to one object.
+/// A node that reads its own output is a cycle. A node can't write both outputs to one object.
 pub fn cells()
     ensures cycle { verdict_on (record {
       function = NotBits;
@@ -113,8 +113,8 @@ pub fn operands()
         }) ≡ None }
 {}
 
-/// A graph for each verdict on links, formats and sizes. A graph with all their nodes is refused
-/// for its two writers. A graph without nodes can run.
+/// One graph for each verdict on links, formats and sizes. A graph with the nodes of all these
+/// graphs is refused because an object has two writers. A graph without nodes can run.
 pub fn graphs()
     ensures writers { verdict 9 example_operand (not_to 1 2 ∷ not_to 3 2 ∷ [])
         ≡ Some MultipleWriters }
@@ -130,8 +130,8 @@ pub fn graphs()
     ensures none { verdict 9 example_operand [] ≡ None }
 {}
 
-/// Graphs that accumulate: the earlier content of the output is no read of the graph, but the
-/// output must not be virtual.
+/// Graphs that accumulate. Accumulating into an output doesn't count as reading it, but the output
+/// must not be virtual.
 pub fn sums()
     ensures once { verdict 9 example_operand (accumulate_to 1 4 ∷ []) ≡ None }
     ensures read { verdict 9 example_operand (convert_to 4 3 ∷ accumulate_to 1 4 ∷ []) ≡ None }
@@ -142,7 +142,7 @@ pub fn sums()
     ensures to_bytes { verdict 9 example_operand (accumulate_to 1 2 ∷ []) ≡ Some InvalidFormat }
 {}
 
-/// The fault is that of the node that was added first, even if it runs last.
+/// Of two faulty nodes, the verdict is on the one that was added first, even if it runs last.
 pub fn earliest_added()
     ensures { verdict 9 example_operand (and_to 6 5 2 ∷ not_to 4 3 ∷ not_to 1 6 ∷ [])
         ≡ Some InvalidDimension }
@@ -156,8 +156,8 @@ pub fn work()
         (not_to 1 2 ∷ not_to 2 3 ∷ []) ≡ None }
 {}
 
-/// The sum in a virtual image with an open format is S16. A declared U8 stays, and Convert Bit
-/// Depth can't take it.
+/// The output of Add, a virtual image with an open format, is resolved to S16. A declared format U8
+/// stays, and Convert Bit Depth then can't take the image.
 pub fn open_formats()
     ensures found { resolved_operand (operand_except (virtual_of None) 1 1)
         (adds 1 3 2 ∷ convert_to 2 4 ∷ []) (reference_to 2) ≡ image_operand 1 1 S16 }

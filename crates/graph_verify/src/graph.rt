@@ -76,7 +76,7 @@ impl Graph {
     }
 
     /// Adds a node and returns its number. `NoResources` if `can_add` is false, `NoMemory` if there
-    /// is no memory; the graph is then unchanged.
+    /// is no memory. After a fault the graph is unchanged.
     pub fn add_node(&mut self, node: NodeSpec) -> Result<u32, GraphFault>
         ensures number { IfOk result (λ number. number ≡ self.old.next) }
         ensures ok { OnOk result (self.new ≡ with_node self.old node) }
@@ -88,7 +88,7 @@ impl Graph {
         if !self.can_add() {
             return Err(GraphFault::NoResources);
         }
-        // The prover learns that the node is well-formed only where its fields are read.
+        // The prover learns that the node is well-formed only where the node's fields are read.
         let _fields = node.node();
         let number = self.next as u32;
         if self.nodes.push(Numbered { number, node }).is_err() {
@@ -98,8 +98,8 @@ impl Graph {
         Ok(number)
     }
 
-    /// Removes the node of this number and returns it. `InvalidReference` if there is none; the
-    /// graph is then unchanged.
+    /// Removes the node of this number and returns it. `InvalidReference` if there is no such node;
+    /// the graph is then unchanged.
     pub fn remove_node(&mut self, number: u32) -> Result<NodeSpec, GraphFault>
         ensures graph { IsGraph self.old }
         ensures removed { IfOk result (λ node. find (λ n. n.number == number) self.old.nodes
@@ -141,7 +141,7 @@ impl Graph {
         self.delays = delays;
     }
 
-    /// The node of this number, if there is one.
+    /// Returns the node of this number, if there is one.
     fn find(&self, number: u32) -> Option<Numbered>
         ensures { result ≡ find (λ n. n.number == number) self.now.nodes }
     {

@@ -25,7 +25,8 @@ use crate::operand::{Operand, Operands};
 use std::alloc::{AllocError, Global};
 use vx_base::{Desc, Function, ObjRef, PartialDesc};
 
-/// A virtual image that a node writes, with its description as far as it is resolved.
+/// A virtual image that a node writes, with its resolved description. Parts of the description may
+/// still be open.
 #[derive(Clone, Copy)]
 pub struct ResolvedOutput {
     pub cell: ObjRef,
@@ -40,7 +41,8 @@ pub struct VirtualOutput {
 }
 
 impl ResolvedOutput {
-    /// Returns the virtual image with its full description, or `None` if a part of it is open.
+    /// Returns the virtual image with its full description, or `None` if a part of the description
+    /// is open.
     pub fn described(self) -> Option<VirtualOutput>
         ensures { result ≡ described_output self }
     {
@@ -52,7 +54,8 @@ impl ResolvedOutput {
     }
 }
 
-/// The description of a written virtual image, as far as it is resolved.
+/// Returns the resolved description of a virtual image, or `None` if no node has written the image
+/// yet. Parts may still be open.
 fn known_of(known: &[ResolvedOutput], cell: ObjRef) -> Option<PartialDesc>
     ensures { result ≡ known_of known.now cell }
 {
@@ -62,8 +65,8 @@ fn known_of(known: &[ResolvedOutput], cell: ObjRef) -> Option<PartialDesc>
         .map(|known| known.partial_desc)
 }
 
-/// An operand's description as an image: for a virtual image the resolved one, or the declared one
-/// if no node has written it yet.
+/// Returns an operand's partial description. For a virtual image this is the resolved description,
+/// or the declared one if no node has written the image yet.
 fn known_partial_desc(known: &[ResolvedOutput], cell: ObjRef, operand: Operand) -> PartialDesc
     ensures { result ≡ known_partial_desc known.now cell operand }
 {
@@ -74,15 +77,15 @@ fn known_partial_desc(known: &[ResolvedOutput], cell: ObjRef, operand: Operand) 
     }
 }
 
-/// A description with all parts open.
+/// Returns a partial description with all parts open.
 fn all_unknown() -> PartialDesc
     ensures { result ≡ all_unknown }
 {
     PartialDesc::new(None, None, None).unwrap()
 }
 
-/// The description that a function gives its output image: the size of its first input, and its own
-/// default format.
+/// Returns the description that a function gives its output image: the size of the first input, and
+/// the function's default format for that input.
 fn given_partial_desc(function: Function, first: PartialDesc) -> PartialDesc
     ensures { result ≡ given_partial_desc function first }
 {
@@ -91,7 +94,8 @@ fn given_partial_desc(function: Function, first: PartialDesc) -> PartialDesc
     PartialDesc::new(first.width(), first.height(), format).unwrap()
 }
 
-/// Resolves an output, if it is a virtual image.
+/// Adds an output to the resolved images, if the output is a virtual image. Open parts of its
+/// description are filled in from `given`.
 fn learn_cell(
     known: &mut Vec<ResolvedOutput>,
     cell: ObjRef,
@@ -112,7 +116,7 @@ fn learn_cell(
     }
 }
 
-/// Resolves an output, if it is given.
+/// Resolves an output as `learn_cell` does, if the node has this output.
 fn learn_output(
     known: &mut Vec<ResolvedOutput>,
     cell: Option<ObjRef>,
@@ -142,7 +146,7 @@ fn learn(known: &mut Vec<ResolvedOutput>, linked: &Linked) -> Result<(), AllocEr
     learn_output(known, node.out2, operands.out2, given)
 }
 
-/// An operand as it is resolved.
+/// Returns an operand with its resolved description; only a virtual image changes.
 fn known_operand(known: &[ResolvedOutput], cell: ObjRef, operand: Operand) -> Operand
     ensures { result ≡ known_operand known.now cell operand }
 {
@@ -152,7 +156,7 @@ fn known_operand(known: &[ResolvedOutput], cell: ObjRef, operand: Operand) -> Op
     }
 }
 
-/// A virtual image without open parts becomes an image.
+/// Returns an image of this description, or a virtual image if a part of the description is open.
 fn as_described(known: PartialDesc) -> Operand
     ensures { result ≡ virtual_or_image known (full_description known) }
 {
@@ -162,7 +166,7 @@ fn as_described(known: PartialDesc) -> Operand
     }
 }
 
-/// An operand, if it is given, as it is resolved.
+/// Returns an operand as `known_operand` does, or `None` if the node has no such operand.
 fn known_given(
     known: &[ResolvedOutput],
     cell: Option<ObjRef>,
@@ -176,7 +180,7 @@ fn known_given(
     }
 }
 
-/// Returns the operands of a node as they are resolved.
+/// Returns the operands of a node, with virtual images resolved.
 pub fn known_operands(known: &[ResolvedOutput], linked: &Linked) -> Operands
     ensures { result ≡ known_operands known.now linked.now }
 {
@@ -210,7 +214,7 @@ pub fn known_after(alloc: Global, steps: &[Linked]) -> Result<Vec<ResolvedOutput
 }
 
 /// Returns the virtual images that have a full description, or an error if there is no memory for
-/// them.
+/// the result.
 pub fn all_described(
     alloc: Global,
     known: &[ResolvedOutput],
@@ -223,7 +227,7 @@ pub fn all_described(
         .collect(alloc)
 }
 
-/// Returns the size of the images' samples in bytes.
+/// Returns the total size of the images' samples in bytes.
 pub fn sample_bytes(outputs: &[VirtualOutput]) -> u64
     requires { length outputs.now ≤ 512 }
     ensures { result ≡ sum_by (λ o. byte_count o.desc) outputs.now }

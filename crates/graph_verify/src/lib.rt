@@ -1,17 +1,18 @@
 //! Graphs and verdicts: whether a graph can run, and if not, why.
 //!
 //! A `Graph` is a list of numbered nodes. Nodes are linked by the objects that they read and write,
-//! whatever the order in which they were added. A verdict depends on the kinds, sizes and formats
-//! of these objects, never on samples. `verdict_on` gives the verdict on a node alone. `verify`
-//! gives that on a graph, and for a graph that can run an order of its nodes and the description of
-//! each virtual image that they write.
+//! whatever the order in which they were added: a node *feeds* another if it writes an object that
+//! the other reads. A verdict depends on the kinds, sizes and formats of these objects, never on
+//! samples. `verdict_on` gives the verdict on a node alone. `verify` gives the verdict on a graph.
+//! For a graph that can run, `verify` also gives an order of the nodes, and the description of each
+//! virtual image that they write.
 //!
-//! The verdict is the first of these that applies:
+//! The verdict is the first of these faults that applies:
 //!
 //! - two writers of an object
 //! - a cycle
 //! - a virtual image that is read but not written, or accumulated into
-//! - the fault of the earliest added node that has one
+//! - a faulty node; of several, the one that was added first
 //! - virtual images that take more bytes than the limit
 //!
 //! Modules:
@@ -19,10 +20,11 @@
 //! - `graph`, `fault`: numbered nodes, and the faults of calls on a graph
 //! - `operand`: the properties of objects on which a verdict depends
 //! - `linked`: nodes with their operands, and the links between them
-//! - `order`: the nodes in an order in which each comes after those that feed it
-//! - `known`: the virtual images that nodes write, resolved along an order
+//! - `order`: the nodes in an order in which each comes after all nodes that feed it
+//! - `known`: the virtual images that nodes write, with open sizes and formats resolved along an
+//!   order
 //! - `verdict`: verdicts, and the verdict on one node
-//! - `verified`: the verdict on a graph, and its order
+//! - `verified`: the verdict on a graph, and an order of its nodes
 //! - `laws`: facts about cycles, orders and rounds
 //! - `examples`: verdicts on small graphs
 #![tactic(auto)]

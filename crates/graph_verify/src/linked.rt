@@ -13,7 +13,7 @@ ghost use Rattle.graph_verify.specs.Verdict.{two_writers, writes_twice, has_unwr
 use crate::operand::{Operand, Operands};
 use vx_base::{Node, ObjRef};
 
-/// A node with its number in its graph and its operands.
+/// A node, its number in the graph, and its operands.
 #[derive(Clone, Copy, PartialEq, Eq, Debug)]
 pub struct Linked {
     pub number: u32,
@@ -28,7 +28,7 @@ pub fn writes(node: &Node, cell: ObjRef) -> bool
     node.out1 == Some(cell) || node.out2 == Some(cell)
 }
 
-/// Checks whether a node writes an object, if it is given.
+/// Checks whether an object is given, and a node writes it.
 pub fn writes_given(node: &Node, cell: Option<ObjRef>) -> bool
     ensures { result ≡ list_any (writes node.now) (optional_cells cell) }
 {
@@ -52,14 +52,15 @@ pub fn is_written(nodes: &[Linked], cell: ObjRef) -> bool
     nodes.iter().any(|linked| writes(&linked.node, cell))
 }
 
-/// Checks whether one of the nodes writes an object, if it is given.
+/// Checks whether an object is given, and one of the nodes writes it.
 pub fn is_given_written(nodes: &[Linked], cell: Option<ObjRef>) -> bool
     ensures { result ≡ list_any (is_written (linked_nodes nodes.now)) (optional_cells cell) }
 {
     cell.is_some_and(|cell| is_written(nodes, cell))
 }
 
-/// Whether an output of a node is an output a second time, of the node itself or of another one.
+/// Returns whether two outputs are the same object: both of this node, or one of this node and one
+/// of another.
 fn shares_output(others: &[Linked], node: &Node) -> bool
     ensures { result ≡ (writes_twice node.now || list_any (is_written (linked_nodes others.now))
         (outputs node.now)) }
@@ -67,7 +68,7 @@ fn shares_output(others: &[Linked], node: &Node) -> bool
     writes_twice(node) || is_given_written(others, node.out1) || is_given_written(others, node.out2)
 }
 
-/// Checks whether an object is an output twice, of two nodes or of one.
+/// Checks whether an object is written by two nodes, or as both outputs of one node.
 pub fn has_two_writers(nodes: &[Linked]) -> bool
     ensures { result ≡ two_writers (linked_nodes nodes.now) }
 {
@@ -81,14 +82,14 @@ pub fn has_two_writers(nodes: &[Linked]) -> bool
     false
 }
 
-/// Whether an operand is a virtual image that none of the nodes writes.
+/// Returns whether an operand is a virtual image that none of the nodes writes.
 fn lacks_writer(nodes: &[Linked], cell: ObjRef, operand: Operand) -> bool
     ensures { result ≡ lacks_writer (linked_nodes nodes.now) cell operand }
 {
     operand.is_virtual() && !is_written(nodes, cell)
 }
 
-/// Whether an operand, if it is given, is a virtual image that none of the nodes writes.
+/// Returns whether an operand is given, and is a virtual image that none of the nodes writes.
 fn given_unwritten(nodes: &[Linked], cell: Option<ObjRef>, operand: Option<Operand>) -> bool
     ensures { result ≡ given_unwritten (linked_nodes nodes.now) cell operand }
 {
@@ -98,7 +99,7 @@ fn given_unwritten(nodes: &[Linked], cell: Option<ObjRef>, operand: Option<Opera
     }
 }
 
-/// Whether a node reads an unwritten virtual image.
+/// Returns whether a node reads a virtual image that none of the nodes writes.
 fn reads_unwritten_virtual(nodes: &[Linked], linked: &Linked) -> bool
     ensures { result ≡ reads_unwritten_virtual (linked_nodes nodes.now) linked.now }
 {
@@ -106,14 +107,14 @@ fn reads_unwritten_virtual(nodes: &[Linked], linked: &Linked) -> bool
     lacks_writer(nodes, node.in1, operands.in1) || given_unwritten(nodes, node.in2, operands.in2)
 }
 
-/// Whether an operand, if it is given, is a virtual image.
+/// Returns whether an operand is given, and is a virtual image.
 fn is_given_virtual(operand: Option<Operand>) -> bool
     ensures { result ≡ is_given_virtual operand }
 {
     operand.is_some_and(Operand::is_virtual)
 }
 
-/// Whether a node accumulates into a virtual image, which has no content when a run begins.
+/// Returns whether a node accumulates into a virtual image, which has no content when a run begins.
 fn has_virtual_sum(linked: &Linked) -> bool
     ensures { result ≡ has_virtual_sum linked.now }
 {

@@ -3,7 +3,7 @@ ghost use Rattle.std.specs.Prelude.{◌≡◌};
 
 use vx_base::{Desc, Format, Kind, PartialDesc};
 
-/// An object that a node names, by its kind and the properties on which a verdict depends.
+/// An object that a node names: its kind, and the properties on which a verdict depends.
 #[derive(Clone, Copy, PartialEq, Eq, Debug)]
 pub enum Operand {
     /// An image of this size and format.
@@ -12,7 +12,7 @@ pub enum Operand {
     Lut(Format),
     /// A threshold of samples of this format.
     Threshold(Format),
-    /// A whole delay, which no function takes; each of its slots is an image.
+    /// A delay itself, which no function takes. Each slot of a delay is an image.
     Delay,
     /// A convolution, whose coefficients are S16.
     Convolution,
@@ -28,7 +28,7 @@ pub enum Operand {
     Missing,
 }
 
-/// The operands of a node; those that it doesn't have are `None`.
+/// The operands of a node. An operand that the node doesn't have is `None`.
 #[derive(Clone, Copy, PartialEq, Eq, Debug)]
 pub struct Operands {
     pub in1: Operand,

@@ -14,7 +14,8 @@ use std::alloc::{AllocError, Global};
 use std::marker::Model;
 use vx_base::Node;
 
-/// A node that isn't ordered yet, and for each input whether it waits for another such node.
+/// A node that isn't ordered yet, and for each input whether another unordered node has to write
+/// that input first.
 #[derive(Drop)]
 struct Waiting<'a> {
     linked: &'a Linked,
@@ -35,7 +36,8 @@ impl<'a> Model for Waiting<'a> {
 }
 
 impl<'a> Waiting<'a> {
-    /// A node among those that aren't ordered yet, which include it.
+    /// Returns an unordered node, with the inputs for which it waits. `nodes` are all unordered
+    /// nodes, including this one.
     fn among(nodes: &[Linked], linked: &'a Linked) -> Waiting<'a>
         ensures { result ≡ waiting_among (linked_nodes nodes.now) linked.now }
     {
@@ -46,8 +48,8 @@ impl<'a> Waiting<'a> {
         }
     }
 
-    /// Updates the node after another one is ordered. The inputs that it writes have no other
-    /// writer, so they wait no longer.
+    /// Updates the node after another node is ordered. The node no longer waits for inputs that the
+    /// ordered node writes, since these have no other writer.
     fn once_ordered(&mut self, ordered: &Node)
         ensures { self.new ≡ once_ordered ordered.now self.old }
     {
@@ -57,7 +59,7 @@ impl<'a> Waiting<'a> {
     }
 }
 
-/// All nodes, none of them ordered yet.
+/// Returns all nodes as unordered nodes.
 fn all_waiting<'a>(alloc: Global, nodes: &'a [Linked]) -> Result<Vec<Waiting<'a>>, AllocError>
     ensures { IfOk result (λ rest. rest.items
         ≡ map (waiting_among (linked_nodes nodes.now)) nodes.now) }
@@ -68,7 +70,7 @@ fn all_waiting<'a>(alloc: Global, nodes: &'a [Linked]) -> Result<Vec<Waiting<'a>
         .collect(alloc)
 }
 
-/// The index of the first node that doesn't wait.
+/// Returns the index of the first node that doesn't wait for an input.
 fn first_ready(rest: &[Waiting<'_>]) -> Option<usize>
     ensures { result ≡ position (λ w. not (w.for_in1 || w.for_in2)) rest.now }
 {
@@ -76,7 +78,7 @@ fn first_ready(rest: &[Waiting<'_>]) -> Option<usize>
         .position(|waiting| !(waiting.for_in1 || waiting.for_in2))
 }
 
-/// Updates the remaining nodes after one is ordered.
+/// Updates the remaining nodes after a node is ordered.
 fn update_waiting(rest: &mut [Waiting<'_>], ordered: &Node)
     ensures { rest.new ≡ map (once_ordered ordered.now) rest.old }
 {
@@ -85,7 +87,8 @@ fn update_waiting(rest: &mut [Waiting<'_>], ordered: &Node)
     }
 }
 
-/// Removes the node at an index, which comes next in the order, and updates the remaining ones.
+/// Removes the node at an index, updates the remaining nodes, and returns the removed node, which
+/// comes next in the order.
 fn take_ready(rest: &mut Vec<Waiting<'_>>, index: usize) -> Linked
     requires { index < length rest.old.items }
     ensures ordered { (d : WaitingNode) → result ≡ (slice_index_or rest.old.items index d).linked }
@@ -98,8 +101,8 @@ fn take_ready(rest: &mut Vec<Waiting<'_>>, index: usize) -> Linked
     ordered
 }
 
-/// Returns the nodes, each after all that feed it, or `None` if there is a cycle. An error means
-/// that there is no memory for the result.
+/// Returns the nodes, each after all nodes that feed it, or `None` if there is a cycle. An error
+/// means that there is no memory for the result.
 pub fn put_in_order(alloc: Global, nodes: &[Linked]) -> Result<Option<Vec<Linked>>, AllocError>
     requires { two_writers (linked_nodes nodes.now) ≡ false }
     ensures order { IfOk result (λ found.

@@ -17,7 +17,7 @@ use vx_base::{Code, Desc, Format, Function, Node};
 /// Why a graph can't run (OpenVX 1.3, `vxVerifyGraph`).
 #[derive(Clone, Copy, PartialEq, Eq, Debug)]
 pub enum Verdict {
-    /// Two outputs, of two nodes or of one, are the same object.
+    /// Two outputs, of two nodes or of one node, are the same object.
     MultipleWriters,
     /// There is a cycle: each of its nodes writes an object that the next one reads, and the last
     /// one writes an object that the first one reads.
@@ -50,7 +50,7 @@ impl Verdict {
     }
 }
 
-/// Returns the verdict on a node alone, with these operands, or `None` if it can run.
+/// Returns the verdict on a node alone, with these operands, or `None` if the node can run.
 pub fn verdict_on(node: &Node, operands: &Operands) -> Option<Verdict>
     ensures { result ≡ verdict_on node.now operands.now }
 {
@@ -63,14 +63,15 @@ pub fn verdict_on(node: &Node, operands: &Operands) -> Option<Verdict>
     }
 }
 
-/// Whether a node reads an object that it writes: a cycle of one node.
+/// Returns whether a node reads an object that it writes, which is a cycle of one node.
 fn reads_own_output(node: &Node) -> bool
     ensures { result ≡ reads_own_output node.now }
 {
     writes(node, node.in1) || writes_given(node, node.in2)
 }
 
-/// Whether the function takes the formats of the inputs and of an output, if it is given.
+/// Returns whether the function takes the formats of its inputs with that of an output. An absent
+/// output is accepted.
 fn takes_output(
     function: Function,
     first: Format,
@@ -86,14 +87,14 @@ fn takes_output(
     }
 }
 
-/// The format of an operand, if the operand is given and has one.
+/// Returns the format of an operand, if the operand is given and has a format.
 fn format_if_there(operand: Option<Operand>) -> Option<Format>
     ensures { result ≡ option_and_then operand_format operand }
 {
     operand?.format()
 }
 
-/// Whether the function takes the formats of its inputs with that of each output.
+/// Returns whether the function takes the formats of its inputs with that of each output.
 fn takes_operands(function: Function, operands: &Operands) -> bool
     ensures { result ≡ takes_operands function operands.now }
 {
@@ -107,7 +108,7 @@ fn takes_operands(function: Function, operands: &Operands) -> bool
     }
 }
 
-/// Whether two operands have the same size; true unless both are images.
+/// Returns whether two operands have the same size; true if one of them isn't an image.
 fn are_of_one_size(operand: Operand, other: Operand) -> bool
     ensures { result ≡ are_of_one_size operand other }
 {
@@ -117,7 +118,7 @@ fn are_of_one_size(operand: Operand, other: Operand) -> bool
     }
 }
 
-/// Whether an operand has this size; true unless it is an image.
+/// Returns whether an operand has this size; true if the operand isn't an image.
 fn has_size_of(operand: Operand, size: Desc) -> bool
     ensures { result ≡ are_of_one_size (Image size) operand }
 {
@@ -127,7 +128,7 @@ fn has_size_of(operand: Operand, size: Desc) -> bool
     }
 }
 
-/// Whether an operand, if it is given, has the size of the first input.
+/// Returns whether an operand has the size of the first input. An absent operand is accepted.
 fn fits(first: Operand, other: Option<Operand>) -> bool
     ensures { result ≡ list_all (are_of_one_size first) (option_to_list other) }
 {
@@ -148,7 +149,7 @@ pub fn node_fault(function: Function, operands: &Operands) -> Option<Verdict>
     }
 }
 
-/// Whether all images among the operands have the size of the first input.
+/// Returns whether all images among the operands have the size of the first input.
 fn is_of_one_size(operands: &Operands) -> bool
     ensures { result ≡ list_all (are_of_one_size operands.now.in1) (other_operands operands.now) }
 {

@@ -1,4 +1,4 @@
-//! Verified graphs: the verdict on a graph, and the order in which it runs.
+//! Verified graphs: the verdict on a graph, and an order in which its nodes can run.
 ghost use Rattle.std.specs.Prelude.{◌≡◌, ◌≤◌, false, IsTrue, length, map, find, List, All, Some};
 ghost use Rattle.std.specs.Prelude.{None, IfOk, IfErr, OnOk};
 ghost use Rattle.std.specs.List.{zip};
@@ -72,7 +72,7 @@ impl From<AllocError> for VerifyFault {
 }
 
 impl Verified {
-    /// Returns the nodes, each after all that feed it.
+    /// Returns the nodes, each after all nodes that feed it.
     pub fn steps(&self) -> &[Node]
         ensures steps { result.now ≡ self.now.steps }
         ensures verified { IsVerifiedGraph self.now }
@@ -106,7 +106,7 @@ impl Verified {
         Some(output.desc)
     }
 
-    /// The virtual image with this reference, if the nodes write it.
+    /// Returns the virtual image with this reference, if the nodes write it.
     fn find(&self, cell: ObjRef) -> Option<VirtualOutput>
         ensures { result ≡ find (λ o. same_reference o.cell cell) self.now.virtual_outputs }
     {
@@ -117,7 +117,8 @@ impl Verified {
     }
 }
 
-/// The fault of the earliest added node that has one, by the resolved operands.
+/// Returns the fault of the first node that has a fault, given the resolved virtual images. The
+/// nodes are in the order in which they were added.
 fn first_fault(nodes: &[Linked], known: &[ResolvedOutput]) -> Option<Verdict>
     ensures { (is : Reference → Operand) →
         All (λ l. known_operands known.now l ≡ operands_of is l.node)
@@ -132,7 +133,7 @@ fn first_fault(nodes: &[Linked], known: &[ResolvedOutput]) -> Option<Verdict>
     None
 }
 
-/// The nodes without their operands.
+/// Returns the nodes without their operands.
 fn nodes_of(alloc: Global, linked: &[Linked]) -> Result<Vec<Node>, AllocError>
     ensures { IfOk result (λ nodes. nodes.items ≡ linked_nodes linked.now) }
 {
@@ -155,7 +156,7 @@ fn numbers_of(alloc: Global, linked: &[Linked]) -> Result<Vec<u32>, AllocError>
 }
 
 /// Verifies a graph in which no object has two writers. `steps` has the same nodes, each after all
-/// that feed it.
+/// nodes that feed it.
 fn verify_ordered(
     alloc: Global,
     nodes: &[Linked],
@@ -195,10 +196,10 @@ fn verify_ordered(
     })
 }
 
-/// Verifies a graph of at most 256 nodes, which come in the order in which they were added, with
-/// their operands. The first input of each is an image. `work` is the greatest number of bytes that
-/// the virtual images may take. `Refused` if the graph can't run, `NoMemory` if there is no memory
-/// for the result.
+/// Verifies a graph of at most 256 nodes. `nodes` has the nodes with their operands, in the order
+/// in which they were added. The first input of each node is an image. `work` is the greatest
+/// number of bytes that the virtual images may take. `Refused` if the graph can't run, `NoMemory`
+/// if there is no memory for the result.
 pub fn verify(alloc: Global, nodes: &[Linked], work: u64) -> Result<Verified, VerifyFault>
     requires count { length nodes.now ≤ GREATEST_NODES }
     requires images { All (λ l. IsTrue (is_image l.operands.in1)) nodes.now }

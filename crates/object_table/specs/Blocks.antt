@@ -7,7 +7,7 @@ use Rattle.pixel_pool.specs.declared.pool.Pool.{Pool}
 use Rattle.pixel_pool.specs.Pool.{lent_of, one_of}
 use Rattle.object_table.specs.NamedObject.{NamedObject}
 
--- the number of blocks of a format that an image occupies: 1 of its own format
+-- the number of blocks of a format that an image occupies: 1 if the format is the image's, else 0
 abbrev pub image_blocks : ImageValue → Format → ℕ
 image_blocks image format = one_of image.format format
 
@@ -41,7 +41,8 @@ LendsMore old new blocks = (format : Format) → lent_of new format ≡ lent_of 
 abbrev pub LendsLess : Pool → Pool → (Format → ℕ) → Type 0
 LendsLess old new blocks = (format : Format) → lent_of new format + blocks format ≡ lent_of old format
 
--- the number of lent blocks has changed by as much as the number that the objects occupy
+-- for each format, the number of lent blocks has changed by as much as the number of blocks that
+-- the objects occupy
 abbrev pub Balances : Pool → Pool → List NamedObject → List NamedObject → Type 0
 Balances pool changed before after =
     (format : Format) → lent_of changed format + blocks_in before format ≡ lent_of pool format + blocks_in after format

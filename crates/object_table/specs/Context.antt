@@ -7,7 +7,7 @@ use Rattle.vx_base.specs.Object.{ObjectValue, GraphObject, object_bytes}
 use Rattle.object_table.specs.NamedObject.{NamedObject, with_object}
 use Rattle.object_table.specs.declared.table.TheConstants.{END_OF_NAMES, GREATEST_OBJECTS}
 
--- the next name, and the objects in the order of their names
+-- a context: the next name, and the objects in the order of their names
 pub record Context : Type 0 where
   pub next : ℕ
   pub objects : List NamedObject
@@ -24,7 +24,7 @@ object_named objects name = option_map (λ o. o.object) (find (λ o. o.live && o
 abbrev pub charge_of : List NamedObject → ℕ
 charge_of objects = sum_by (λ o. object_bytes o.object) objects
 
--- whether one more object can be held: a name is left, and fewer than 1,024 are held
+-- whether one more object can be held: a name is left, and fewer than 1,024 objects are held
 abbrev pub can_insert : Context → Bool
 can_insert c = nat_lt c.next END_OF_NAMES && nat_lt (length c.objects) GREATEST_OBJECTS
 
@@ -32,10 +32,10 @@ can_insert c = nat_lt c.next END_OF_NAMES && nat_lt (length c.objects) GREATEST_
 abbrev pub with_new : Context → ObjectValue → Context
 with_new c object = record { next = c.next + 1; objects = c.objects ++ record { name = c.next; live = true; object = object } ∷ [] }
 
--- the context with other objects
+-- the context with these objects
 abbrev pub with_objects : Context → List NamedObject → Context
 with_objects c objects = record { next = c.next; objects = objects }
 
--- the objects with another graph under this name
+-- the objects, with the graph under this name replaced
 abbrev pub with_graph : List NamedObject → ℕ → GraphValue → List NamedObject
 with_graph objects name graph = with_object objects (reference_to name) (GraphObject graph)

@@ -12,7 +12,8 @@ use Rattle.vx_base.specs.Object.{ObjectValue, ImageObject, DelayObject, object_k
 abbrev pub new_delay : Description → ℕ → List ImageValue
 new_delay d slots = replicate slots (new_image d.width d.height d.format)
 
--- the images after one step: each moves to the next slot, the last to the first. OpenVX 1.3, vxAgeDelay
+-- the images of a delay after it has aged once: each image moves to the next slot, the last image
+-- to slot 0. OpenVX 1.3, vxAgeDelay
 abbrev pub aged_images : List ImageValue → List ImageValue
 aged_images images = drop (length images - 1) images ++ take (length images - 1) images
 
@@ -20,13 +21,14 @@ aged_images images = drop (length images - 1) images ++ take (length images - 1)
 abbrev pub image_in : List ImageValue → ℕ → ImageValue
 image_in images k = slice_index_or images k (new_image 0 0 U8)
 
--- the image in a slot of a delay, or without a slot the object itself; none where the slot does not exist or the object is no delay
+-- the image in a slot of a delay, or without a slot the object itself; None if the slot doesn't
+-- exist or the object isn't a delay
 abbrev pub in_slot : Option ℕ → ObjectValue → Option ObjectValue
 in_slot None object = Some object
 in_slot (Some k) (DelayObject images) = option_map ImageObject (slice_get images k)
 in_slot (Some k) other = None
 
--- the object with another image in a slot; without a slot, the other object itself
+-- the object with a new image in a slot; without a slot, the new object
 abbrev pub with_slot : Option ℕ → ObjectValue → ObjectValue → ObjectValue
 with_slot None new object = new
 with_slot (Some k) (ImageObject image) (DelayObject images) = DelayObject (slice_set images k image)
@@ -38,11 +40,11 @@ slot_kind None object = Some (object_kind object)
 slot_kind (Some k) (DelayObject images) = Some kind.Image
 slot_kind (Some k) other = None
 
--- the object in a slot that exists
+-- the object in a slot that exists; without a slot, the object itself
 abbrev pub object_in : Option ℕ → ObjectValue → ObjectValue
 object_in slot object = unwrap_or (in_slot slot object) (ImageObject (new_image 0 0 U8))
 
--- the slot has an image
+-- the slot exists and has an image; without a slot, the object is an image
 abbrev pub HasImage : Option ℕ → ObjectValue → Type 0
 HasImage slot object = option_map object_kind (in_slot slot object) ≡ Some kind.Image
 

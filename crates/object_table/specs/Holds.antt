@@ -10,7 +10,7 @@ use Rattle.object_table.specs.NamedObject.{NamedObject}
 abbrev pub names_it : ℕ → Numbered → Bool
 names_it name n = list_any (λ operand. operand.0.name == name) (operands n.node)
 
--- whether a node of a graph uses this name; other objects use none
+-- whether an object is a graph with a node that uses this name
 abbrev pub uses : ObjectValue → ℕ → Bool
 uses (GraphObject g) name = list_any (names_it name) g.nodes
 uses other name = false
@@ -23,10 +23,10 @@ is_used objects name = list_any (λ o. o.live && uses o.object name) objects
 abbrev pub is_held : List NamedObject → NamedObject → Bool
 is_held objects o = o.live || is_used objects o.name
 
--- the objects that are still held
+-- the objects of the list that are held
 abbrev pub still_held : List NamedObject → List NamedObject
 still_held objects = filter (is_held objects) objects
 
--- the objects once this name is no longer live
+-- the objects after this name is no longer live
 abbrev pub without_name : List NamedObject → ℕ → List NamedObject
 without_name objects name = map {A = NamedObject} {B = NamedObject} (λ o. if o.name == name then record o { live = false } else o) objects

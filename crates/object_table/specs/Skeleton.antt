@@ -1,5 +1,5 @@
--- The skeleton of an object: the attributes that no write and no run changes. OpenVX 1.3 has them as read-only attributes,
--- as VX_IMAGE_WIDTH, VX_DELAY_SLOTS or VX_DISTRIBUTION_BINS.
+-- The skeleton of an object: the attributes that no write and no run changes. In OpenVX 1.3 these
+-- are read-only attributes, such as VX_IMAGE_WIDTH, VX_DELAY_SLOTS or VX_DISTRIBUTION_BINS.
 use Rattle.std.specs.Prelude.{[], map}
 use Rattle.vx_base.specs.Graph.{new_graph}
 use Rattle.vx_base.specs.Image.{ImageValue, image_over, description_of}
@@ -10,8 +10,8 @@ use Rattle.vx_base.specs.Rectangle.{empty_rectangle}
 abbrev pub image_skeleton : ImageValue → ImageValue
 image_skeleton image = image_over (description_of image) empty_rectangle []
 
--- the size and format of an image, of each image for a delay; the bins of a distribution; only the kind of extremes and of a graph;
--- the whole of every other object
+-- the skeleton of an object: the size and format of an image, or of each image in a delay; the bins
+-- of a distribution; only the kind of extremes or a graph; all of any other object
 abbrev pub skeleton : ObjectValue → ObjectValue
 skeleton (ImageObject image) = ImageObject (image_skeleton image)
 skeleton (DelayObject images) = DelayObject (map image_skeleton images)

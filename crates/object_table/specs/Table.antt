@@ -23,9 +23,9 @@ use Rattle.vx_base.specs.declared.slots.TheConstants.{GREATEST_SLOTS}
 use Rattle.object_table.specs.declared.table.TheConstants.{GREATEST_OBJECTS}
 use Rattle.vx_base.specs.declared.node.TheConstants.{GREATEST_NODES}
 
--- ---- the objects of names and references
+-- ---- the objects that names and references denote
 
--- the object held under a name, if there is one
+-- the object held under a name; an image without pixels if there is none
 abbrev pub object_under : List NamedObject → ℕ → ObjectValue
 object_under objects name = unwrap_or (object_held objects name) (ImageObject (new_image 0 0 U8))
 
@@ -37,7 +37,7 @@ IsUnder objects wanted name = option_map object_kind (object_held objects name) 
 abbrev pub graph_under : List NamedObject → ℕ → GraphValue
 graph_under objects name = graph_value (object_under objects name)
 
--- the object that a reference names, if it names one
+-- the object that a reference names; an image without pixels if there is none
 abbrev pub cell_object : List NamedObject → Reference → ObjectValue
 cell_object objects cell = unwrap_or (object_at objects cell) (ImageObject (new_image 0 0 U8))
 
@@ -51,7 +51,7 @@ HoldsImage objects cell = option_map object_kind (object_at objects cell) ≡ So
 
 -- ---- entries
 
--- the view of an entry of the map
+-- an entry of the map as a named object
 abbrev pub entry_object : ℕ × Entry → NamedObject
 entry_object e = record { name = e.0; live = e.1.live; object = e.1.object }
 
@@ -63,11 +63,11 @@ nodes_at name entries = unwrap_or (option_map (λ e. nodes_in e.object) (lookup 
 abbrev pub used_more : List ℕ → List (ℕ × Entry) → List (ℕ × Entry)
 used_more names entries = map {A = ℕ × Entry} {B = ℕ × Entry} (λ e. let n : Entry = e.1 in (e.0, record n { uses = n.uses + name_count e.0 names })) entries
 
--- the entries with each use count lowered by that number
+-- the entries with each use count lowered by the number of times that its name occurs in a list
 abbrev pub used_less : List ℕ → List (ℕ × Entry) → List (ℕ × Entry)
 used_less names entries = map {A = ℕ × Entry} {B = ℕ × Entry} (λ e. let n : Entry = e.1 in (e.0, record n { uses = n.uses - name_count e.0 names })) entries
 
--- the entries once this name is no longer live
+-- the entries after this name is no longer live
 abbrev pub entries_without_name : ℕ → List (ℕ × Entry) → List (ℕ × Entry)
 entries_without_name name entries = map {A = ℕ × Entry} {B = ℕ × Entry} (λ e. let n : Entry = e.1 in if e.0 == name then (e.0, record n { live = false }) else e) entries
 
@@ -81,8 +81,9 @@ kept_entries entries = filter is_kept entries
 
 -- ---- the invariant of a table
 
--- The invariant of a table: distinct names below the next one, at most 1,024 objects of bounded size, the exact charge and use counts,
--- each entry held, and no node that uses a name not given yet.
+-- The invariant of a table. Names are distinct and below the next one. There are at most 1,024
+-- objects of bounded size, and each is held. The charge and the use counts are exact. Nodes use
+-- only names below the next one.
 pub record IsTable (next charge : ℕ) (entries : List (ℕ × Entry)) : Type 0 where
   pub names : IsStrictlyIncreasing (map (λ e. e.0) entries)
   pub below : All (λ e. e.0 < next) entries

@@ -11,12 +11,13 @@ use Rattle.object_table.specs.NamedObject.{NamedObject}
 abbrev pub used_names : Node → List ℕ
 used_names n = map (λ cell. cell.name) (inputs n ++ outputs n)
 
--- the nodes of an object that is a graph
+-- the nodes of a graph; none for an object of another kind
 abbrev pub nodes_in : ObjectValue → List Node
 nodes_in (GraphObject graph) = nodes_of graph
 nodes_in other = []
 
--- the names that the nodes of an unreleased graph use, each as often as it is used
+-- the names that an object's nodes use, each as often as it is used; none unless the object is an
+-- unreleased graph
 abbrev pub names_used_by : NamedObject → List ℕ
 names_used_by o = if o.live then flat_map used_names (nodes_in o.object) else []
 

@@ -59,7 +59,7 @@ impl Delay {
         Ok(Delay { desc, images })
     }
 
-    /// Gives the blocks of all images back to the pool. It allocates nothing.
+    /// Gives the blocks of all images back to the pool. Allocates nothing.
     pub fn end(self, pool: &mut Pool)
         requires { LendsAtLeast pool.old (delay_blocks self) }
         ensures { LendsLess pool.old pool.new (delay_blocks self) }
@@ -80,7 +80,7 @@ impl Delay {
         }
     }
 
-    /// Returns the bytes of all images' samples.
+    /// Returns the number of bytes of all images' samples.
     pub fn bytes(&self) -> usize
         ensures value { result ≡ sum_by image_bytes self.now }
         ensures limit { result ≤ GREATEST_SLOTS * GREATEST_BYTES }
@@ -88,7 +88,7 @@ impl Delay {
         self.images.len() * self.desc.byte_count()
     }
 
-    /// Moves each image to the next slot, and the last one to slot 0. It allocates nothing.
+    /// Moves each image to the next slot, and the last image to slot 0. Allocates nothing.
     pub fn age(&mut self)
         ensures value { self.new ≡ aged_images self.old }
         ensures bytes { sum_by image_bytes self.new ≡ sum_by image_bytes self.old }
@@ -96,7 +96,8 @@ impl Delay {
         self.images.rotate_right(1);
     }
 
-    /// Writes a picture to the image in a slot; both are of one description.
+    /// Writes a picture to the image in a slot. The picture and the image have the same
+    /// description.
     pub fn write(&mut self, k: u8, picture: &Picture)
         requires within { k < length self.old }
         requires image { IsImage (image_in self.old k) }
@@ -109,7 +110,7 @@ impl Delay {
         image.write(picture);
     }
 
-    /// Sets the valid rectangle of the image in a slot, and each sample outside it to 0.
+    /// Sets the valid rectangle of the image in a slot, and each sample outside the rectangle to 0.
     pub fn set_valid(&mut self, k: u8, valid: Rect)
         requires within { k < length self.old }
         requires image { IsImage (image_in self.old k) }
@@ -121,8 +122,8 @@ impl Delay {
         image.set_valid(valid);
     }
 
-    /// Takes the samples out of the image in a slot, and returns them with its size and format;
-    /// `put` brings them back.
+    /// Takes the samples out of the image in a slot, and returns them with the image's size and
+    /// format. `put` brings the samples back.
     pub fn take(&mut self, k: u8) -> (Desc, Samples)
         requires within { k < length self.old }
         ensures desc { result.0 ≡ description_of (image_in self.old k) }
@@ -136,7 +137,7 @@ impl Delay {
         image.take()
     }
 
-    /// Puts samples into the image in a slot, and sets its valid rectangle.
+    /// Puts samples into the image in a slot, and sets the image's valid rectangle.
     pub fn put(&mut self, k: u8, samples: Samples, valid: Rect)
         requires within { k < length self.old }
         requires format { samples_format samples ≡ (image_in self.old k).format }

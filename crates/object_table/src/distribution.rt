@@ -6,7 +6,7 @@ use std::alloc::{AllocError, Global};
 use std::marker::Model;
 use vx_base::Bins;
 
-/// Bins, and how many samples of an image fell into each (OpenVX 1.3, `vx_distribution`).
+/// Bins, and how many samples of an image fell into each bin (OpenVX 1.3, `vx_distribution`).
 #[derive(Drop)]
 pub struct Distribution {
     bins: Bins,
@@ -51,7 +51,7 @@ impl Distribution {
         &self.counts
     }
 
-    /// Replaces the counts, one for each bin. It allocates nothing.
+    /// Replaces the counts, one for each bin. Allocates nothing.
     pub fn set_counts(&mut self, counts: &[u32])
         requires { length counts.now ≡ self.old.bins.bins }
         ensures { self.new ≡ record { bins = self.old.bins; counts = counts.now } }

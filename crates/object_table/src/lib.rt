@@ -1,19 +1,19 @@
 //! The objects of one client, by name.
 //!
 //! A `Table` gives each object that is inserted the next name: 1, 2, .. A name is never used twice.
-//! It is live until it is released. An object is held while its name is live or a node uses it. A
-//! table holds at most 1,024 objects, and keeps the total of bytes that they are charged. Only
-//! `insert`, `add_node` and `register` allocate memory. The samples of an image are a block of a
-//! pool; the block is given back when the image is no longer held.
+//! A name is live until it is released. An object is held while its name is live or a node uses the
+//! object. A table holds at most 1,024 objects, and counts the bytes that the client is charged for
+//! them. Only `insert`, `add_node` and `register` allocate memory. The samples of an image are a
+//! block of a pool; the block is given back when the image is no longer held.
 //!
 //! - `stored`: an image whose samples are a block of a pool
-//! - `delay`: such images in slots
+//! - `delay`: images in slots
 //! - `distribution`: bins, and the counts of a histogram
 //! - `object`: an image, a lookup table, a threshold, a delay, a convolution, a distribution,
 //!   extremes, a graph or a virtual image
-//! - `table`: objects by name, with their charge; they are read and written by name or reference
+//! - `table`: objects by name, with their charge; reads and writes objects by name or reference
 //! - `table::ageing`: delays that age with graphs
-//! - `table::graphs`: the graphs of a table, and the uses that their nodes make of its objects
+//! - `table::graphs`: the graphs of a table, and how often their nodes use each object
 //! - `fault`: why a call fails
 #![tactic(auto)]
 

@@ -69,7 +69,7 @@ impl Object {
         Object { content }
     }
 
-    /// Gives the blocks of the object's images back to the pool, and drops the rest. It allocates
+    /// Gives the blocks of the object's images back to the pool, and drops the object. Allocates
     /// nothing.
     pub fn end(self, pool: &mut Pool)
         requires { LendsAtLeast pool.old (object_blocks self) }
@@ -118,7 +118,7 @@ impl Object {
         }
     }
 
-    /// Returns whether the delay has the slot; always true without a slot.
+    /// Returns whether the object is a delay that has the slot; always true without a slot.
     pub fn has_slot(&self, slot: Option<u8>) -> bool
         ensures { result ≡ is_some (in_slot slot self.now) }
     {
@@ -129,7 +129,7 @@ impl Object {
         }
     }
 
-    /// Returns the bytes that the object is charged: those of its images' samples.
+    /// Returns the bytes that a client is charged for the object: the bytes of its images' samples.
     pub fn bytes(&self) -> usize
         ensures value { result ≡ object_bytes self.now }
         ensures limit { result ≤ GREATEST_SLOTS * GREATEST_BYTES }
@@ -141,7 +141,8 @@ impl Object {
         }
     }
 
-    /// Returns the image in a slot, or without a slot the object itself, which is an image.
+    /// Returns the image in a slot of the delay; without a slot, the object itself, which is an
+    /// image.
     pub fn image(&self, slot: Option<u8>) -> &Stored
         requires { HasImage slot self.now }
         ensures { result.now ≡ image_value (object_in slot self.now) }
@@ -153,7 +154,8 @@ impl Object {
         }
     }
 
-    /// Copies a picture to the image that `image(slot)` returns. Both have the same description.
+    /// Copies a picture to the image that `image(slot)` returns. The picture and the image have the
+    /// same description.
     pub fn write(&mut self, slot: Option<u8>, picture: &Picture)
         requires there { HasImage slot self.old }
         requires object { IsObject self.old }
@@ -171,8 +173,8 @@ impl Object {
         }
     }
 
-    /// Sets the valid rectangle of the image that `image(slot)` returns, and each sample outside it
-    /// to 0.
+    /// Sets the valid rectangle of the image that `image(slot)` returns, and each sample outside
+    /// the rectangle to 0.
     pub fn set_valid(&mut self, slot: Option<u8>, valid: Rect)
         requires there { HasImage slot self.old }
         requires object { IsObject self.old }
@@ -208,7 +210,8 @@ impl Object {
         }
     }
 
-    /// Puts samples into the image that `image(slot)` returns, and sets its valid rectangle.
+    /// Puts samples into the image that `image(slot)` returns, and sets the image's valid
+    /// rectangle.
     pub fn put(&mut self, slot: Option<u8>, samples: Samples, valid: Rect)
         requires there { HasImage slot self.old }
         requires format { samples_format samples ≡ (image_value (object_in slot self.old)).format }
@@ -223,7 +226,7 @@ impl Object {
         }
     }
 
-    /// Ages the object if it is a delay. It allocates nothing.
+    /// Ages the object if it is a delay. Allocates nothing.
     pub fn age(&mut self)
         ensures value { self.new ≡ aged_object self.old }
         ensures bytes { object_bytes self.new ≡ object_bytes self.old }
@@ -234,7 +237,7 @@ impl Object {
         }
     }
 
-    /// Replaces the counts of a distribution, one for each bin. It allocates nothing.
+    /// Replaces the counts of a distribution, one for each bin. Allocates nothing.
     pub fn set_counts(&mut self, counts: &[u32])
         requires kind { object_kind self.old ≡ kind.Distribution }
         requires size { length counts.now ≡ (distribution_value self.old).bins.bins }
@@ -287,8 +290,8 @@ impl Object {
         }
     }
 
-    /// Removes the node with this number from a graph, and returns it. `InvalidReference`: there is
-    /// no such node.
+    /// Removes the node with this number from a graph, and returns the node. `InvalidReference`:
+    /// there is no such node.
     pub fn remove_node(&mut self, number: u32) -> Result<NodeSpec, GraphFault>
         requires { object_kind self.old ≡ kind.Graph }
         ensures graph { IsGraph (graph_value self.old) }

@@ -52,7 +52,7 @@ impl Stored {
         })
     }
 
-    /// Gives the image's block back to the pool. It allocates nothing.
+    /// Gives the image's block back to the pool. Allocates nothing.
     pub fn end(self, pool: &mut Pool)
         requires { LendsAtLeast pool.old (image_blocks self) }
         ensures { LendsLess pool.old pool.new (image_blocks self) }
@@ -102,7 +102,7 @@ impl Stored {
         }
     }
 
-    /// Copies the samples of a picture, which is of the image's description. The whole image is
+    /// Copies the samples of a picture, which has the image's size and format. The whole image is
     /// then valid.
     pub fn write(&mut self, picture: &Picture)
         requires image { IsImage self.old }
@@ -116,7 +116,7 @@ impl Stored {
         self.block.put(samples);
     }
 
-    /// Sets the valid rectangle, and each sample outside it to 0.
+    /// Sets the valid rectangle, and each sample outside the rectangle to 0.
     pub fn set_valid(&mut self, valid: Rect)
         requires image { IsImage self.old }
         requires room { IsWithin valid self.old.width self.old.height }
@@ -130,8 +130,8 @@ impl Stored {
         self.valid = valid;
     }
 
-    /// Takes the samples out, and returns them with the size and format. They can then be written
-    /// while other images are read; `put` brings them back.
+    /// Takes the samples out, and returns them with the image's size and format. The samples can
+    /// then be written while other images are read. `put` brings the samples back.
     pub fn take(&mut self) -> (Desc, Samples)
         ensures desc { result.0 ≡ description_of self.old }
         ensures value { values result.1 ≡ self.old.samples }

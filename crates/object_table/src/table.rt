@@ -82,8 +82,7 @@ impl Table {
         }
     }
 
-    /// Gives the blocks of all images back to the pool, and drops the objects. It allocates
-    /// nothing.
+    /// Gives the blocks of all images back to the pool, and drops the objects. Allocates nothing.
     pub fn end(self, pool: &mut Pool)
         requires { LendsAtLeast pool.old (blocks_in self.objects) }
         ensures { LendsLess pool.old pool.new (blocks_in self.objects) }
@@ -121,9 +120,9 @@ impl Table {
         self.next < END_OF_NAMES && self.entries.len() < GREATEST_OBJECTS
     }
 
-    /// Inserts an object under the next name, and returns the name, which is live. A graph has no
-    /// nodes yet. A fault hands the object back, and has changed nothing. `NoResources`: no name is
-    /// left, or 1,024 objects are held. `NoMemory`: the allocation failed.
+    /// Inserts an object under the next name, and returns the name, which is live. A graph must
+    /// have no nodes yet. A fault hands the object back, and the table is unchanged. `NoResources`:
+    /// no name is left, or 1,024 objects are held. `NoMemory`: the allocation failed.
     pub fn insert(&mut self, object: Object) -> Result<u32, InsertFault>
         requires { nodes_in object ≡ [] }
         ensures name { IfOk result (λ name. name ≡ self.old.next) }
@@ -194,7 +193,8 @@ impl Table {
         }
     }
 
-    /// Writes a picture to the image that a reference names; both are of one description.
+    /// Writes a picture to the image that a reference names. The picture and the image have the
+    /// same description.
     pub fn write(&mut self, cell: ObjRef, picture: &Picture)
         requires there { HoldsImage self.old.objects cell }
         requires object { IsObject (object_under self.old.objects cell.name) }
@@ -210,8 +210,8 @@ impl Table {
         entry.object.write(cell.slot(), picture);
     }
 
-    /// Sets the valid rectangle of the image that a reference names, and each sample outside it to
-    /// 0.
+    /// Sets the valid rectangle of the image that a reference names, and each sample outside the
+    /// rectangle to 0.
     pub fn set_valid(&mut self, cell: ObjRef, valid: Rect)
         requires there { HoldsImage self.old.objects cell }
         requires object { IsObject (object_under self.old.objects cell.name) }
@@ -227,8 +227,8 @@ impl Table {
         entry.object.set_valid(cell.slot(), valid);
     }
 
-    /// Takes the samples out of the image that a reference names, and returns them with its size
-    /// and format; `put` brings them back.
+    /// Takes the samples out of the image that a reference names, and returns them with the image's
+    /// size and format. `put` brings the samples back.
     pub fn take(&mut self, cell: ObjRef) -> (Desc, Samples)
         requires { HoldsImage self.old.objects cell }
         ensures desc { result.0 ≡ description_of (image_held self.old.objects cell) }
@@ -245,7 +245,7 @@ impl Table {
         entry.object.take(cell.slot())
     }
 
-    /// Puts samples into the image that a reference names, and sets its valid rectangle.
+    /// Puts samples into the image that a reference names, and sets the image's valid rectangle.
     pub fn put(&mut self, cell: ObjRef, samples: Samples, valid: Rect)
         requires there { HoldsImage self.old.objects cell }
         requires format { samples_format samples ≡ (image_held self.old.objects cell).format }
@@ -259,7 +259,7 @@ impl Table {
         entry.object.put(cell.slot(), samples, valid);
     }
 
-    /// Ages the delay under a name. It allocates nothing.
+    /// Ages the delay under a name. Allocates nothing.
     pub fn age(&mut self, name: u32)
         requires { IsUnder self.old.objects kind.Delay name }
         ensures { self.new ≡ with_objects self.old

@@ -118,7 +118,7 @@ fn adding(function: Function, input: u32, output: u32) -> Result<Request, Fail> 
     Ok(Request::AddNode(3, node))
 }
 
-/// Adds such a node, and returns its number.
+/// Adds a node to graph 3, from one image to another, and returns the node's number.
 pub fn add(
     alloc: Global,
     runtime: &mut Runtime,

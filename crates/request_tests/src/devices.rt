@@ -6,7 +6,7 @@ use vx_requests::{Failed, Sink, Source};
 /// More calls than a test makes.
 pub const NEVER: u64 = 1 << 40;
 
-/// A source of bytes that gives at most `piece` of them in each read.
+/// A source that gives at most `piece` bytes in each read.
 #[derive(Drop)]
 pub struct PiecewiseSource<'a> {
     pub bytes: &'a [u8],

@@ -1,6 +1,6 @@
 //! Tests of the public functions on requests, for cases that no stream through the program reaches:
 //! the order of reads and flushes, devices that fail, requests that are written, small quotas, and
-//! the blocks of images. `tools/check_program` tests the rest on the program.
+//! the blocks of images. `tools/check_program` tests the other cases on the program.
 //!
 //! - `devices`: a source and a sink in memory that move a few bytes in each call, and can fail
 //! - `streams`: a stream in pieces, each read and each write failing, and how far a stream is read
@@ -8,9 +8,9 @@
 //! - `adapters`: std's readers and writers, through `FromRead` and `FromWrite`
 //! - `requests`: requests to bytes and back; the texts of faults
 //! - `pictures`: pictures of more bytes than a small frame, in pieces, cut short and refused
-//! - `texts`: the same for PGM texts
+//! - `texts`: PGM texts, in pieces, cut short and refused
 //! - `clients`: clients with a small quota
-//! - `pooled`: the pool's blocks of clients' images
+//! - `pooled`: blocks of the pool that hold clients' images
 #![tactic(auto)]
 
 #[cfg(test)]

@@ -77,8 +77,8 @@ fn writing(alloc: Global, desc: Desc, seed: u32) -> Result<Vec<u8>, Fail> {
     )
 }
 
-/// Returns the samples in the frame `writing`, which follow the reference. A ReadImage after the
-/// frame gets them as the body of its reply.
+/// Returns the picture in the frame `writing`: the description and the samples, after the
+/// reference. A ReadImage after the frame gets these bytes as the body of its reply.
 fn read(writing: &[u8]) -> &[u8] {
     if writing.len() < 12 {
         writing
@@ -112,15 +112,15 @@ pub fn opened(alloc: Global, desc: Desc) -> Result<Runtime, Fail> {
     Ok(runtime)
 }
 
-/// Returns whether the image has the samples in the frame `writing`.
+/// Returns whether the image has the picture in the frame `writing`.
 fn holds(alloc: Global, runtime: &mut Runtime, writing: &[u8]) -> Result<bool, Fail> {
     let asked = frame(alloc, &Request::ReadImage(image()))?;
     let replies = ask(alloc, runtime, asked.as_slice())?;
     Ok(replies.len() > 8 && replies[7] == 0 && &replies[8..] == read(writing))
 }
 
-/// Writes a picture in pieces of one size and reads it in pieces of another. Returns whether it is
-/// the same.
+/// Writes a picture in pieces of one size and reads it in pieces of another size. Returns whether
+/// the picture comes back unchanged.
 fn comes_back(
     alloc: Global,
     desc: Desc,
@@ -157,8 +157,9 @@ fn pictures_in_pieces(rt: HostRuntime) -> Result<(), Fail> {
     Ok(())
 }
 
-/// Returns whether the image still has the first picture after two failed writes of the next one.
-/// The stream of one ends after `part` of the frame; in the other, a read of `part` fails.
+/// Returns whether the image still has the first picture after two failed writes of the next
+/// picture. In one write, the stream ends after `part` of the frame. In the other, a read within
+/// `part` fails.
 fn stays(
     alloc: Global,
     runtime: &mut Runtime,
@@ -174,7 +175,8 @@ fn stays(
     Ok(ended && stays && holds(alloc, runtime, first)?)
 }
 
-/// Returns whether the image stays the same for parts of 23 lengths.
+/// Returns whether the image stays the same after failed writes of the next picture, for parts of
+/// 23 lengths.
 fn stays_after_parts(
     alloc: Global,
     runtime: &mut Runtime,
@@ -226,7 +228,7 @@ fn is_refused(
     Ok(replies.len() > 16 && replies[7] == code && &replies[16..] == read(first))
 }
 
-/// A refused picture is skipped, and the next one is written.
+/// A refused picture is skipped, and the next picture is written.
 #[test]
 fn pictures_refused(rt: HostRuntime) -> Result<(), Fail> {
     let alloc = rt.alloc();

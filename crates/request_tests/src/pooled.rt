@@ -1,5 +1,5 @@
-//! The pool's blocks of clients' images: they are reused and given back, and the next client to get
-//! a block never sees the old samples.
+//! Blocks of the pool that hold clients' images. Blocks are reused and given back, and the next
+//! client that gets a block never sees the old samples.
 use crate::clients::{add, add_not, create, holds, reply, succeed, with_a_graph, write_sample};
 use client_contexts::Runtime;
 use client_model::{Limits, Reply, Request};
@@ -7,7 +7,8 @@ use std::alloc::Global;
 use std::test::Fail;
 use vx_base::{Desc, Format, Function, ObjRef, PartialDesc, Picture, Samples, SlotCount};
 
-/// Returns whether these are the numbers of lent blocks and of all blocks, of U8, S16 and U32.
+/// Returns whether the pool has these numbers of lent blocks and of all blocks, for U8, S16 and
+/// U32.
 fn has(runtime: &Runtime, lent: [usize; 3], blocks: [usize; 3]) -> bool {
     let [bytes, shorts, words] = [Format::U8, Format::S16, Format::U32];
     lent == [
@@ -60,8 +61,8 @@ fn is_cleared(alloc: Global, runtime: &mut Runtime, cell: ObjRef) -> Result<bool
     }
 }
 
-/// Returns whether the image that a reference names was 0 everywhere, and fills it with other
-/// samples.
+/// Returns whether the image that a reference names was 0 everywhere, and fills the image with
+/// other samples.
 fn was_cleared(
     alloc: Global,
     runtime: &mut Runtime,
@@ -73,7 +74,7 @@ fn was_cleared(
     Ok(was_cleared && !is_cleared(alloc, runtime, cell)?)
 }
 
-/// Each format, and the blocks of an image of that format: of U8, of S16 and of U32.
+/// Each format, and the numbers of U8, S16 and U32 blocks of one image of that format.
 const FORMATS: [(Format, [usize; 3]); 3] = [
     (Format::U8, [1, 0, 0]),
     (Format::S16, [0, 1, 0]),
@@ -108,8 +109,8 @@ fn a_new_image_is_cleared_and_uses_the_block_of_a_released_one(
     Ok(())
 }
 
-/// Creates a delay like image 1, which has this description, ages it and releases it. Returns
-/// whether slots 0 to 2 were 0, and whether it used the blocks that it should.
+/// Creates a delay of three images like image 1, which has this description; ages and releases the
+/// delay. Returns whether all slots were 0, and three blocks were lent to the delay.
 fn slots_are_cleared(
     alloc: Global,
     runtime: &mut Runtime,
@@ -144,7 +145,7 @@ fn a_new_delay_is_cleared_and_uses_the_blocks_of_a_released_one(
     Ok(())
 }
 
-/// Creates an image of four samples, and a delay of this number of images like it.
+/// Creates an image of four samples, and a delay with this number of such images.
 fn create_many(
     alloc: Global,
     runtime: &mut Runtime,
@@ -173,7 +174,7 @@ fn a_released_context_has_given_all_blocks_back(rt: HostRuntime) -> Result<(), F
     Ok(())
 }
 
-/// Adds a chain of six nodes Box to graph 3, from image 1 to image 2 through five virtual images.
+/// Adds a chain of six Box nodes to graph 3, from image 1 to image 2 through five virtual images.
 fn add_chain(alloc: Global, runtime: &mut Runtime) -> Result<(), Fail> {
     let open = PartialDesc::new(None, None, None).ok_or("nothing is declared")?;
     for _ in 5..9 {
@@ -263,15 +264,15 @@ fn so_many_blocks_are_lent_after_each_call(rt: HostRuntime) -> Result<(), Fail> 
     for (request, lent) in [
         (Request::VerifyGraph(3), 2),
         (Request::ProcessGraph(3), 2),
-        // A node still reads it.
+        // A node still reads image 1.
         (Request::Release(1), 2),
         (Request::ProcessGraph(3), 2),
         (Request::RemoveNode(3, 1), 1),
         (Request::CreateDelay(ObjRef::new(2, None), slots), 4),
-        // There is no image 1.
+        // Image 1 has been dropped.
         (Request::CreateDelay(ObjRef::new(1, None), slots), 4),
         (Request::AgeDelay(5), 4),
-        // A node still writes it until its graph is released.
+        // A node writes image 2 until graph 3 is released.
         (Request::Release(2), 4),
         (Request::Release(3), 3),
         (Request::Release(5), 0),
@@ -279,7 +280,7 @@ fn so_many_blocks_are_lent_after_each_call(rt: HostRuntime) -> Result<(), Fail> 
     ] {
         assert!(rt; leaves(alloc, &mut runtime, &request, lent)?);
     }
-    // There were never more lent at the same time.
+    // At most four blocks were ever lent at the same time.
     assert!(rt; has(&runtime, [0; 3], [4, 0, 0]));
     Ok(())
 }

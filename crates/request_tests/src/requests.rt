@@ -64,7 +64,7 @@ fn request(alloc: Global, number: u8) -> Option<Request> {
     }
 }
 
-/// Returns the request with this number, if it is one of those on graphs.
+/// Returns the request on graphs with this number, if there is one.
 fn request_on_graphs(number: u8) -> Option<Request> {
     match number {
         19 => Some(Request::CreateGraph),

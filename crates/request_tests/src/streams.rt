@@ -1,5 +1,5 @@
-//! One stream of two clients, over devices that move it in pieces or fail; and how far a stream
-//! with a fault is read.
+//! Streams over devices that move them in pieces or fail; and how far a stream with a fault is
+//! read.
 use crate::devices::{NEVER, PiecewiseSink, PiecewiseSource};
 use client_contexts::Runtime;
 use client_model::Limits;
@@ -8,7 +8,7 @@ use std::process::Abort;
 use vx_requests::{StreamFault, Summary, serve};
 
 /// Clients 1 and 2 in turn: each opens a context, creates an image of one U8 sample, writes 10 or
-/// 20, and reads it.
+/// 20 to the image, and reads the image.
 pub const TURNS: &[u8] = b"\x00\x00\x00\x03\x00\x01\x01\
 \x00\x00\x00\x03\x00\x02\x01\
 \x00\x00\x00\x08\x00\x01\x03\x01\x00\x01\x00\x01\
@@ -46,10 +46,10 @@ const STORED_REPLIES: &[u8] = b"\x00\x00\x00\x04\x00\x07\x01\x00\
 \x00\x00\x00\x04\x00\x07\x18\x00\
 \x00\x00\x00\x0a\x00\x07\x07\x00\x01\x00\x01\x00\x01\xf5";
 
-/// The offsets at which the replies end.
+/// The offsets at which the replies in `REPLIES` end.
 const REPLY_ENDS: [usize; 9] = [0, 8, 16, 28, 40, 48, 56, 70, 84];
 
-/// The same for `STORED_REPLIES`.
+/// The offsets at which the replies in `STORED_REPLIES` end.
 const STORED_ENDS: [usize; 7] = [0, 8, 20, 32, 40, 48, 62];
 
 /// The devices of a stream: the sizes of their pieces, and the number of calls until one fails.
@@ -132,8 +132,9 @@ fn in_pieces(rt: HostRuntime) {
     }
 }
 
-/// Serves a stream over devices of which one may fail with this fault. Returns whether it
-/// succeeded, with all replies, which end at these offsets.
+/// Serves a stream over devices of which one may fail with this fault, and returns whether serving
+/// succeeded. Checks that the bytes written are whole replies, which end at these offsets; the last
+/// reply may be cut short only if a write failed.
 fn ends_well(
     rt: &impl Abort,
     alloc: Global,
@@ -153,8 +154,9 @@ fn ends_well(
     is_ok
 }
 
-/// Serves a stream, with a byte in each call, and each read and each write failing in turn. It
-/// succeeds with more than this number of good reads, or of good writes.
+/// Serves a stream, with one byte in each call, and each read and each write failing in turn.
+/// Checks that serving succeeds exactly with more than `most_reads` good reads, or more than
+/// `most_writes` good writes.
 fn fails_at_each_call(
     rt: &impl Abort,
     alloc: Global,
@@ -188,8 +190,8 @@ fn fails_at_each_call(
     }
 }
 
-/// `TURNS` has 98 bytes and its replies 84, `STORED` 93 and 62, and each byte takes a call here.
-/// Further calls are the flushes, and the read that finds the end.
+/// Each byte takes one call: `TURNS` has 98 bytes and its replies 84, `STORED` 93 and its replies
+/// 62. The other calls are a flush for each reply, and the read that finds the end.
 #[test]
 fn each_read_and_each_write_failing(rt: HostRuntime) {
     fails_at_each_call(&rt, rt.alloc(), TURNS, REPLIES, &REPLY_ENDS, 98, 91);
@@ -270,8 +272,8 @@ fn how_far_it_reads(rt: HostRuntime) {
     }
 }
 
-/// Streams without a fault, one after the other to the same runtime: an empty one, one in which a
-/// client opens a context, and one that finds it open.
+/// Streams without a fault, one after the other to the same runtime: an empty stream, a stream in
+/// which a client opens a context, and a stream in which the client's context is open already.
 #[test]
 fn goes_on_after_a_good_end(rt: HostRuntime) {
     let mut runtime = Runtime::new(rt.alloc(), Limits::default());
@@ -290,7 +292,8 @@ fn goes_on_after_a_good_end(rt: HostRuntime) {
     }
 }
 
-/// A stream that ends within its second frame, and one that finds the context of the first open.
+/// First a stream that ends within its second frame; then a stream that finds the context of the
+/// first stream still open.
 #[test]
 fn goes_on_after_a_stream_cut_short(rt: HostRuntime) {
     let mut runtime = Runtime::new(rt.alloc(), Limits::default());

@@ -49,13 +49,13 @@ fn holds(alloc: Global, runtime: &mut Runtime, text: &[u8]) -> Result<bool, Fail
     Ok(replies.as_slice() == answer(alloc, text)?.as_slice())
 }
 
-/// Splits replies after the first, which answers a write and has eight bytes.
+/// Splits replies after the first reply, which answers a write and has eight bytes.
 fn split_reply(replies: &[u8]) -> (&[u8], &[u8]) {
     replies.split_at(replies.len().min(8))
 }
 
-/// Writes a text in pieces of one size and reads it in pieces of another. Returns whether it is the
-/// same.
+/// Writes a text in pieces of one size and reads it in pieces of another size. Returns whether the
+/// text comes back unchanged.
 fn comes_back(
     alloc: Global,
     desc: Desc,
@@ -92,8 +92,8 @@ fn texts_in_pieces(rt: HostRuntime) -> Result<(), Fail> {
     Ok(())
 }
 
-/// Cuts the frame that writes the next text short at 23 lengths. Returns whether the image still
-/// has the first text each time.
+/// Serves the frame that writes the next text, cut short at 23 lengths. Returns whether the image
+/// still has the first text each time.
 fn stays_after_parts(
     alloc: Global,
     runtime: &mut Runtime,
@@ -133,7 +133,7 @@ fn texts_cut_short(rt: HostRuntime) -> Result<(), Fail> {
     Ok(())
 }
 
-/// Returns whether a text is refused with this code, and the image still has the first one.
+/// Returns whether a text is refused with this code, and the image still has the first text.
 fn is_refused(
     alloc: Global,
     runtime: &mut Runtime,
@@ -176,7 +176,7 @@ fn texts_refused(rt: HostRuntime) -> Result<(), Fail> {
     Ok(())
 }
 
-/// An image of U8 refuses raw texts of two bytes a sample, and some of one byte.
+/// A U8 image refuses raw texts with two bytes for each sample, and a raw text of another size.
 #[test]
 fn texts_of_two_bytes_refused(rt: HostRuntime) -> Result<(), Fail> {
     let alloc = rt.alloc();
@@ -198,7 +198,7 @@ fn texts_of_two_bytes_refused(rt: HostRuntime) -> Result<(), Fail> {
     Ok(())
 }
 
-/// An image of S16 can't be read as a text.
+/// An S16 image can't be read as a text.
 #[test]
 fn no_texts_of_shorts(rt: HostRuntime) -> Result<(), Fail> {
     let alloc = rt.alloc();

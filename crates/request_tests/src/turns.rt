@@ -1,5 +1,5 @@
-//! A reply is written and flushed before a byte of the next frame is read, as a source finds that
-//! watches the sink.
+//! Checks that a reply is written and flushed before a byte of the next frame is read. To find out,
+//! the source watches the sink.
 ghost use Rattle.std.specs.Prelude.{None};
 
 use crate::devices::NEVER;
@@ -9,12 +9,12 @@ use client_model::Limits;
 use std::cell::Cell;
 use vx_requests::{Failed, Sink, Source, Summary, serve};
 
-/// A source of frames. It fails if a byte after a frame is read before the reply was flushed, or
-/// while the sink holds bytes that were written after the flush.
+/// A source of frames. It fails if a byte after a frame is read too early: before the reply was
+/// flushed, or while the sink holds bytes written after the flush.
 #[derive(Drop)]
 struct InTurns<'a> {
     stream: &'a [u8],
-    /// The number of bytes left of the frame.
+    /// The number of bytes of the current frame that are left.
     frame: usize,
     begun: u64,
     flushed: &'a Cell<u64>,
@@ -24,7 +24,7 @@ struct InTurns<'a> {
 }
 
 impl InTurns<'_> {
-    /// Returns the number of bytes of the next frame, or 0 while it must not be read.
+    /// Returns the number of bytes of the next frame, or 0 while that frame must not be read.
     fn next_frame(&self) -> usize {
         match self.stream {
             [a, b, c, d, ..] if self.flushed.get() == self.begun && !self.holds.get() => {
@@ -65,8 +65,8 @@ impl Source for InTurns<'_> {
     }
 }
 
-/// A sink that counts its flushes, and shows the source whether it holds bytes that were written
-/// since the last.
+/// A sink that counts its flushes, and shows the source whether any bytes were written after the
+/// last flush.
 #[derive(Drop)]
 struct Flushed<'a> {
     bytes: Vec<u8>,

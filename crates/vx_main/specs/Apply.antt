@@ -32,7 +32,7 @@ pgm_fault_code fault.InvalidValue = InvalidValue
 pgm_fault_code fault.InvalidFormat = InvalidFormat
 pgm_fault_code fault.NoMemory = NoMemory
 
--- the resulting text of a picture of U8, or the code of the fault
+-- the text that a job writes for a U8 picture, or the code of the fault
 abbrev pub applied_to : Job → Result PictureValue PgmFault → Result (List ℕ) Code
 applied_to job (Err fault) = Err (pgm_fault_code fault)
 applied_to job (Ok p) = if same_format p.description.format U8 then Ok (text_made job p) else Err InvalidFormat

@@ -1,4 +1,4 @@
-//! `apply`: one function of one PGM text, from a reader to a writer.
+//! `apply`: applies one function to the picture of a PGM text, from a reader to a writer.
 ghost use Rattle.std.specs.Prelude.{◌≡◌, Ok, IfOk, IfErr, OnOk};
 ghost use Rattle.vx_base.specs.declared.format.Format.TheVariants.{U8 as FormatU8};
 ghost use Rattle.client_model.specs.Answer.{answer_to};
@@ -18,7 +18,7 @@ use vx_requests::StreamFault;
 /// The most bytes of a text: 2^29.
 const LONGEST_TEXT: usize = 536_870_912;
 
-/// The only client, in whose name the requests are made.
+/// The only client, which makes all requests.
 const CLIENT: u16 = 1;
 
 /// Reads a PGM text to its end, applies the job to its picture, and writes the resulting text.
@@ -36,7 +36,7 @@ pub fn apply<R: Read + Drop, W: Write>(
     write_to_end(writer, made.bytes())
 }
 
-/// Returns all bytes of a reader. `NoResources`: they are more than a text may have.
+/// Returns all bytes of a reader. `NoResources`: there are more bytes than a text may have.
 fn read_all<R: Read + Drop>(alloc: Global, reader: R) -> Result<Vec<u8>, Ended> {
     let mut text = Vec::new(alloc);
     let mut limited = reader.take(LONGEST_TEXT as u64 + 1);
@@ -50,7 +50,7 @@ fn read_all<R: Read + Drop>(alloc: Global, reader: R) -> Result<Vec<u8>, Ended> 
     }
 }
 
-/// Returns the text that the job gives for the U8 picture of a text, or why there is none.
+/// Returns the text that the job gives for the U8 picture of a text, or why the job fails.
 fn job_result(alloc: Global, job: Job, text: &[u8]) -> Result<Text, Ended>
     ensures ok { IfOk result (λ made. job_result job text.now ≡ Ok made) }
     ensures err { IfErr result (EndsFor (job_result job text.now)) }
@@ -62,9 +62,9 @@ fn job_result(alloc: Global, job: Job, text: &[u8]) -> Result<Text, Ended>
     Ok(made(alloc, job, picture)?)
 }
 
-/// Returns the text that the job gives for a picture of U8, by requests of one client to a server
-/// with the default limits. No request is refused: two images of the greatest size are within the
-/// quota.
+/// Returns the text that the job gives for a U8 picture. Makes the requests of one client to a
+/// runtime with the default limits. No request is refused: two images of the greatest size are
+/// within the quota.
 fn made(alloc: Global, job: Job, picture: Picture) -> Result<Text, NoMemory>
     requires { picture.description.format ≡ FormatU8 }
     ensures { IfOk result (λ text. text ≡ text_made job picture) }

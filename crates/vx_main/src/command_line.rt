@@ -10,7 +10,7 @@ use std::alloc::{AllocError, Global};
 /// The server's version.
 const VERSION: &str = "0.1.0";
 
-/// The default of the limits in bytes, as a word of the command line.
+/// The default of each limit in bytes, as a word of the command line.
 const DEFAULT_BYTES: &str = "268435456";
 
 /// The values of `<FUNCTION>`, as the help and the errors list them.
@@ -42,9 +42,9 @@ pub enum Asked {
     Apply(Job),
 }
 
-/// Returns what the words tell the program to do: `serve`, with or without a quota and a work, or
-/// `apply` with a function, with or without a border. The error holds the text of a refusal, of the
-/// help or of the version.
+/// Returns what the words tell the program to do: `serve`, optionally with a quota and work bytes;
+/// or `apply` with a function, optionally with a border. The error holds the text of a refusal, of
+/// the help or of the version.
 pub fn read_words(alloc: Global, words: &[&str]) -> Result<Asked, Error> {
     let program = Command::new(alloc, "vx_main")
         .version(VERSION)
@@ -92,7 +92,7 @@ fn bytes_option<'a>(alloc: Global, name: &'static str, help: &'static str) -> Ar
         .help(help)
 }
 
-/// Returns the limits of the words after `serve`.
+/// Returns the limits that the words after `serve` give.
 fn read_limits(alloc: Global, serve: &ArgMatches<'_>) -> Result<Limits, Error> {
     let quota = serve.get_str("quota").unwrap_or(DEFAULT_BYTES);
     let work = serve.get_str("work").unwrap_or(DEFAULT_BYTES);
@@ -129,7 +129,7 @@ fn apply_command<'a>(alloc: Global) -> Result<Command<'a>, AllocError> {
         .arg(border)
 }
 
-/// Returns the job of the words after `apply`.
+/// Returns the job that the words after `apply` give.
 fn read_job(alloc: Global, apply: &ArgMatches<'_>) -> Result<Job, Error> {
     let function = apply.get_str("function").unwrap_or("");
     let Some(operation) = parse_operation(function) else {
@@ -181,8 +181,8 @@ fn is_limit(bytes: u64) -> bool
     (1..=GREATEST_LIMIT).contains(&bytes)
 }
 
-/// Returns the limits for the words of a quota and a work. `None`: one of them spells no number of
-/// bytes that is allowed.
+/// Returns the limits that the words of a quota and of work bytes spell. `None`: a word doesn't
+/// spell a number from 1 to 2^40.
 pub fn parse_limits(quota: &str, work: &str) -> Option<Limits>
     ensures { result ≡ parse_limits quota.now work.now }
 {

@@ -21,7 +21,8 @@ pub enum Operation {
     Dilate,
 }
 
-/// A function, and the border mode beyond the image's edges, which does not matter for `Not`.
+/// A function, and the border mode for pixels beyond the image's edges. `Not` ignores the border
+/// mode.
 #[derive(Clone, Copy, PartialEq, Eq, Debug)]
 pub struct Job {
     pub operation: Operation,

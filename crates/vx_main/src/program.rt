@@ -12,9 +12,9 @@ use std::io::{Read, Write};
 use vx_base::Code;
 use vx_requests::{FromRead, FromWrite, serve};
 
-/// Runs the program with these words, without its name.
+/// Runs the program with these words of the command line, without the program's name.
 ///
-/// Help and the version are written to the writer, and are `Ok`.
+/// For help and the version, writes the text to the writer, and returns `Ok`.
 pub fn run<R: Read + Drop, W: Write + Drop>(
     alloc: Global,
     words: &[&str],

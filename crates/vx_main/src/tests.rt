@@ -30,7 +30,8 @@ fn serves_streams(rt: HostRuntime) {
     for (input, output) in [
         (&b""[..], &b""[..]),
         (REQUESTS, REPLIES),
-        // A body where the op has none, and an unknown op; the stream goes on after both.
+        // A body that isn't empty for an op whose body is empty, and an unknown op; the stream goes
+        // on after both.
         (
             b"\x00\x00\x00\x04\x00\x07\x01\x00\
 \x00\x00\x00\x03\x00\x07\xc8\
@@ -121,8 +122,8 @@ const THIRD_MADE: &[u8] = b"\x00\x00\x00\x04\x00\x07\x01\x00\
 \x00\x00\x00\x08\x00\x07\x03\x00\x00\x00\x00\x03\
 \x00\x00\x00\x08\x00\x08\x03\x00\x00\x00\x00\x01";
 
-/// The replies with a quota of seven bytes: the second image is refused, and the third gets its
-/// name.
+/// The replies with a quota of seven bytes: the second image is refused, and the third gets name 2
+/// instead.
 const SECOND_REFUSED: &[u8] = b"\x00\x00\x00\x04\x00\x07\x01\x00\
 \x00\x00\x00\x04\x00\x08\x01\x00\
 \x00\x00\x00\x08\x00\x07\x03\x00\x00\x00\x00\x01\
@@ -155,8 +156,8 @@ fn allows_each_client_its_quota(rt: HostRuntime) {
     }
 }
 
-/// Runs the program with words that it refuses. It reads and writes nothing, and its line has this
-/// text.
+/// Checks that the program refuses these words with a line that has this text, and reads and writes
+/// nothing.
 fn refuses(rt: &impl Abort, alloc: Global, words: &[&str], text: &str) {
     let mut written = Vec::new(alloc);
     let mut input = REQUESTS;
@@ -339,7 +340,7 @@ fn applies_functions(rt: HostRuntime) {
     }
 }
 
-/// Runs `apply`, which has to fail and write nothing.
+/// Checks that `apply` fails with this status and line, and writes nothing.
 fn ends<R: Read + Drop>(rt: &impl Abort, alloc: Global, reader: R, status: u8, line: &str) {
     let mut written = Vec::new(alloc);
     let ended = run(
@@ -392,7 +393,7 @@ impl Read for FailingReader<'_> {
 
 #[test]
 fn tells_a_reader_that_fails(rt: HostRuntime) {
-    // The read fault comes first whatever bytes came before it, also a whole text or a faulty one.
+    // The read fault is reported whatever bytes came before it, even a whole text or a faulty text.
     for bytes in [&b""[..], SQUARE, b"P5 0 1 255\n"] {
         ends(&rt, rt.alloc(), FailingReader { bytes }, 4, "read failed");
     }

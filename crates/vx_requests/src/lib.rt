@@ -1,8 +1,9 @@
 //! Requests and replies as streams of bytes.
 //!
-//! - `stream`: a `Source` gives bytes and a `Sink` takes them. Both count their failed calls and,
-//!   where they can, know the bytes that they gave or took. `FromRead` and `FromWrite` wrap the
-//!   readers and writers of std. `fill` and `write_all` move whole buffers.
+//! - `stream`: a `Source` gives bytes and a `Sink` takes them. Both count their failed calls.
+//!   Contracts state which bytes they move, for sources and sinks whose bytes are known. `FromRead`
+//!   and `FromWrite` wrap the readers and writers of std. `fill` and `write_all` move whole
+//!   buffers.
 //! - `frame`: reads the length, the client, the op and the body of a request frame; writes frames
 //!   of requests (`write_request`) and of replies (`write_reply`); reads and writes samples.
 //! - `serving`: `serve` answers a stream of requests frame by frame, and returns a `Summary`.

@@ -29,21 +29,21 @@ const MOST_READS: u64 = 1_099_511_627_776;
 /// Reading a frame with a body of at most 64 bytes allocates nothing. If no memory can be allocated
 /// for a longer body, the body is skipped, the reply is NO_MEMORY, and nothing changes.
 ///
-/// Samples are not copied on the way. Those of a WriteImage with a longer body are read straight
-/// into the image's new samples, and those of a WriteImagePgm are parsed there from the frame; a
-/// request that is refused writes none. ReadImage and ReadImagePgm write the samples straight from
-/// the image.
+/// The samples of images are copied only for a WriteImage with a body of at most 64 bytes. The
+/// samples of a longer WriteImage are read straight into the image's new samples. The samples of a
+/// WriteImagePgm are parsed straight into the image's new samples. A refused request changes no
+/// samples. ReadImage and ReadImagePgm write their replies straight from the image.
 ///
 /// Ok: the stream ended between two frames. Faults:
 ///
 /// - `Truncated`: the stream ended within a frame
-/// - `BadLength`: a frame's length is below 3 or above 2^29; it is reported as soon as its four
-///   bytes are read
+/// - `BadLength`: a frame's length is below 3 or above 2^29; this fault is reported as soon as the
+///   four bytes of the length are read
 /// - `ReadFailed`: a read failed
 /// - `WriteFailed`: a write or a flush failed
 /// - `ReaderWouldNotEnd`: 2^40 reads were made
 ///
-/// However it ends, the runtime is in the state after the frames that were read whole.
+/// However the call ends, the runtime is in the state after the frames that were read to their end.
 pub fn serve<S: Source, K: Sink>(
     alloc: Global,
     source: &mut S,

@@ -6,7 +6,7 @@ use Rattle.vx_wire.specs.declared.body_fault.BodyFault.TheVariants.{InvalidDimen
 use Rattle.vx_wire.specs.Fields.{FieldResult, and_then, allowed_or_fault, take_short}
 use Rattle.vx_wire.specs.Format.{format_number, take_format}
 
--- reads a width or a height from the front of a body
+-- reads a width or a height from the front of a body: a u16 from 1 to 8192
 abbrev pub take_side : List ℕ → FieldResult ℕ
 take_side body = and_then (take_short body) (λ n rest. allowed_or_fault InvalidDimension (if is_side n then Some n else None) rest)
 

@@ -7,12 +7,13 @@ use Rattle.vx_wire.specs.declared.body_fault.BodyFault.TheVariants.{InvalidParam
 abbrev pub FieldResult : Type 0 → Type 0
 FieldResult A = Result (A × List ℕ) BodyFault
 
--- a call read this field from the front of the bytes and left those after it, or returned the field's fault
+-- a call read this field from the front of the bytes, and the bytes after the field are left; or
+-- the call returned the field's fault
 pub record Takes {A : Type 0} (take : List ℕ → FieldResult A) (old new : List ℕ) (result : Result A BodyFault) : Type 0 where
   pub ok : IfOk result (λ x. take old ≡ Ok (x, new))
   pub err : IfErr result (λ fault. take old ≡ Err fault)
 
--- two fields in order: the fault of the first comes first
+-- reads what follows a field; a fault of the field ends the reading
 abbrev pub and_then : {A B : Type 0} → FieldResult A → (A → List ℕ → Result B BodyFault) → Result B BodyFault
 and_then (Ok taken) next = next taken.0 taken.1
 and_then (Err fault) next = Err fault
@@ -22,15 +23,15 @@ abbrev pub at_end : {A : Type 0} → A → List ℕ → Result A BodyFault
 at_end value [] = Ok value
 at_end value (b ∷ rest) = Err InvalidParameters
 
--- a body of one field, and the value that is made from it
+-- the value made from a body of one field
 abbrev pub one_field : {A B : Type 0} → (List ℕ → FieldResult A) → (A → B) → List ℕ → Result B BodyFault
 one_field take made body = and_then (take body) (λ x rest. at_end (made x) rest)
 
--- a body of two fields, and the value that is made from them
+-- the value made from a body of two fields
 abbrev pub two_fields : {A B C : Type 0} → (List ℕ → FieldResult A) → (List ℕ → FieldResult B) → (A → B → C) → List ℕ → Result C BodyFault
 two_fields first second made body = and_then (first body) (λ x rest. one_field second (made x) rest)
 
--- the field's value, or its fault if the value isn't allowed
+-- a field's value and the bytes after it; if there is no allowed value, this fault
 abbrev pub allowed_or_fault : {A : Type 0} → BodyFault → Option A → List ℕ → FieldResult A
 allowed_or_fault fault None rest = Err fault
 allowed_or_fault fault (Some value) rest = Ok (value, rest)

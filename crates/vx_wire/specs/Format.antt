@@ -1,4 +1,5 @@
--- The formats of samples, and their numbers, which are this project's own. OpenVX 1.3, `vx_df_image_e`.
+-- The formats of samples (OpenVX 1.3, `vx_df_image_e`), and their numbers. The numbers are this
+-- project's own.
 use Rattle.std.specs.Prelude.{ℕ, List, [], ◌∷◌, Option, Some, None}
 use Rattle.vx_base.specs.declared.format.Format.{Format}
 use Rattle.vx_base.specs.declared.format.Format.TheVariants.{U8, S16, U32}
@@ -29,11 +30,12 @@ open_format_number (Some format) = format_number format
 abbrev pub open_format_numbered : ℕ → Option (Option Format)
 open_format_numbered n = with_number open_format_number (None ∷ Some U8 ∷ Some S16 ∷ Some U32 ∷ []) n
 
--- reads a format that may be open from the front of a body: a byte from 0 to 3, 0 for an open one
+-- reads a format that may be open from the front of a body: a byte from 0 to 3, 0 for an open
+-- format
 abbrev pub take_open_format : List ℕ → FieldResult (Option Format)
 take_open_format body = and_then (take_byte body) (λ n rest. allowed_or_fault InvalidFormat (open_format_numbered n) rest)
 
--- the format with this number, of those that tables and thresholds can have
+-- the format with this number, if tables and thresholds can have the format
 abbrev pub input_format_numbered : ℕ → Option Format
 input_format_numbered n = with_number format_number (U8 ∷ S16 ∷ []) n
 

@@ -1,4 +1,4 @@
--- The ops of requests, and their numbers, which are this project's own.
+-- Ops, and their numbers. The numbers are this project's own.
 use Rattle.std.specs.Prelude.{ℕ, List, [], ◌∷◌, Option}
 use Rattle.client_model.specs.declared.request.Request.{Request}
 use Rattle.client_model.specs.declared.request.Request.TheVariants as requests

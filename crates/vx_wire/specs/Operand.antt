@@ -1,4 +1,4 @@
--- The operands of a node. An absent operand is name 0 without a slot.
+-- The operands of a node. An absent operand is encoded as name 0 without a slot.
 use Rattle.std.specs.Prelude.{ℕ, ◌&&◌, Bool, if◌then◌else◌, List, Option, Some, None, is_some, is_none, Ok}
 use Rattle.vx_base.specs.declared.function.Parameters.{Parameters}
 use Rattle.vx_base.specs.Reference.{Reference}
@@ -9,7 +9,7 @@ use Rattle.vx_wire.specs.declared.fields.operand.Presence.TheVariants.{Required,
 use Rattle.vx_wire.specs.Fields.{FieldResult, and_then, allowed_or_fault}
 use Rattle.vx_wire.specs.Reference.{take_reference, reference_bytes}
 
--- the operand that a reference encodes, if its presence is as required
+-- the operand that a reference encodes, if the operand is given or absent as its presence requires
 abbrev pub operand : Presence → Reference → Option (Option Reference)
 operand Required cell = if is_nothing cell then None else Some (Some cell)
 operand Absent cell = if is_nothing cell then Some None else None
@@ -19,12 +19,12 @@ operand Free cell = if is_nothing cell then Some None else Some (Some cell)
 abbrev pub take_operand : Presence → List ℕ → FieldResult (Option Reference)
 take_operand presence body = and_then (take_reference body) (λ cell rest. allowed_or_fault InvalidParameters (operand presence cell) rest)
 
--- the bytes of an operand: its reference, or name 0 without a slot if it is absent
+-- the bytes of an operand: its reference, or name 0 without a slot if the operand is absent
 abbrev pub operand_bytes : Option Reference → List ℕ
 operand_bytes None = reference_bytes (record { name = 0; slot = None })
 operand_bytes (Some cell) = reference_bytes cell
 
--- whether an operand can be encoded, and its presence is as required
+-- whether an operand can be encoded, and is given or absent as its presence requires
 abbrev pub is_operand : Presence → Option Reference → Bool
 is_operand Required cell = is_some cell && is_named cell
 is_operand Absent cell = is_none cell
@@ -32,15 +32,16 @@ is_operand Free cell = is_named cell
 
 -- ---- the operands that the node of a function has
 
--- whether the second input is required: it is if the function has one, else it is absent
+-- the presence of the second input: required if the function has one, else absent
 abbrev pub second_input : Parameters → Presence
 second_input p = if is_some p.second_input then Required else Absent
 
--- whether the first output is required: it is, unless the function has a pair of outputs
+-- the presence of the first output: required, or optional if the function has a pair of outputs
 abbrev pub first_output : Parameters → Presence
 first_output p = if p.output_pair then Free else Required
 
--- whether the second output is required: of two outputs, at least one has to be there
+-- the presence of the second output: absent without a pair; of a pair of outputs, at least one is
+-- required
 abbrev pub second_output : Parameters → Option Reference → Presence
 second_output p out1 = if p.output_pair then (if is_none out1 then Required else Free) else Absent
 
@@ -49,7 +50,7 @@ abbrev pub take_first_input : List ℕ → FieldResult Reference
 take_first_input body =
     and_then (take_reference body) (λ cell rest. allowed_or_fault InvalidParameters (if is_nothing cell then None else Some cell) rest)
 
--- the operands after the first input
+-- reads the operands after the first input from the front of a body: in2, out1, out2
 abbrev pub take_operands : Parameters → List ℕ → FieldResult (Option Reference × Option Reference × Option Reference)
 take_operands p body =
     and_then (take_operand (second_input p) body) (λ in2 rest. and_then (take_operand (first_output p) rest) (λ out1 rest.

@@ -8,15 +8,16 @@ use Rattle.vx_wire.specs.declared.body_fault.BodyFault.TheVariants.{InvalidDimen
 use Rattle.vx_wire.specs.Fields.{FieldResult, and_then, allowed_or_fault, take_short}
 use Rattle.vx_wire.specs.Format.{open_format_number, take_open_format}
 
--- the number of a width or height; an open one is 0
+-- the number of a width or height; 0 if the side is open
 abbrev pub open_side_number : Option ℕ → ℕ
 open_side_number side = unwrap_or side 0
 
--- the width or height with this number; 0 is an open one
+-- the width or height with this number; 0 means that the side is open
 abbrev pub open_side_numbered : ℕ → Option (Option ℕ)
 open_side_numbered n = if n == 0 then Some None else if is_side n then Some (Some n) else None
 
--- reads a width or height that may be open from the front of a body: a u16, 0 for an open one
+-- reads a width or height that may be open from the front of a body: a u16 from 1 to 8192, or 0 for
+-- open
 abbrev pub take_open_side : List ℕ → FieldResult (Option ℕ)
 take_open_side body = and_then (take_short body) (λ n rest. allowed_or_fault InvalidDimension (open_side_numbered n) rest)
 

@@ -1,4 +1,4 @@
--- References to objects: a name and a slot. Slot 255 is the object itself.
+-- References to objects: a name and a slot. Slot 255 means the object itself.
 use Rattle.std.specs.Prelude.{ℕ, ◌==◌, if◌then◌else◌, List, [], ◌∷◌, ◌++◌, Option, Some, None, unwrap_or, Ok}
 use Rattle.std.specs.Int.{w32, to_be_bytes}
 use Rattle.vx_base.specs.Reference.{Reference}
@@ -8,7 +8,7 @@ use Rattle.vx_wire.specs.Fields.{FieldResult, and_then, take_byte, take_long}
 abbrev pub slot_numbered : ℕ → Option ℕ
 slot_numbered n = if n == 255 then None else Some n
 
--- reads a reference from the front of a body: a name, a u32, then the number of a slot, a byte
+-- reads a reference from the front of a body: the name as a u32, then the slot's number as a byte
 abbrev pub take_reference : List ℕ → FieldResult Reference
 take_reference body =
     and_then (take_long body) (λ name rest. and_then (take_byte rest) (λ slot rest.

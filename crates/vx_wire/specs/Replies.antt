@@ -15,7 +15,7 @@ pub record Said : Type 0 where
   pub code : ℕ
   pub body : List ℕ
 
--- the code and body of a refusal: its status code and no bytes
+-- the code and body of a refusal: the status code, and no bytes
 abbrev pub refusal : Code → Said
 refusal code = record { code = code_number code; body = [] }
 

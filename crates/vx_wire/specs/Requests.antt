@@ -1,5 +1,6 @@
--- Requests and their bodies. Each table is ordered by families: contexts, images, objects of any kind, tables (and thresholds and
--- convolutions), statistics, graphs, immediate nodes, delays.
+-- Requests and their bodies. The cases of each definition are ordered by families: contexts,
+-- images, objects of any kind, lookup tables (with thresholds and convolutions), statistics,
+-- graphs, immediate nodes, delays.
 use Rattle.std.specs.Prelude.{ℕ, ⊤, List, [], ◌∷◌, ◌++◌, Option, Some, None, Result, Err}
 use Rattle.std.specs.Int.{w32, to_be_bytes}
 use Rattle.client_model.specs.declared.request.Request.{Request}
@@ -58,7 +59,7 @@ request_with ops.CreateDelay body = create_delay_in body
 request_with ops.AgeDelay body = age_delay_in body
 request_with ops.RegisterAutoAging body = register_auto_aging_in body
 
--- the request that a body of this op encodes, or a fault without an op
+-- the request that a body of this op encodes; InvalidParameters if there is no op
 abbrev pub request_with_known : Option Op → List ℕ → Result Request BodyFault
 request_with_known None body = Err InvalidParameters
 request_with_known (Some op) body = request_with op body

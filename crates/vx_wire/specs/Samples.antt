@@ -1,4 +1,4 @@
--- Samples as bytes: 1, 2 or 4 for each, the most significant first.
+-- Samples as bytes: 1, 2 or 4 bytes for each sample, the most significant first.
 use Rattle.std.specs.Prelude.{ℕ, zero, suc, ◌*◌, ℤ, pos, unsigned_abs, List, [], ◌∷◌, ◌++◌, take, drop, Ok}
 use Rattle.std.specs.List.{flat_map}
 use Rattle.std.specs.Int.{w8, w16, w32, to_be_bytes, from_be_bytes, cast_unsigned}
@@ -22,7 +22,7 @@ encoded_sample U8 z = unsigned_abs z ∷ []
 encoded_sample S16 z = to_be_bytes w16 (cast_unsigned w16 z)
 encoded_sample U32 z = to_be_bytes w32 (unsigned_abs z)
 
--- the samples that these bytes encode, one after the other
+-- a number of samples, decoded from bytes one after the other
 abbrev pub decoded_samples : Format → ℕ → List ℕ → List ℤ
 decoded_samples format zero bytes = []
 decoded_samples format (suc count) bytes = decoded_sample format (take (sample_bytes format) bytes) ∷ decoded_samples format count (drop (sample_bytes format) bytes)
@@ -31,7 +31,7 @@ decoded_samples format (suc count) bytes = decoded_sample format (take (sample_b
 abbrev pub encoded_samples : Format → List ℤ → List ℕ
 encoded_samples format samples = flat_map (encoded_sample format) samples
 
--- `count` samples of a format, which are one field
+-- reads `count` samples of a format from the front of a body, as one field
 abbrev pub take_samples : Format → ℕ → List ℕ → FieldResult (List ℤ)
 take_samples format count body = and_then (take_bytes (count * sample_bytes format) body) (λ bytes rest. Ok (decoded_samples format count bytes, rest))
 

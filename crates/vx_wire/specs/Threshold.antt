@@ -21,7 +21,7 @@ abbrev pub range_number : Bool → ℕ
 range_number false = 0
 range_number true = 1
 
--- the threshold's kind with this number, as whether it is RANGE
+-- whether the kind with this number is RANGE; None if no kind has the number
 abbrev pub range_numbered : ℕ → Option Bool
 range_numbered n = with_number range_number (false ∷ true ∷ []) n
 
@@ -29,15 +29,15 @@ range_numbered n = with_number range_number (false ∷ true ∷ []) n
 abbrev pub take_is_range : List ℕ → FieldResult Bool
 take_is_range body = and_then (take_byte body) (λ n rest. allowed_or_fault InvalidParameters (range_numbered n) rest)
 
--- a limit, which is encoded as an S16 sample in every format
+-- reads a limit from the front of a body: an S16 sample, whatever the threshold's format
 abbrev pub take_signed : List ℕ → FieldResult ℤ
 take_signed body = and_then (take_bytes 2 body) (λ bytes rest. Ok (decoded_sample S16 bytes, rest))
 
--- a limit that is a sample of the format
+-- reads a limit from the front of a body, and checks that it is a sample of the threshold's format
 abbrev pub take_limit : Format → List ℕ → FieldResult ℤ
 take_limit format body = and_then (take_signed body) (λ z rest. allowed_or_fault InvalidValue (if is_sample format z then Some z else None) rest)
 
--- the upper limit, which is not below the lower
+-- reads the upper limit from the front of a body, and checks that it is not below the lower limit
 abbrev pub take_upper : Format → ℤ → List ℕ → FieldResult ℤ
 take_upper format lower body = and_then (take_limit format body) (λ z rest. allowed_or_fault InvalidValue (if int_le lower z then Some z else None) rest)
 

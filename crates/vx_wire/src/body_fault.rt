@@ -6,18 +6,19 @@ pub enum BodyFault {
     /// The op is unknown, a field is cut short or has a value that isn't allowed, or bytes follow
     /// the last field.
     InvalidParameters,
-    /// A number is no format, or one that a table or a threshold can't have.
+    /// A number isn't that of a format, or a table or a threshold can't have the format.
     InvalidFormat,
-    /// A width or a height isn't 1 to 8192 (or 0, where it may be open), or the columns or the rows
-    /// of a convolution aren't 3, 5, 7 or 9.
+    /// A width or a height isn't 1 to 8192 (or 0, where it may be open), or the number of columns
+    /// or rows of a convolution isn't 3, 5, 7 or 9.
     InvalidDimension,
     /// A number is out of range:
     ///
-    /// - an amount that the function doesn't accept
-    /// - the limit of a threshold isn't a sample of its format, or the upper one is below the lower
-    /// - a start of a rectangle isn't below its end, unless all four bounds are 0
-    /// - the slots of a delay aren't 1 to 16
+    /// - an amount is above the greatest that the function accepts
+    /// - a limit of a threshold isn't a sample of its format, or the upper limit is below the lower
+    ///   one
+    /// - a rectangle's start is at or beyond its end, and its bounds aren't all 0
+    /// - the number of slots of a delay isn't 1 to 16
     /// - the exponent of a convolution is above 31
-    /// - the number of bins or their range isn't 1 to 256, or their offset is above 255
+    /// - the number of bins or their range isn't 1 to 256, or the offset of the bins is above 255
     InvalidValue,
 }

@@ -32,7 +32,8 @@ ghost use Rattle.vx_wire.specs.Described.{described_bytes};
 ghost use Rattle.vx_wire.specs.Counts.{counts_bytes};
 ghost use Rattle.vx_wire.specs.Extremes.{extremes_bytes};
 
-/// Opening and releasing a context has an empty body. No request has an op that isn't in the table.
+/// OpenContext and ReleaseContext have an empty body. An op that isn't in the table encodes no
+/// request.
 pub fn ops()
     ensures open { request_of 1 [] ≡ Ok OpenContext }
     ensures open_with_more { request_of 1 (0 ∷ []) ≡ Err InvalidParameters }
@@ -74,8 +75,8 @@ pub fn images_written_and_read()
         ≡ Ok (ReadImage (record { name = 258; slot = Some 3 })) }
 {}
 
-/// Writing texts to image 7, also an empty one: the text isn't parsed here. A reference that is cut
-/// short leaves no text.
+/// Writing texts to image 7, one of them empty: the text isn't parsed with the body. A reference
+/// that is cut short is a fault.
 pub fn texts_written()
     ensures written { request_of 6 (0 ∷ 0 ∷ 0 ∷ 7 ∷ 255 ∷ 80 ∷ 53 ∷ 10 ∷ [])
         ≡ Ok (WriteImagePgm (record { name = 7; slot = None }) (80 ∷ 53 ∷ 10 ∷ [])) }
@@ -106,8 +107,8 @@ pub fn images_queried()
     ensures more { request_of 4 (0 ∷ 0 ∷ 0 ∷ 1 ∷ 255 ∷ 0 ∷ []) ≡ Err InvalidParameters }
 {}
 
-/// The descriptions of a U8 image of 4 by 1 samples whose second and third are valid, and of an
-/// image of 258 by 1 samples with an open format and no valid pixels.
+/// The description of a U8 image of 4 by 1 samples, of which the second and the third are valid.
+/// The description of an image of 258 by 1 samples with an open format and no valid pixels.
 pub fn images_described()
     ensures known { described_bytes (record {
       format = Some U8;
@@ -154,14 +155,14 @@ pub fn valid_rectangles_set()
         ≡ Err InvalidParameters }
 {}
 
-/// Releasing object 258; a name that is cut short or has a slot.
+/// Releasing object 258; a name that is cut short or is followed by a slot.
 pub fn objects_released()
     ensures released { request_of 10 (0 ∷ 0 ∷ 1 ∷ 2 ∷ []) ≡ Ok (Release 258) }
     ensures cut { request_of 10 (0 ∷ 0 ∷ 1 ∷ []) ≡ Err InvalidParameters }
     ensures with_a_slot { request_of 10 (0 ∷ 0 ∷ 1 ∷ 2 ∷ 255 ∷ []) ≡ Err InvalidParameters }
 {}
 
-/// Lookup tables of an invalid format, and ones that are cut short.
+/// Lookup tables of an invalid format, and lookup tables that are cut short.
 pub fn tables()
     ensures no_format { request_of 11 (3 ∷ []) ≡ Err InvalidFormat }
     ensures one_entry { request_of 11 (1 ∷ 5 ∷ []) ≡ Err InvalidParameters }
@@ -197,7 +198,7 @@ pub fn thresholds()
 {}
 
 /// A convolution of 3 columns and 5 rows whose sums are divided by 2^31; and invalid sizes and
-/// exponents. The first of these decides the fault, even if the coefficients are cut short.
+/// exponents. The first invalid field decides the fault, even if the coefficients are cut short.
 pub fn convolutions()
     ensures made { request_of 13 (3 ∷ 5 ∷ 31 ∷ 0 ∷ 1 ∷ 255 ∷ 254 ∷ 0 ∷ 3 ∷ 0 ∷ 4 ∷ 0 ∷ 5 ∷ 0 ∷ 6 ∷ 0
         ∷ 7 ∷ 0 ∷ 8 ∷ 0 ∷ 9 ∷ 0 ∷ 10 ∷ 0 ∷ 11 ∷ 0 ∷ 12 ∷ 0 ∷ 13 ∷ 127 ∷ 255 ∷ 128 ∷ 0 ∷ [])
@@ -242,7 +243,7 @@ pub fn distributions_made()
     ensures more { request_of 14 (0 ∷ 3 ∷ 0 ∷ 0 ∷ 1 ∷ 0 ∷ 0 ∷ []) ≡ Err InvalidParameters }
 {}
 
-/// Reading distribution 258; a name that is cut short or has a slot.
+/// Reading distribution 258; a name that is cut short or is followed by a slot.
 pub fn distributions_read()
     ensures read { request_of 15 (0 ∷ 0 ∷ 1 ∷ 2 ∷ []) ≡ Ok (ReadDistribution 258) }
     ensures cut { request_of 15 (0 ∷ 0 ∷ 1 ∷ []) ≡ Err InvalidParameters }
@@ -258,8 +259,8 @@ pub fn extremes_made_and_read()
     ensures with_a_slot { request_of 17 (0 ∷ 0 ∷ 1 ∷ 2 ∷ 255 ∷ []) ≡ Err InvalidParameters }
 {}
 
-/// The replies for a distribution of 3 bins, and for extremes -2 and 258. The first occurs once, in
-/// column 3 and row 4; the second 65,536 times, first in column 5 and row 515.
+/// The replies for a distribution of 3 bins, and for extremes -2 and 258. Sample -2 occurs once, in
+/// column 3 and row 4. Sample 258 occurs 65,536 times, first in column 5 and row 515.
 pub fn statistics_told()
     ensures counts { counts_bytes (1 ∷ 0 ∷ 16777216 ∷ [])
         ≡ 0 ∷ 3 ∷ 0 ∷ 0 ∷ 0 ∷ 1 ∷ 0 ∷ 0 ∷ 0 ∷ 0 ∷ 1 ∷ 0 ∷ 0 ∷ 0 ∷ [] }
@@ -314,8 +315,8 @@ pub fn virtual_images_made()
     ensures no_name { request_of 19 (0 ∷ 0 ∷ 0 ∷ []) ≡ Err InvalidParameters }
 {}
 
-/// Adding Not of image 1 to image 2 to graph 258; and nodes that aren't valid. The name is read
-/// before the node.
+/// Adding a Not node from image 1 to image 2 to graph 258; and invalid nodes. The graph's name is
+/// read before the node.
 pub fn nodes_added()
     ensures added { request_of 20 (0 ∷ 0 ∷ 1 ∷ 2 ∷ 4 ∷ 0 ∷ 0 ∷ 0 ∷ 0 ∷ 0 ∷ 0 ∷ 0 ∷ 1 ∷ 255 ∷ 0 ∷ 0
         ∷ 0 ∷ 0 ∷ 255 ∷ 0 ∷ 0 ∷ 0 ∷ 2 ∷ 255 ∷ 0 ∷ 0 ∷ 0 ∷ 0 ∷ 255 ∷ [])
@@ -353,7 +354,7 @@ pub fn nodes_removed()
         ≡ Err InvalidParameters }
 {}
 
-/// Verifying and running graph 258; a name that is cut short or has a slot.
+/// Verifying and running graph 258; a name that is cut short or is followed by a slot.
 pub fn graphs_verified_and_run()
     ensures verified { request_of 22 (0 ∷ 0 ∷ 1 ∷ 2 ∷ []) ≡ Ok (VerifyGraph 258) }
     ensures verified_cut { request_of 22 (0 ∷ 0 ∷ 1 ∷ []) ≡ Err InvalidParameters }
@@ -364,7 +365,7 @@ pub fn graphs_verified_and_run()
     ensures run_with_a_slot { request_of 23 (0 ∷ 0 ∷ 1 ∷ 2 ∷ 255 ∷ []) ≡ Err InvalidParameters }
 {}
 
-/// Not of image 1 to image 2; and nodes of Not with one operand too many or too few.
+/// A Not node from image 1 to image 2; and Not nodes with one operand too many or too few.
 pub fn nodes()
     ensures whole { request_of 24 (4 ∷ 0 ∷ 0 ∷ 0 ∷ 0 ∷ 0 ∷ 0 ∷ 0 ∷ 1 ∷ 255 ∷ 0 ∷ 0 ∷ 0 ∷ 0 ∷ 255 ∷ 0
         ∷ 0 ∷ 0 ∷ 2 ∷ 255 ∷ 0 ∷ 0 ∷ 0 ∷ 0 ∷ 255 ∷ [])
@@ -407,7 +408,8 @@ pub fn nodes()
         ∷ 0 ∷ 0 ∷ 255 ∷ []) ≡ Err InvalidParameters }
 {}
 
-/// Multiply of images 1 and 2 to image 3 by 1 / 2^15, saturating; and amounts above 15.
+/// A Multiply node from images 1 and 2 to image 3, saturating, with the scale 1 / 2^15; and amounts
+/// above 15.
 pub fn multiply_nodes()
     ensures whole { request_of 24 (7 ∷ 0 ∷ 0 ∷ 1 ∷ 15 ∷ 0 ∷ 0 ∷ 0 ∷ 1 ∷ 255 ∷ 0 ∷ 0 ∷ 0 ∷ 2 ∷ 255
         ∷ 0 ∷ 0 ∷ 0 ∷ 3 ∷ 255 ∷ 0 ∷ 0 ∷ 0 ∷ 0 ∷ 255 ∷ [])
@@ -447,7 +449,7 @@ pub fn delays_made()
     ensures more { request_of 25 (0 ∷ 0 ∷ 0 ∷ 1 ∷ 255 ∷ 3 ∷ 0 ∷ []) ≡ Err InvalidParameters }
 {}
 
-/// Aging delay 2; a name that is cut short or has a slot.
+/// Aging delay 2; a name that is cut short or is followed by a slot.
 pub fn delays_aged()
     ensures aged { request_of 26 (0 ∷ 0 ∷ 0 ∷ 2 ∷ []) ≡ Ok (AgeDelay 2) }
     ensures cut { request_of 26 (0 ∷ 0 ∷ 0 ∷ []) ≡ Err InvalidParameters }
@@ -461,8 +463,8 @@ pub fn delays_registered()
     ensures cut { request_of 27 (0 ∷ 0 ∷ 0 ∷ 3 ∷ 0 ∷ 0 ∷ 0 ∷ []) ≡ Err InvalidParameters }
 {}
 
-/// The encodings of a picture, a text, a rectangle, a threshold, a convolution, bins, two partial
-/// descriptions, a node of a graph and a delay.
+/// The encodings of a picture, a text, a rectangle, a threshold, a convolution, a distribution's
+/// bins, two partial descriptions, a node of a graph and a delay.
 pub fn spelled()
     ensures picture { body_of (WriteImage (record { name = 7; slot = None })
         (record {

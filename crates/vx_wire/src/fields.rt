@@ -21,10 +21,11 @@ pub mod threshold;
 use crate::body_fault::BodyFault;
 use std::marker::Model;
 
-/// The bytes of a body that have not been read.
+/// The bytes of a body that have not been read yet.
 ///
-/// Each method reads one field from their front, and so does each function of the modules here.
-/// After a fault the remaining bytes are unspecified: the first fault ends the reading of a body.
+/// The methods `byte`, `short`, `long` and `bytes`, and the functions `take_..` of the modules
+/// here, read one field from the front. A field that is cut short is `InvalidParameters`. After a
+/// fault the remaining bytes are unspecified, since the first fault ends the reading of a body.
 #[derive(Drop)]
 pub struct Fields<'a> {
     rest: &'a [u8],
@@ -39,7 +40,7 @@ impl<'a> Model for Fields<'a> {
 }
 
 impl<'a> Fields<'a> {
-    /// Returns all fields of a body.
+    /// Returns the fields of a body, none of them read yet.
     pub fn new(body: &'a [u8]) -> Fields<'a>
         ensures { result ≡ body.now }
     {
@@ -77,7 +78,7 @@ impl<'a> Fields<'a> {
         Ok(u32::from(high) * 65536 + u32::from(low))
     }
 
-    /// Reads `count` bytes, which are one field. `InvalidParameters`: fewer are left.
+    /// Reads `count` bytes, which are one field. `InvalidParameters`: fewer bytes are left.
     pub fn bytes(&mut self, count: usize) -> Result<&'a [u8], BodyFault>
         ensures ok { IfOk result (λ bytes. take_bytes count self.old ≡ Ok (bytes.now, self.new)) }
         ensures len { IfOk result (λ bytes. length bytes.now ≡ count) }
@@ -92,14 +93,14 @@ impl<'a> Fields<'a> {
         }
     }
 
-    /// Returns all bytes that are left, which are one field and may be none.
+    /// Returns all remaining bytes, possibly none, as one field.
     pub fn rest(&self) -> &'a [u8]
         ensures { result.now ≡ self.now }
     {
         self.rest
     }
 
-    /// Checks that nothing follows the last field.
+    /// Checks that no byte follows the last field. `InvalidParameters`: bytes follow.
     pub fn end(&self) -> Result<(), BodyFault>
         ensures ok { OnOk result ((request : RequestValue) → at_end request self.now ≡ Ok request) }
         ensures err { IfErr result (λ e. (request : RequestValue) →

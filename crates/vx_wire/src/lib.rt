@@ -1,9 +1,8 @@
 //! The bodies of requests and replies, as bytes.
 //!
-//! `parse` returns the request that a body encodes. The functions named after what they encode, as
-//! `description_bytes`, return the bytes of a field. Reading a field and encoding it gives its
-//! bytes again; the laws state this for whole requests. Streams, frames and clients are none of
-//! this crate's concern.
+//! `parse` returns the request that a body encodes. Functions with names like `description_bytes`
+//! return the bytes of a field. Encoding a field that was read gives the same bytes; the laws state
+//! this for whole requests. Streams, frames and clients are outside this crate.
 //!
 //! - `op`: the kinds of requests, and their numbers
 //! - `body_fault`, `parse_fault`: why a body encodes no request, and why parsing failed

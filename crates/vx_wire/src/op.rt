@@ -1,4 +1,4 @@
-//! The ops of requests: the byte of a frame that says the kind of its request.
+//! Ops. The op of a frame is the byte that gives the kind of the request.
 ghost use Rattle.std.specs.Prelude.{◌≡◌, ◌↔◌, Some};
 ghost use Rattle.vx_wire.specs.declared.op.Op.{Op as RequestOp};
 ghost use Rattle.vx_wire.specs.Op.{op_number, op_numbered, op_of};

@@ -16,11 +16,11 @@ pub enum ParseFault {
     /// the last field.
     #[error("invalid parameters")]
     InvalidParameters,
-    /// A number is no format, or one that a table or a threshold can't have.
+    /// A number isn't that of a format, or a table or a threshold can't have the format.
     #[error("invalid format")]
     InvalidFormat,
-    /// A width or a height isn't 1 to 8192 (or 0, where it may be open), or the columns or the rows
-    /// of a convolution aren't 3, 5, 7 or 9.
+    /// A width or a height isn't 1 to 8192 (or 0, where it may be open), or the number of columns
+    /// or rows of a convolution isn't 3, 5, 7 or 9.
     #[error("invalid dimension")]
     InvalidDimension,
     /// A number is out of range, as `BodyFault::InvalidValue` lists.
@@ -31,7 +31,7 @@ pub enum ParseFault {
 impl ParseFault {
     ghost use Rattle.vx_wire.specs.Faults.{fault_code};
 
-    /// Returns the status code of the reply to such a body.
+    /// Returns the status code of the reply to a body with this fault.
     pub fn code(self) -> Code
         ensures { result ≡ fault_code self }
     {

@@ -26,8 +26,8 @@ use std::alloc::Global;
 ///
 /// The fault is that of the first field that is cut short or out of range. `InvalidParameters`: no
 /// op has the number, or bytes follow the last field. `NoMemory`: an allocation failed. Memory is
-/// allocated only for the samples of a picture, the entries of a table or a text, and only once the
-/// rest of the body is valid.
+/// allocated only for the samples of a picture, the entries of a table or a text. The rest of the
+/// body is checked first.
 pub fn parse(alloc: Global, op: u8, body: &[u8]) -> Result<Request, ParseFault>
     ensures ok { IfOk result (λ request. request_of op body.now ≡ Ok request) }
     ensures err { IfErr result (MayFailWith (request_of op body.now)) }

@@ -9,7 +9,8 @@ pub fn found_cycles<N>()
         (has_cycle feeds nodes ≡ true) ↔ HasCycle feeds nodes }
 {}
 
-/// If nodes can be put in order, each after those that feed it, they have no cycle.
+/// If nodes can be put in an order in which each comes after all nodes that feed it, they have no
+/// cycle.
 pub fn orders<N>()
     ensures { (feeds : N → N → Bool) (nodes steps : List N) → IsOrder feeds nodes steps →
         has_cycle feeds nodes ≡ false }

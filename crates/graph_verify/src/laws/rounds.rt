@@ -8,8 +8,9 @@ ghost use Rattle.graph_verify.specs.Order.{IsOrder};
 ghost use Rattle.graph_verify.specs.Rounds.{rounds, one_pass, IsSolution, ReadsAlone};
 ghost use Rattle.graph_verify.specs.Verdict.{two_writers, verdict};
 
-/// Running the nodes one after another, in an order, gives the same values as the rounds, provided
-/// that no object has two writers and a node's values depend only on what it reads.
+/// Running the nodes one after another, each after all nodes that feed it, gives the same values as
+/// the rounds. This holds if no object has two writers, and a node's values depend only on the
+/// objects that the node reads.
 pub fn once_through_an_order<V>()
     ensures { (value : Node → (Reference → V) → Reference → V) (nodes steps : List Node)
         (held : Reference → V) →
@@ -18,8 +19,8 @@ pub fn once_through_an_order<V>()
         one_pass writes value steps held cell ≡ rounds writes value nodes (length nodes) held cell }
 {}
 
-/// The rounds of a graph that can run give its only solution: each written object has its node's
-/// value, and every other object is unchanged.
+/// The rounds of a graph that can run give the graph's only solution: each written object has the
+/// value of the node that writes it, and every other object is unchanged.
 pub fn only_solution<V>()
     ensures solves { (value : Node → (Reference → V) → Reference → V) (work : ℕ)
         (is : Reference → Operand)

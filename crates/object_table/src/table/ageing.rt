@@ -1,4 +1,4 @@
-//! The delays of a table that age with its graphs.
+//! The delays of a table that age with the table's graphs.
 ghost use Rattle.std.specs.Prelude.{◌≡◌, [], ◌∷◌, ◌++◌, filter, IfOk, IfErr, OnOk, OnErr};
 ghost use Rattle.vx_base.specs.declared.kind.Kind.TheVariants as kind;
 ghost use Rattle.object_table.specs.declared.fault.TableFault.TheVariants.{NoMemory};
@@ -18,8 +18,9 @@ impl Table {
         self.entries.contains_key(&name)
     }
 
-    /// Registers a delay with the graph of this name: the delay ages with the graph from now on. A
-    /// delay that is registered already changes nothing. `NoMemory` has changed nothing.
+    /// Registers a delay with the graph of this name: from now on the delay ages after each run of
+    /// the graph. If the delay is registered already, nothing changes. `NoMemory`: the allocation
+    /// failed, and nothing has changed.
     pub fn register(&mut self, graph: u32, delay: u32) -> Result<(), TableFault>
         requires { IsUnder self.old.objects kind.Graph graph }
         ensures ok { OnOk result (self.new
@@ -40,8 +41,8 @@ impl Table {
         Ok(())
     }
 
-    /// Returns those of the names under which an object is held, and one more name. `NoMemory`: the
-    /// allocation failed.
+    /// Returns the names in the list under which an object is held, followed by one more name.
+    /// `NoMemory`: the allocation failed.
     fn held_and(&self, names: &[u32], name: u32) -> Result<Vec<u32>, TableFault>
         ensures value { IfOk result (λ held. held.items
             ≡ filter (is_there self.now.objects) names.now ++ name ∷ []) }
@@ -57,8 +58,8 @@ impl Table {
         }
     }
 
-    /// Ages each delay that is registered with the graph of this name and is still held. It
-    /// allocates nothing.
+    /// Ages each delay that is registered with the graph of this name and is still held. Allocates
+    /// nothing.
     pub fn age_registered(&mut self, graph: u32)
         requires { IsUnder self.old.objects kind.Graph graph }
         ensures { self.new ≡ with_objects self.old

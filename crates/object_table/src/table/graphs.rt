@@ -1,4 +1,4 @@
-//! The graphs of a table, whose nodes use its objects.
+//! The graphs of a table, whose nodes use the table's objects.
 ghost use Rattle.std.specs.Prelude.{◌≡◌, ◌*◌, ◌<◌, ◌≤◌, true, map, not, if◌then◌else◌, IsTrue};
 ghost use Rattle.std.specs.Prelude.{is_some, is_none, All, Some, Ok, Err, IfOk, IfErr, OnOk, OnErr};
 ghost use Rattle.std.specs.Result.{is_err};
@@ -44,8 +44,9 @@ impl Table {
     }
 
     /// Adds a node to the unreleased graph of this name, and returns the node's number. The node's
-    /// operands are held, and stay held as long as the node exists. A fault changes nothing.
-    /// `NoResources`: the graph can't take another node. `NoMemory`: the allocation failed.
+    /// operands must be held; they then stay held as long as the node exists. A fault changes
+    /// nothing. `NoResources`: the graph can't take another node. `NoMemory`: the allocation
+    /// failed.
     pub fn add_node(&mut self, graph: u32, node: NodeSpec) -> Result<u32, GraphFault>
         requires graph { IsUnder self.old.objects kind.Graph graph }
         requires live { IsTrue (is_some (object_named self.old.objects graph)) }
@@ -70,9 +71,9 @@ impl Table {
         Ok(number)
     }
 
-    /// Removes the node of this number from the unreleased graph of this name. Objects that are
-    /// then neither named nor used are dropped, and their blocks go back to the pool.
-    /// `InvalidReference`: the graph has no such node. It allocates nothing.
+    /// Removes the node of this number from the unreleased graph of this name. Objects that then
+    /// have neither a live name nor a use are dropped, and their blocks go back to the pool.
+    /// Allocates nothing. `InvalidReference`: the graph has no such node.
     pub fn remove_node(
         &mut self,
         graph: u32,
@@ -100,9 +101,9 @@ impl Table {
         Ok(())
     }
 
-    /// Releases a name. If it is a graph's, the graph's nodes no longer use their operands. Objects
-    /// that are then neither named nor used are dropped, and their blocks go back to the pool.
-    /// `InvalidReference`: the name isn't live. It allocates nothing.
+    /// Releases a name. If the name is a graph's, the graph's nodes no longer use their operands.
+    /// Objects that then have neither a live name nor a use are dropped, and their blocks go back
+    /// to the pool. Allocates nothing. `InvalidReference`: the name isn't live.
     pub fn release(&mut self, name: u32, pool: &mut Pool) -> Result<(), TableFault>
         requires { LendsAtLeast pool.old (blocks_in self.old.objects) }
         ensures result { result ≡ (if is_none (object_named self.old.objects name)
@@ -126,7 +127,7 @@ impl Table {
     }
 }
 
-/// Counts the uses that a node makes of its operands, one for each operand.
+/// Adds one use for each operand of a node.
 fn begin_uses(entries: &mut BTreeMap<u32, Entry>, node: &Node)
     requires { All (λ e. e.1.uses ≤ GREATEST_OBJECTS * GREATEST_OBJECTS) entries.old.entries }
     ensures { entries.new.entries ≡ used_more (used_names node.now) entries.old.entries }
@@ -137,7 +138,7 @@ fn begin_uses(entries: &mut BTreeMap<u32, Entry>, node: &Node)
     begin_use(entries, node.out2);
 }
 
-/// Counts a node's use of an operand, if the node has that operand.
+/// Adds one use for an operand, if the node has that operand.
 fn begin_use(entries: &mut BTreeMap<u32, Entry>, operand: Option<ObjRef>)
     requires { All (λ e. e.1.uses < 4294967295) entries.old.entries }
     ensures { entries.new.entries ≡ used_more (map (λ cell. cell.name) (optional_cells operand))
@@ -150,7 +151,7 @@ fn begin_use(entries: &mut BTreeMap<u32, Entry>, operand: Option<ObjRef>)
     }
 }
 
-/// Ends the uses that a node makes of its operands. Objects that are then neither named nor used
+/// Removes one use for each operand of a node. Objects that then have neither a live name nor a use
 /// are dropped. Returns the charge of the remaining objects.
 fn end_uses(entries: &mut BTreeMap<u32, Entry>, charge: u64, node: &Node, pool: &mut Pool) -> u64
     requires held { All (λ e. IsTrue (is_kept e)) entries.old.entries }
@@ -168,7 +169,8 @@ fn end_uses(entries: &mut BTreeMap<u32, Entry>, charge: u64, node: &Node, pool: 
     end_use(entries, charge, node.out2, pool)
 }
 
-/// Ends a node's use of an operand, if the node has that operand, as `end_uses` does.
+/// Removes one use for an operand, if the node has that operand. Drops objects and returns the
+/// charge as `end_uses` does.
 fn end_use(
     entries: &mut BTreeMap<u32, Entry>,
     charge: u64,
@@ -199,7 +201,7 @@ fn end_use(
     end_entry(entries, charge, name, pool)
 }
 
-/// Ends the uses of all nodes of the graph under a live name, as `end_uses` does.
+/// Removes the uses of all nodes of the graph under a live name, as `end_uses` does for one node.
 fn end_all_uses(entries: &mut BTreeMap<u32, Entry>, charge: u64, graph: u32, pool: &mut Pool) -> u64
     requires graph { option_map (λ e. object_kind e.object)
         (lookup (is_at (nat_cmp graph)) entries.old.entries) ≡ Some kind.Graph }
@@ -224,8 +226,8 @@ fn end_all_uses(entries: &mut BTreeMap<u32, Entry>, charge: u64, graph: u32, poo
     left
 }
 
-/// Makes a name no longer live, and drops its object if no node uses it. Returns the charge of the
-/// remaining objects.
+/// Marks a name as no longer live, and drops the object of the name if no node uses the object.
+/// Returns the charge of the remaining objects.
 fn end_name(entries: &mut BTreeMap<u32, Entry>, charge: u64, name: u32, pool: &mut Pool) -> u64
     requires held { All (λ e. IsTrue (is_kept e)) entries.old.entries }
     requires charge { charge ≡ charge_of (map entry_object entries.old.entries) }

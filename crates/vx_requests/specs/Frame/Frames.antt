@@ -25,11 +25,11 @@ pub record ReplyFrame : Type 0 where
 abbrev pub frame_of : ℕ → ℕ → List ℕ → Frame
 frame_of client op body = record { client = client; op = op; body = body }
 
--- the bytes after the length: the client, the op, the body
+-- the payload of a frame, which follows the length: the client, the op, the body
 abbrev pub payload : Frame → List ℕ
 payload f = to_be_bytes w16 f.client ++ f.op ∷ f.body
 
--- the length of the payload, and the payload
+-- the bytes of a request frame: the length of the payload, then the payload
 abbrev pub frame_bytes : Frame → List ℕ
 frame_bytes f = to_be_bytes w32 (length f.body + 3) ++ payload f
 
@@ -41,7 +41,7 @@ frame_head len client op = to_be_bytes w32 len ++ (to_be_bytes w16 client ++ op 
 abbrev pub reply_head : ℕ → ℕ → ℕ → ℕ → List ℕ
 reply_head len client op code = to_be_bytes w32 len ++ (to_be_bytes w16 client ++ op ∷ code ∷ [])
 
--- the length of the rest, the client, the op, the code, the body
+-- the bytes of a reply frame: the length of what follows, the client, the op, the code, the body
 abbrev pub reply_bytes : ReplyFrame → List ℕ
 reply_bytes r = to_be_bytes w32 (length r.body + 4) ++ (to_be_bytes w16 r.client ++ r.op ∷ r.code ∷ r.body)
 
@@ -53,7 +53,7 @@ frames_bytes frames = flat_map frame_bytes frames
 abbrev pub joined_replies : List ReplyFrame → List ℕ
 joined_replies replies = flat_map reply_bytes replies
 
--- a length in range
+-- a length that a request frame may have: 3 to 2^29
 abbrev pub IsLength : ℕ → Type 0
 IsLength n = (3 ≤ n) × (n ≤ GREATEST_LENGTH)
 
@@ -68,11 +68,12 @@ pub record IsFrame (f : Frame) : Type 0 where
 abbrev pub said_length : List ℕ → ℕ
 said_length bytes = from_be_bytes w32 (take 4 bytes)
 
--- less than a whole frame, possibly no bytes; one to three bytes always are
+-- the beginning of a frame, possibly empty: fewer than four bytes, or a length in range and fewer
+-- bytes than it counts
 abbrev pub IsBegun : List ℕ → Type 0
 IsBegun rest = 4 ≤ length rest → IsLength (said_length rest) × (length rest < said_length rest + 4)
 
--- the start of a frame that was cut short
+-- the beginning of a frame that was cut short, at least one byte
 abbrev pub IsTruncated : List ℕ → Type 0
 IsTruncated rest = (0 < length rest) × IsBegun rest
 
@@ -80,7 +81,8 @@ IsTruncated rest = (0 < length rest) × IsBegun rest
 abbrev pub BeginsBadly : List ℕ → Type 0
 BeginsBadly rest = (4 ≤ length rest) × (IsLength (said_length rest) → ⊥)
 
--- a rest without a whole frame: less than a whole one, or a length out of range
+-- a rest without a whole frame: the beginning of a frame, or a length out of range and any bytes
+-- after it
 abbrev pub IsRest : List ℕ → Type 0
 IsRest rest = IsBegun rest ⊎ BeginsBadly rest
 
@@ -94,7 +96,7 @@ pub record Splits (stream : List ℕ) (frames : List Frame) (rest : List ℕ) : 
 abbrev pub request_frame : ℕ → Request → Frame
 request_frame client request = record { client = client; op = op_number (op_of request); body = body_of request }
 
--- whether a request fits a frame; only a text that is too long does not
+-- whether a request fits a frame; only a request with a text that is too long does not
 abbrev pub fits_a_frame : Request → Bool
 fits_a_frame (WriteImagePgm image text) = nat_le (length text) GREATEST_TEXT
 fits_a_frame request = true

@@ -13,14 +13,15 @@ use Rattle.vx_requests.specs.Frame.Frames.{IsBegun, IsTruncated, IsLength, said_
 
 -- ---- the bytes that were read
 
--- the fault of a read within a frame, and the bytes that are left
+-- a fault of reading within a frame, and the bytes that are left
 abbrev pub BreaksIn : StreamFault → Option (List ℕ) → Type 0
 BreaksIn Truncated left = IsAtEnd left
 BreaksIn ReadFailed left = Unit {0}
 BreaksIn ReaderWouldNotEnd left = Unit {0}
 BreaksIn e left = ⊥
 
--- the fault of a stream after whole frames, the bytes read after them, and the bytes that are left
+-- a fault of reading after whole frames; `rest` has the bytes read after the last whole frame,
+-- `left` the bytes that are left
 abbrev pub BreaksOff : StreamFault → (rest : List ℕ) (left : Option (List ℕ)) → Type 0
 BreaksOff Truncated rest left = IsTruncated rest × IsAtEnd left
 BreaksOff BadLength rest left = (length rest ≡ 4) × (IsLength (said_length rest) → ⊥)
@@ -54,13 +55,14 @@ pub record CanRead {S : Type 0} (reads failures : S → ℕ) (r : Reader S) : Ty
   pub reads_fit : reads r.source.now + r.budget < 2 ^ 63
   pub failures_fit : failures r.source.now < 2 ^ 62
 
--- each read of the source took one of the budget, and each failure was counted
+-- each read of the source lowered the budget by one, and each failure was counted
 pub record KeepsCount {S T : Type 0} (reads failures : S → ℕ) (old new : Reader S) (result : Result T StreamFault) : Type 0 where
   pub source : new.source.ghost_name ≡ old.source.ghost_name
   pub counted : CountsReads (reads old.source.now) (reads new.source.now) old.budget new.budget result
   pub failed : failures new.source.now ≡ failures old.source.now + read_failures result
 
--- samples of a format were read over existing ones; or a read failed, and fewer bytes than they take were read
+-- samples were replaced with samples of the format that were read; or reading failed before all
+-- bytes were read
 pub record ReadsOver {S : Type 0} (left : S → Option (List ℕ)) (reads failures : S → ℕ) (old new : Reader S) (format : Format) (samples : List ℤ) (result : Result ⊤ StreamFault) : Type 0 where
   pub ok : OnOk result (ReadsSamples (left old.source.now) (left new.source.now) format samples)
   pub err : IfErr result (ReadsPart (left old.source.now) (left new.source.now) (length samples * sample_bytes format))

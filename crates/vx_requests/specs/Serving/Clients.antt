@@ -1,4 +1,5 @@
--- The replies to each client of a stream, by the replies to a client that has the server to itself.
+-- The replies to each client of a stream, defined by the replies to a client that has the server to
+-- itself.
 use Rattle.std.specs.Prelude.{ℕ, Bool, not, ◌&&◌, ◌==◌, cond, List, [], ◌∷◌, ◌++◌, map, filter}
 use Rattle.client_model.specs.Context.{State}
 use Rattle.client_contexts.specs.World.{World, state_of}
@@ -13,7 +14,7 @@ states_of world client = state_of client world
 abbrev pub spelled_frame : ℕ → ℕ → Said → ReplyFrame
 spelled_frame client op said = record { client = client; op = op; code = said.code; body = said.body }
 
--- the reply frame to a request frame: its client and op, and this code and body
+-- the reply frame to a request frame: the request's client and op, and this code and body
 abbrev pub reply_to : Frame → Said → ReplyFrame
 reply_to f said = spelled_frame f.client f.op said
 
@@ -34,7 +35,7 @@ is_kept_of client m = (m.frame.client == client) && not m.lost
 abbrev pub mine : ℕ → List ReceivedFrame → List Frame
 mine client marked = map (λ m. m.frame) (filter (is_kept_of client) marked)
 
--- the frames that a router sends to the server of this number: those of its clients
+-- the frames that a router sends to the server of this number: the frames of the server's clients
 abbrev pub sent_to : (ℕ → ℕ) → ℕ → List ReceivedFrame → List ReceivedFrame
 sent_to server number marked = filter (λ m. server m.frame.client == number) marked
 
@@ -68,7 +69,7 @@ module _ {S : Type 0} (answer : S → ℕ → List ℕ → Said × S) where
   abbrev pub reply_in : (ℕ → S) → ReceivedFrame → ReplyFrame
   reply_in states m = cond m.lost (no_memory m.frame) (reply_to m.frame (answer_frame (states m.frame.client) m.frame).0)
 
-  -- a client's state after the frame
+  -- a client's state after a frame; only the client's own kept frame changes it
   abbrev pub state_then : (ℕ → S) → ReceivedFrame → ℕ → S
   state_then states m client = cond (is_kept_of client m) (answer_frame (states client) m.frame).1 (states client)
 
@@ -76,11 +77,13 @@ module _ {S : Type 0} (answer : S → ℕ → List ℕ → Said × S) where
   abbrev pub states_after : (ℕ → S) → List ReceivedFrame → ℕ → S
   states_after start marked client = after (start client) (mine client marked)
 
-  -- the replies to frames that come after others: each is the next reply of its client alone
+  -- the replies to frames that come after the frames `before`; each reply is given in the states
+  -- that the earlier frames leave
   abbrev pub served_after : (ℕ → S) → List ReceivedFrame → List ReceivedFrame → List ReplyFrame
   served_after start before [] = []
   served_after start before (m ∷ marked) = reply_in (states_after start before) m ∷ served_after start (before ++ m ∷ []) marked
 
-  -- one reply for each frame, in order
+  -- the replies to frames, one for each frame, in order; `start` has the state in which each client
+  -- starts
   abbrev pub served : (ℕ → S) → List ReceivedFrame → List ReplyFrame
   served start marked = served_after start [] marked

@@ -7,12 +7,13 @@ use Rattle.vx_requests.specs.declared.serving.summary.Summary.{Summary}
 use Rattle.vx_requests.specs.Frame.Frames.{ReplyFrame, reply_bytes, joined_replies}
 use Rattle.vx_requests.specs.Frame.Reading.{BreaksOff}
 
--- all replies were written, the last perhaps only in part
+-- all replies were written, the last one possibly only in part
 abbrev pub AppendsMost : Option (List ℕ) → Option (List ℕ) → List ReplyFrame → Type 0
 AppendsMost old new replies = (earlier : List ReplyFrame) × (last : ReplyFrame) × (front : List ℕ) × (back : List ℕ)
     × (replies ≡ earlier ++ last ∷ []) × (reply_bytes last ≡ front ++ back) × Appends old new (joined_replies earlier ++ front)
 
--- for a fault, the bytes read after the whole frames, the bytes left and the bytes written
+-- the end of `serve` by a fault: the bytes read after the whole frames, the bytes left, and the
+-- bytes written
 abbrev pub EndsBy : StreamFault → (rest : List ℕ) (left taken_old taken_new : Option (List ℕ)) (replies : List ReplyFrame) → Type 0
 EndsBy WriteFailed rest left old new replies = (rest ≡ []) × AppendsMost old new replies
 EndsBy e rest left old new replies = BreaksOff e rest left × Appends old new (joined_replies replies)

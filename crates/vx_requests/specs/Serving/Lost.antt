@@ -7,7 +7,8 @@ use Rattle.vx_wire.specs.declared.body_fault.BodyFault.{BodyFault}
 use Rattle.client_model.specs.Request.{TakesMemory}
 use Rattle.vx_wire.specs.Requests.{request_of, HoldsSamples}
 
--- the request needs memory for its samples or for its reply; ReadImage and ReadImagePgm do not, because they write the image's own samples
+-- the request needs memory to be parsed or answered; ReadImage and ReadImagePgm do not, because
+-- their replies are written straight from the image
 abbrev pub NeedsMemory : Request → Type 0
 NeedsMemory (ReadImage image) = ⊥
 NeedsMemory (ReadImagePgm image) = ⊥

@@ -51,7 +51,7 @@ module _ (limits : LimitsValue) (left_old left_new : Option (List ℕ)) (old new
   AnswersPayload len (Ok a) = (f : Frame) × IsFrame f × (length f.body + 3 ≡ len) × Consumes left_old left_new (payload f) × IsReply limits f old new (reply_frame limits new a)
   AnswersPayload len (Err e) = ReadsPart left_old left_new len e × SameStates old new
 
--- the reply was written, or only its front
+-- the reply frame was written; or a write or the flush failed, after a prefix of the frame
 abbrev pub WritesReply : Option (List ℕ) → Option (List ℕ) → ReplyFrame → Result ℕ StreamFault → Type 0
 WritesReply old new r (Ok code) = Appends old new (reply_bytes r) × (code ≡ r.code)
 WritesReply old new r (Err e) = (e ≡ WriteFailed) × AppendsFront old new (reply_bytes r)

@@ -5,30 +5,31 @@ use Rattle.vx_requests.specs.Stream.Calls.{failed_calls}
 use Rattle.vx_requests.specs.declared.stream.fault.StreamFault.{StreamFault}
 use Rattle.vx_requests.specs.declared.stream.fault.StreamFault.TheVariants.{ReadFailed, WriteFailed, ReaderWouldNotEnd}
 
--- 1 if a read failed
+-- 1 if a read failed, else 0
 abbrev pub read_failures : {T : Type 0} → Result T StreamFault → ℕ
 read_failures (Ok x) = 0
 read_failures (Err ReadFailed) = 1
 read_failures (Err e) = 0
 
--- 1 if a write or a flush failed
+-- 1 if a write or a flush failed, else 0
 abbrev pub write_failures : {T : Type 0} → Result T StreamFault → ℕ
 write_failures (Ok x) = 0
 write_failures (Err WriteFailed) = 1
 write_failures (Err e) = 0
 
--- a fault of the reads alone: a read failed, or none was left in the budget
+-- a fault of reading: a read failed, or no read was left in the budget
 abbrev pub IsReadFault : StreamFault → Type 0
 IsReadFault ReadFailed = Unit {0}
 IsReadFault ReaderWouldNotEnd = Unit {0}
 IsReadFault e = ⊥
 
--- each read took one of the budget; after ReaderWouldNotEnd the budget is 0
+-- each read lowered the budget by one; after ReaderWouldNotEnd the budget is 0
 abbrev pub CountsReads : {T : Type 0} → (reads_old reads_new budget_old budget_new : ℕ) → Result T StreamFault → Type 0
 CountsReads reads_old reads_new budget_old budget_new result =
     (reads_new + budget_new ≡ reads_old + budget_old) × (budget_new ≤ budget_old) × IfErr result (λ e. e ≡ ReaderWouldNotEnd → budget_new ≡ 0)
 
--- `count` bytes were read into the front of the buffer; fewer than its length only if the stream has ended
+-- `count` bytes were read into the front of the buffer; fewer than the buffer's length only if the
+-- stream has ended
 abbrev pub Fills : Option (List ℕ) → Option (List ℕ) → List ℕ → ℕ → Type 0
 Fills old new buf count = (count ≤ length buf) × Consumes old new (take count buf) × (count < length buf → IsAtEnd new)
 
@@ -36,24 +37,26 @@ Fills old new buf count = (count ≤ length buf) × Consumes old new (take count
 abbrev pub FillsPart : Option (List ℕ) → Option (List ℕ) → List ℕ → Type 0
 FillsPart old new buf = (count : ℕ) × (count < length buf) × Consumes old new (take count buf)
 
--- some bytes from the front were taken, and not all of them
+-- the sink took a proper prefix of the bytes
 abbrev pub AppendsPart : Option (List ℕ) → Option (List ℕ) → List ℕ → Type 0
 AppendsPart old new bytes = (front : List ℕ) × (rest : List ℕ) × (bytes ≡ front ++ rest) × (0 < length rest) × Appends old new front
 
--- some bytes from the front were taken, perhaps all of them
+-- the sink took a prefix of the bytes
 abbrev pub AppendsFront : Option (List ℕ) → Option (List ℕ) → List ℕ → Type 0
 AppendsFront old new bytes = (front : List ℕ) × (rest : List ℕ) × (bytes ≡ front ++ rest) × Appends old new front
 
--- ---- the bytes that a sink was given; `taken` and `failures` are the sink's own counters
+-- ---- the bytes that a sink was given; `taken` and `failures` are the sink's bytes and its count
+-- of failed calls
 
--- all of the bytes were written; or a write failed, and not all of them were taken
+-- all of the bytes were written; or a write failed, and the sink took a proper prefix of the bytes
 pub record WritesAll {K T : Type 0} (taken : K → Option (List ℕ)) (failures : K → ℕ) (old new : K) (bytes : List ℕ) (result : Result T StreamFault) : Type 0 where
   pub ok : OnOk result (Appends (taken old) (taken new) bytes)
   pub err : OnErr result (AppendsPart (taken old) (taken new) bytes)
   pub fault : IfErr result (λ e. e ≡ WriteFailed)
   pub failed : failures new ≡ failures old + failed_calls result
 
--- all of the bytes were written and flushed; or that failed, and perhaps all of them were taken
+-- all of the bytes were written and flushed; or a write or the flush failed, and the sink took a
+-- prefix of the bytes
 pub record Sends {K T : Type 0} (taken : K → Option (List ℕ)) (failures : K → ℕ) (old new : K) (bytes : List ℕ) (result : Result T StreamFault) : Type 0 where
   pub ok : OnOk result (Appends (taken old) (taken new) bytes)
   pub err : OnErr result (AppendsFront (taken old) (taken new) bytes)

@@ -4,14 +4,15 @@ ghost use Rattle.vx_requests.specs.Frame.Frames.{fits_a_frame};
 
 use client_model::Request;
 
-/// The greatest length of a frame, which counts the bytes after the length field: 2^29.
+/// The greatest length of a frame: 2^29. The length counts the bytes after the length field.
 pub const GREATEST_LENGTH: u32 = 536_870_912;
 
-/// The most bytes of a text in a frame: the client, the op and the reference before it take 8 of
-/// the bytes that the length counts.
+/// The most bytes of a text in a frame. The frame's length also counts the 8 bytes of the client,
+/// the op and the reference before the text.
 pub const GREATEST_TEXT: usize = GREATEST_LENGTH as usize - 8;
 
-/// Returns whether a request fits a frame. Only a text of more than 536,870,904 bytes does not.
+/// Returns whether a request fits a frame. Only a request with a text of more than 536,870,904
+/// bytes does not.
 pub fn fits_a_frame(request: &Request) -> bool
     ensures { result ≡ fits_a_frame request.now }
 {

@@ -22,7 +22,9 @@ pub struct Reader<'a, S> {
 }
 
 impl<S: Source> Reader<'_, S> {
-    /// Reads the length of the next frame, and no byte after it. `None`: the stream has ended.
+    /// Reads the length of the next frame, and no byte after the length. `None`: the stream has
+    /// ended. `BadLength`: the length is out of range. `Truncated`: the stream ends within the
+    /// length.
     pub fn read_length(&mut self) -> Result<Option<u32>, StreamFault>
         requires { CanRead S.reads S.failures self.old }
         ensures read { ReadsLength
@@ -45,7 +47,8 @@ impl<S: Source> Reader<'_, S> {
         Ok(Some(length))
     }
 
-    /// Fills the buffer with bytes of a frame. `Truncated`: the stream ends within them.
+    /// Fills the buffer with bytes of a frame. `Truncated`: the stream ends before the buffer is
+    /// full.
     pub fn read_exactly(&mut self, buf: &mut [u8]) -> Result<(), StreamFault>
         requires { CanRead S.reads S.failures self.old }
         ensures ok { OnOk result (Consumes
@@ -62,7 +65,7 @@ impl<S: Source> Reader<'_, S> {
         Ok(())
     }
 
-    /// Skips `count` bytes of a frame. `Truncated`: the stream ends within them.
+    /// Skips `count` bytes of a frame. `Truncated`: the stream ends within these bytes.
     pub fn skip(&mut self, count: usize) -> Result<(), StreamFault>
         requires { CanRead S.reads S.failures self.old }
         ensures ok { OnOk result (ReadsSome

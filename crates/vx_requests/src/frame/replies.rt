@@ -189,7 +189,7 @@ fn flush<K: Sink>(sink: &mut K) -> Result<(), StreamFault>
     }
 }
 
-/// Returns the bytes before a reply's body. `length` is that of everything after the length itself.
+/// Returns the bytes before a reply's body. `length` is the number of bytes after the length field.
 fn head(length: u32, client: u16, op: u8, code: u8) -> [u8; 8]
     ensures { result ≡ reply_head length client op code }
 {
@@ -228,7 +228,7 @@ fn head_and_description(client: u16, op: u8, desc: Desc) -> [u8; 13]
 }
 
 /// Writes the frame of a reply that is the PGM text of a U8 image, up to its samples, to the front
-/// of `bytes`. Returns its length.
+/// of `bytes`. Returns the number of bytes written.
 fn put_text_head(bytes: &mut [u8; TEXT_HEAD], client: u16, op: u8, desc: Desc) -> usize
     ensures within { result ≤ 25 }
     ensures head { take result bytes.new
@@ -243,8 +243,8 @@ fn put_text_head(bytes: &mut [u8; TEXT_HEAD], client: u16, op: u8, desc: Desc) -
     end
 }
 
-/// Returns the bytes before a body of `count` bytes in a reply that isn't a refusal. A length of
-/// more than four bytes loses its upper bytes; no text and no counts of an object are that long.
+/// Returns the bytes before a body of `count` bytes in a reply that isn't a refusal. A length above
+/// 2^32 - 1 would lose its upper bytes, but no text and no counts of an object are that long.
 fn head_before(count: usize, client: u16, op: u8) -> [u8; 8]
     requires { count + 4 < 2 ^ 64 }
     ensures { result ≡ reply_head (count + 4) client op 0 }
@@ -254,7 +254,7 @@ fn head_before(count: usize, client: u16, op: u8) -> [u8; 8]
     [a, b, c, d, e, f, op, 0]
 }
 
-/// Returns the frame of a reply that is counts, up to the first of them.
+/// Returns the frame of a reply that is counts, up to the first count.
 fn head_and_number(client: u16, op: u8, count: usize) -> [u8; 10]
     requires { 4 * count + 6 < 2 ^ 64 }
     ensures { result ≡ reply_head (4 * count + 6) client op 0 ++ to_be_bytes w16 count }

@@ -37,12 +37,12 @@ use vx_wire::{
     range_bytes, rectangle_bytes, reference_bytes,
 };
 
-/// Writes the frame in which a client sends a request. It does not flush the sink, and allocates
+/// Writes the frame in which a client sends a request. Does not flush the sink, and allocates
 /// nothing.
 ///
-/// The request fits a frame (`fits_a_frame`). `WriteFailed`, the only fault: a write failed; part
-/// of the frame may have been written. The fields are in the ranges of their types, so that the
-/// frame is read back as this request.
+/// The caller has checked that the request fits a frame (`fits_a_frame`). `WriteFailed`, the only
+/// fault: a write failed; part of the frame may have been written. The request's fields are in the
+/// ranges of their types, so the frame is parsed as this request again.
 pub fn write_request<K: Sink>(
     sink: &mut K,
     client: u16,
@@ -144,7 +144,7 @@ fn write_named<K: Sink>(
     write_short(sink, client, op.number(), body)
 }
 
-/// Writes a name and a field to `body`, and fills it.
+/// Fills `body` with a name and a field.
 fn spell_named(name: u32, field: &[u8], body: &mut [u8])
     requires { length body.old ≡ 4 + length field.now }
     ensures { body.new ≡ to_be_bytes w32 name ++ field.now }
@@ -184,7 +184,7 @@ fn write_short<K: Sink>(sink: &mut K, client: u16, op: u8, body: &[u8]) -> Resul
     write_all(sink, frame)
 }
 
-/// Writes a frame with a short body to `frame`, and fills it.
+/// Fills `frame` with the bytes of a frame that has a short body.
 fn spell_short(client: u16, op: u8, body: &[u8], frame: &mut [u8])
     requires room { length body.now ≤ 29 }
     requires fits { length frame.old ≡ 7 + length body.now }

@@ -29,7 +29,7 @@ pub fn write_samples<K: Sink>(sink: &mut K, samples: &Samples) -> Result<(), Str
     }
 }
 
-/// Writes numbers of several bytes each, encoded as samples, in blocks of 1024.
+/// Writes numbers of several bytes each, encoded as samples, in blocks of 1024 numbers.
 pub fn write_wide<S: WideSample, K: Sink>(sink: &mut K, samples: &[S]) -> Result<(), StreamFault>
     requires { K.failures sink.old < 2 ^ 62 }
     ensures { WritesAll K.taken K.failures sink.old sink.new
@@ -45,7 +45,7 @@ pub fn write_wide<S: WideSample, K: Sink>(sink: &mut K, samples: &[S]) -> Result
     Ok(())
 }
 
-/// Encodes samples into the block, which is long enough, and writes them.
+/// Encodes samples into the block, which is long enough, and writes the encoded bytes.
 fn write_sample_block<S: WideSample, K: Sink>(
     sink: &mut K,
     block: &mut [u8],
@@ -75,7 +75,7 @@ impl<S: Source> FillsSamples for Reader<'_, S> {
     }
 }
 
-/// Reads samples of any format from a frame over existing ones.
+/// Replaces samples of any format with samples that are read from a frame.
 fn read_samples<S: Source>(reader: &mut Reader<S>, samples: &mut Samples) -> Result<(), StreamFault>
     requires { CanRead S.reads S.failures reader.old }
     ensures ok { OnOk result (ReadsSamples
@@ -95,7 +95,7 @@ fn read_samples<S: Source>(reader: &mut Reader<S>, samples: &mut Samples) -> Res
     }
 }
 
-/// Reads samples of several bytes each over existing ones, piece by piece.
+/// Replaces samples of several bytes each with samples that are read from a frame, piece by piece.
 fn read_wide<S: WideSample, R: Source>(
     reader: &mut Reader<R>,
     samples: &mut [S],
@@ -117,8 +117,8 @@ fn read_wide<S: WideSample, R: Source>(
     Ok(())
 }
 
-/// Reads samples over the first of the existing ones, as many as fit in the piece. Returns how
-/// many.
+/// Replaces the first samples with samples that are read from a frame, as many as fit in the piece.
+/// Returns the number of samples read.
 fn read_piece<S: WideSample, R: Source>(
     reader: &mut Reader<R>,
     piece: &mut [u8],

@@ -44,7 +44,8 @@ pub fn each_alone()
         ≡ alone (answer limits) (start client) (mine client marked) }
 {}
 
-/// If all frames are of one client and none was lost, the replies are those of that client alone.
+/// If all frames are of one client and no frame was lost, the replies are those that this client
+/// would get as the only client.
 pub fn one_client()
     ensures { (limits : LimitsValue) (start : ℕ → State) (marked : List ReceivedFrame)
         (client : ℕ) →
@@ -53,8 +54,8 @@ pub fn one_client()
         ≡ alone (answer limits) (start client) (frames_of marked) }
 {}
 
-/// If a client starts in the same state in two streams, and its kept frames are the same in both,
-/// it gets the same replies to them.
+/// Let a client start in the same state in two streams, and have the same kept frames in both. The
+/// client gets the same replies to these frames in both streams.
 pub fn isolated()
     ensures { (limits : LimitsValue) (start other : ℕ → State)
         (marked others : List ReceivedFrame) (client : ℕ) →
@@ -79,8 +80,8 @@ pub fn lost_shows()
         map (λ r. r.code == 1) (served (answer limits) start marked) ≡ map (λ m. m.lost) marked }
 {}
 
-/// If the source knows its bytes, and `serve` succeeded or failed because of the stream's bytes,
-/// the frames and the rest that it read are the split of the stream.
+/// Let the source's bytes be known, and let `serve` succeed, or fail because of these bytes. The
+/// frames that `serve` read and the bytes after them are then the split of the stream.
 pub fn session_splits()
     ensures { (limits : LimitsValue) (input more : List ℕ) (taken_old taken_new : Option (List ℕ))
         (old new : ℕ → State) (result : Result Summary StreamFault) →
@@ -89,7 +90,8 @@ pub fn session_splits()
 {}
 
 /// A client's frames preserve the invariant of its context, `KeepsLimits`. Each reference to an
-/// image then names a valid one: its samples are of its format, and 0 outside its valid rectangle.
+/// image then names a valid image: its samples are of its format, and 0 outside its valid
+/// rectangle.
 pub fn states_keep()
     ensures limits { (limits : LimitsValue) (state : State) (frames : List Frame) →
         All IsFrame frames → IfSome state (KeepsLimits limits) →

@@ -19,7 +19,8 @@ pub enum ReplyContent {
     Made(Reply),
     /// The reply to ReadImage of this image. The samples are written from the image without a copy.
     Samples(ObjRef),
-    /// The reply to ReadImagePgm of this image, written in the same way.
+    /// The reply to ReadImagePgm of this image. The samples are written from the image without a
+    /// copy.
     Text(ObjRef),
 }
 
@@ -32,7 +33,7 @@ pub struct Answered {
 }
 
 /// Writes the frame of a reply, flushes the sink, and returns the reply's code. The runtime is in
-/// the state that the request left.
+/// the state after the request.
 pub fn write_answered<K: Sink>(
     sink: &mut K,
     runtime: &Runtime,
@@ -65,7 +66,7 @@ pub fn write_answered<K: Sink>(
     }
 }
 
-/// Writes the frame of a reply that was computed, and returns its code.
+/// Writes the frame of a reply that was computed, and returns the reply's code.
 fn write_made_reply<K: Sink>(
     sink: &mut K,
     client: u16,

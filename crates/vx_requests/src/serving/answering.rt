@@ -1,4 +1,4 @@
-//! Reads the rest of a frame after its length, and returns the reply of the runtime.
+//! Reads the bytes after a frame's length, and returns the runtime's reply.
 ghost use Rattle.std.specs.Prelude.{◌≡◌, ℕ, ◌<◌, ◌≤◌, ◌^◌, List, length, All, Ok, IfOk};
 ghost use Rattle.client_model.specs.Limits.{LimitsValue};
 ghost use Rattle.client_model.specs.Context.{State};
@@ -86,8 +86,9 @@ fn answer_small<S: Source>(
     })
 }
 
-/// Reads a body of `count` bytes, and answers its frame. If no memory can be allocated for it, the
-/// body is skipped. The samples of a WriteImage are read straight into the image's new samples.
+/// Reads a body of `count` bytes, and answers its frame. If no memory can be allocated for the
+/// body, the body is skipped. The samples of a WriteImage are read straight into the image's new
+/// samples.
 fn answer_large<S: Source>(
     alloc: Global,
     reader: &mut Reader<S>,
@@ -140,8 +141,8 @@ fn answer_in<S: Source>(
     Ok(answer_frame(alloc, runtime, &RequestFrame { client, op, body }))
 }
 
-/// Skips a body for which no memory could be allocated. It reads no client's state, and changes
-/// none.
+/// Skips a body for which no memory could be allocated, and returns the reply NO_MEMORY. No
+/// client's state is read or changed.
 fn lose_body<S: Source>(
     reader: &mut Reader<S>,
     client: u16,
@@ -182,8 +183,8 @@ fn answer_frame(alloc: Global, runtime: &mut Runtime, frame: &RequestFrame) -> R
 {
     let content = content_for(alloc, runtime, frame);
     if let ReplyContent::Made(Reply::Refused(Code::NoMemory)) = content {
-        // Parsing may have failed for want of memory. Dropping the free blocks leaves more for a
-        // retry by the client.
+        // Parsing may have failed for want of memory. Dropping the free blocks leaves more memory
+        // for a retry by the client.
         runtime.drop_free();
     }
     content
@@ -208,7 +209,7 @@ fn content_for(alloc: Global, runtime: &mut Runtime, frame: &RequestFrame) -> Re
     }
 }
 
-/// Returns the runtime's reply, or NO_MEMORY. For ReadImage and ReadImagePgm it returns the image's
+/// Returns the runtime's reply, or NO_MEMORY. For ReadImage and ReadImagePgm, returns the image's
 /// reference, so that nothing is copied.
 fn answer_request(
     alloc: Global,

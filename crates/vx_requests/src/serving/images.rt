@@ -1,4 +1,5 @@
-//! Answers WriteImage. The samples are read into a block of the pool, whose memory the image gets.
+//! Answers WriteImage. The samples are read into a block of the pool. The image then gets the
+//! block's memory.
 ghost use Rattle.std.specs.Prelude.{◌≡◌, ◌<◌, Some, OnOk, IfOk, IfErr};
 ghost use Rattle.client_model.specs.declared.reply.Reply.TheVariants.{Refused};
 ghost use Rattle.vx_requests.specs.declared.serving.answered.ReplyContent.TheVariants.{Made};
@@ -52,7 +53,7 @@ pub fn answer_write_image<S: Source>(
     }
 }
 
-/// Skips the rest of a frame, and answers it with this code.
+/// Skips the `rest` bytes that remain of a frame, and answers the frame with this code.
 fn refuse<S: Source>(
     reader: &mut Reader<S>,
     rest: usize,

@@ -1,7 +1,7 @@
 //! The summary of serving a stream.
 ghost use Rattle.std.specs.Prelude.{◌≡◌, ◌+◌, ◌<◌, ◌^◌, ◌==◌, if◌then◌else◌};
 
-/// The number of replies, and of those with a code that isn't 0.
+/// The number of replies, and the number of replies whose code isn't 0.
 #[derive(Clone, Copy, Debug, PartialEq, Eq)]
 pub struct Summary {
     pub requests: u64,

@@ -5,7 +5,7 @@ ghost use Rattle.vx_requests.specs.Stream.FromRead.{reader_of};
 use crate::stream::{Failed, Source};
 use std::io::Read;
 
-/// A source over a reader, which counts its reads.
+/// A source that reads from a reader, and counts the reads.
 #[derive(Drop)]
 pub struct FromRead<R> {
     reader: R,

@@ -5,7 +5,7 @@ ghost use Rattle.vx_requests.specs.Stream.FromWrite.{writer_of};
 use crate::stream::{Failed, Sink};
 use std::io::Write;
 
-/// A sink over a writer, which counts its failed calls.
+/// A sink that writes to a writer, and counts the failed calls.
 #[derive(Drop)]
 pub struct FromWrite<W> {
     writer: W,

@@ -11,7 +11,8 @@ pub trait Sink {
     /// The bytes that were taken, if they are known.
     ghost taken: { Self → Option (List ℕ) };
 
-    /// How many writes and flushes failed. A write that took none of some bytes counts as failed.
+    /// The number of writes and flushes that failed. A write that was given bytes and took none
+    /// counts as failed.
     ghost failures: { Self → ℕ };
 
     /// Takes bytes from the front of `bytes`, and returns how many. A write that fails takes none.

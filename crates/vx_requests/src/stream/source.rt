@@ -14,11 +14,11 @@ pub trait Source {
     /// The number of reads.
     ghost reads: { Self → ℕ };
 
-    /// The number of these reads that failed.
+    /// The number of reads that failed.
     ghost failures: { Self → ℕ };
 
-    /// Reads bytes into the front of the buffer, and returns their number. It is 0 only if no byte
-    /// is left or the buffer is empty. A failed read takes no bytes.
+    /// Reads bytes into the front of the buffer, and returns their number. The number is 0 only if
+    /// no byte is left or the buffer is empty. A failed read takes no bytes.
     fn read(&mut self, buf: &mut [u8]) -> Result<usize, Failed>
         requires reads_fit { reads self.old < 2 ^ 63 }
         requires failures_fit { failures self.old < 2 ^ 63 }

@@ -5,11 +5,11 @@ ghost use Rattle.vx_requests.specs.Stream.Transfer.{FillsPart, WritesAll};
 
 use crate::stream::{Failed, Sink, Source, StreamFault};
 
-/// Fills the buffer, unless the stream ends before. Returns how many bytes were read.
+/// Fills the buffer, unless the stream ends first. Returns how many bytes were read.
 ///
-/// `budget` is how many reads are still allowed; each read takes one of it. `ReadFailed`: a read
-/// failed. `ReaderWouldNotEnd`: no read is left in the budget. The bytes that were read before a
-/// fault are at the front of the buffer.
+/// `budget` is the number of reads that are still allowed; each read lowers it by one.
+/// `ReadFailed`: a read failed. `ReaderWouldNotEnd`: no read is left in the budget. The bytes that
+/// were read before a fault are at the front of the buffer.
 pub fn fill<S: Source>(
     source: &mut S,
     budget: &mut u64,
@@ -21,7 +21,7 @@ pub fn fill<S: Source>(
     ensures err { OnErr result (FillsPart (S.left source.old) (S.left source.new) buf.new) }
     ensures fault { IfErr result IsReadFault }
 
-    // A buffer that isn't empty needs a read, and at most one for each of its bytes.
+    // Filling a buffer that isn't empty takes at least one read, and at most one for each byte.
     ensures counted { CountsReads (S.reads source.old) (S.reads source.new)
         budget.old budget.new result }
     ensures once { IfOk result (λ count. 0 < length buf.new → budget.new < budget.old) }

@@ -35,7 +35,7 @@ fn take_offset(fields: &mut Fields) -> Result<u16, BodyFault>
     }
 }
 
-/// Reads bins. They may end above 255.
+/// Reads the bins of a distribution. The range may end above 255.
 pub fn take_bins(fields: &mut Fields) -> Result<Bins, BodyFault>
     ensures { Takes take_bins fields.old fields.new result }
 {
@@ -45,7 +45,7 @@ pub fn take_bins(fields: &mut Fields) -> Result<Bins, BodyFault>
     Ok(Bins::new(bins, offset, range).unwrap())
 }
 
-/// Returns the bytes of bins.
+/// Returns the bytes of a distribution's bins.
 pub fn bins_bytes(bins: Bins) -> [u8; 6]
     ensures { result ≡ bins_bytes bins }
 {

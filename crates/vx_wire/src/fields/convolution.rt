@@ -37,7 +37,7 @@ fn take_exponent(fields: &mut Fields) -> Result<u8, BodyFault>
     }
 }
 
-/// Reads a convolution. It allocates nothing: there are at most 81 coefficients.
+/// Reads a convolution. Allocates nothing, since there are at most 81 coefficients.
 pub fn take_convolution(fields: &mut Fields) -> Result<Convolution, BodyFault>
     ensures { Takes take_convolution fields.old fields.new result }
 {

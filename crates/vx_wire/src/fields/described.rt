@@ -6,7 +6,7 @@ use crate::fields::format::open_format_number;
 use crate::fields::rectangle::rectangle_bytes;
 use client_model::Described;
 
-/// Returns the bytes of the description of an image.
+/// Returns the body of the reply to QueryImage.
 pub fn described_bytes(described: Described) -> [u8; 13]
     ensures { result ≡ described_bytes described }
 {

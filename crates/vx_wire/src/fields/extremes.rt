@@ -1,11 +1,11 @@
-//! The reply for extremes: the two samples, how many pixels have each, and the first of these
-//! pixels.
+//! The reply to ReadMinMax: the least and the greatest sample, the number of pixels with each, and
+//! the first pixel with each.
 ghost use Rattle.std.specs.Prelude.{◌≡◌};
 ghost use Rattle.vx_wire.specs.Extremes.{pixel_bytes, extremes_bytes};
 
 use vx_base::Extremes;
 
-/// Returns the bytes of a column and a row.
+/// Returns the bytes of a pixel: its column, then its row.
 fn pixel_bytes(place: (u16, u16)) -> [u8; 4]
     ensures { result ≡ pixel_bytes place }
 {

@@ -23,7 +23,8 @@ fn take_function(fields: &mut Fields) -> Result<Function, BodyFault>
     }
 }
 
-/// Reads the mode of a border and its constant, which is 0 unless the mode has one.
+/// Reads a border: its mode, then its constant, which is 0 unless the mode is CONSTANT.
+/// `InvalidParameters`: another mode or constant.
 fn take_border(fields: &mut Fields) -> Result<Border, BodyFault>
     ensures { Takes take_border fields.old fields.new result }
 {

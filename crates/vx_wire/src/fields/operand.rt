@@ -1,4 +1,4 @@
-//! The operands of a node. An operand that is absent is name 0 without a slot.
+//! The operands of a node. An absent operand is encoded as name 0 without a slot.
 ghost use Rattle.std.specs.Prelude.{◌≡◌, not, IfOk, IsTrue};
 ghost use Rattle.vx_base.specs.Node.{is_nothing};
 ghost use Rattle.vx_wire.specs.Fields.{Takes};
@@ -22,8 +22,8 @@ pub enum Presence {
     Free,
 }
 
-/// Reads an operand, or `None` if it is absent. `InvalidParameters`: a required operand is absent,
-/// or there is one that the function doesn't have.
+/// Reads an operand, and returns `None` if the operand is absent. `InvalidParameters`: a required
+/// operand is absent, or an operand is given that the function doesn't have.
 fn take_operand(fields: &mut Fields, presence: Presence) -> Result<Option<ObjRef>, BodyFault>
     ensures taken { Takes (take_operand presence) fields.old fields.new result }
     ensures has { IfOk result (λ o. IsTrue (is_operand presence o)) }
@@ -66,7 +66,8 @@ fn first_output(parameters: Parameters) -> Presence
     }
 }
 
-/// Returns whether the second output is required: of two outputs, at least one has to be there.
+/// Returns whether the second output is required, absent or optional. Of a pair of outputs, at
+/// least one is required.
 fn second_output(parameters: Parameters, out1: &Option<ObjRef>) -> Presence
     ensures { result ≡ second_output parameters out1.now }
 {
@@ -77,7 +78,7 @@ fn second_output(parameters: Parameters, out1: &Option<ObjRef>) -> Presence
     }
 }
 
-/// Reads the first input.
+/// Reads the first input. `InvalidParameters`: the input is absent.
 pub fn take_first_input(fields: &mut Fields) -> Result<ObjRef, BodyFault>
     ensures taken { Takes take_first_input fields.old fields.new result }
     ensures has { IfOk result (λ cell. IsTrue (not (is_nothing cell))) }

@@ -1,5 +1,5 @@
-//! Partial descriptions, as virtual images have them: the format, the width and the height. 0
-//! leaves one open.
+//! Partial descriptions of virtual images: the format, the width and the height. Each is 0 if it is
+//! open.
 ghost use Rattle.std.specs.Prelude.{◌≡◌, IfOk, IsTrue};
 ghost use Rattle.vx_base.specs.PartialDescription.{may_be_side};
 ghost use Rattle.vx_wire.specs.Fields.{Takes};

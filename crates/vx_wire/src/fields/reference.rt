@@ -1,4 +1,4 @@
-//! References to objects: a name and a slot, which is 255 for none.
+//! References to objects: a name, and a slot. Slot 255 means the object itself.
 ghost use Rattle.std.specs.Prelude.{◌≡◌, ◌<◌};
 ghost use Rattle.std.specs.Option.{ForSome};
 ghost use Rattle.vx_wire.specs.Fields.{Takes};

@@ -1,4 +1,4 @@
-//! Samples as bytes: 1, 2 or 4 for each, the most significant first.
+//! Samples as bytes: 1, 2 or 4 bytes for each sample, the most significant first.
 ghost use Rattle.std.specs.Prelude.{◌≡◌, ◌+◌, ◌*◌, ◌≤◌, ◌^◌, ℤ, pos, length, map, Ok, Err, IfOk};
 ghost use Rattle.std.specs.Prelude.{IfErr};
 ghost use Rattle.std.specs.List.{flat_map};
@@ -15,7 +15,7 @@ use crate::fields::Fields;
 use std::alloc::{AllocError, Global};
 use vx_base::{Format, Samples};
 
-/// Reads the bytes of `count` samples of a format. `InvalidParameters`: fewer are left.
+/// Reads the bytes of `count` samples of a format. `InvalidParameters`: fewer bytes are left.
 pub fn take_samples<'a>(
     fields: &mut Fields<'a>,
     format: Format,
@@ -32,7 +32,7 @@ pub fn take_samples<'a>(
 
 /// A type of samples that take several bytes each: `i16` or `u32`.
 pub trait WideSample: Copy {
-    /// The format of such samples.
+    /// The format of samples of this type.
     ghost format: { SampleFormat };
 
     /// The sample's value.
@@ -95,8 +95,8 @@ impl WideSample for u32 {
     }
 }
 
-/// Returns `count` samples of a format, decoded from their big-endian bytes. It allocates all of
-/// its memory before it decodes any.
+/// Returns `count` samples of a format, decoded from their big-endian bytes. All memory is
+/// allocated before the first sample is decoded.
 pub fn decode(
     alloc: Global,
     format: Format,
@@ -124,7 +124,7 @@ pub fn decode(
     }
 }
 
-/// Decodes bytes into `samples`, and fills all of them.
+/// Fills `samples` with the samples that big-endian bytes encode.
 pub fn decode_wide<S: WideSample>(bytes: &[u8], samples: &mut [S])
     requires { length bytes.now ≡ length samples.old * sample_bytes S.format }
     ensures { map S.value samples.new ≡ decoded_samples S.format (length samples.old) bytes.now }
@@ -136,7 +136,7 @@ pub fn decode_wide<S: WideSample>(bytes: &[u8], samples: &mut [S])
     }
 }
 
-/// Encodes samples of several bytes each into `bytes`, and fills all of them.
+/// Fills `bytes` with the big-endian bytes of samples.
 pub fn encode<S: WideSample>(samples: &[S], bytes: &mut [u8])
     requires { length bytes.old ≡ length samples.now * sample_bytes S.format }
     ensures { bytes.new ≡ flat_map (λ s. encoded_sample S.format (S.value s)) samples.now }

@@ -13,7 +13,7 @@ use crate::fields::format::{format_number, take_input_format};
 use crate::fields::samples::WideSample;
 use vx_base::{Format, ThresholdKind, ThresholdRule};
 
-/// Reads whether the threshold has a lower and an upper limit: 0 is BINARY and 1 is RANGE.
+/// Reads a threshold's kind, 0 for BINARY and 1 for RANGE. Returns whether the kind is RANGE.
 fn take_is_range(fields: &mut Fields) -> Result<bool, BodyFault>
     ensures { Takes take_is_range fields.old fields.new result }
 {
@@ -45,8 +45,8 @@ fn take_limit(fields: &mut Fields, format: Format) -> Result<i16, BodyFault>
     }
 }
 
-/// Reads the upper limit. `InvalidValue`: it isn't a sample of the format, or is below the lower
-/// limit.
+/// Reads the upper limit. `InvalidValue`: the limit isn't a sample of the format, or is below the
+/// lower limit.
 fn take_upper(fields: &mut Fields, format: Format, lower: i16) -> Result<i16, BodyFault>
     ensures taken { Takes (take_upper format lower) fields.old fields.new result }
     ensures sample { IfOk result (λ z. IsTrue (is_sample format z)) }
@@ -60,7 +60,7 @@ fn take_upper(fields: &mut Fields, format: Format, lower: i16) -> Result<i16, Bo
     }
 }
 
-/// Reads the limit of a BINARY threshold, or the two of a RANGE threshold.
+/// Reads the limit of a BINARY threshold, or both limits of a RANGE threshold.
 fn take_limits(
     fields: &mut Fields,
     is_range: bool,

@@ -53,8 +53,9 @@ pub fn write_image(alloc: Global, body: &[u8]) -> Result<Request, ParseFault>
 }
 
 /// Parses the first ten bytes of the body of WriteImage: a reference, and the description of the
-/// picture. `rest` is the number of bytes that follow. `InvalidParameters`: it isn't the number
-/// that the description requires. Any values of these bytes are valid samples.
+/// picture. `rest` is the number of bytes that follow. `InvalidParameters`: `rest` isn't the number
+/// of sample bytes that the description requires. The bytes that follow aren't checked, since any
+/// values are valid samples.
 pub fn take_image_head(head: &[u8; 10], rest: usize) -> Result<(ObjRef, Desc), BodyFault>
     ensures ok { IfOk result (λ found. (samples : List ℕ) → length samples ≡ rest →
         write_image_in (head.now ++ samples) ≡ Ok (write_image_of found.0 found.1 samples)) }
@@ -73,7 +74,7 @@ pub fn take_image_head(head: &[u8; 10], rest: usize) -> Result<(ObjRef, Desc), B
 }
 
 /// Splits the body of WriteImagePgm into its reference and its text. The text is all remaining
-/// bytes, and isn't parsed here. It allocates nothing.
+/// bytes. The text isn't parsed, and nothing is allocated.
 pub fn take_image_pgm_fields(body: &[u8]) -> Result<(ObjRef, &[u8]), BodyFault>
     ensures ok { IfOk result (λ found.
         write_image_pgm_in body.now ≡ Ok (WriteImagePgm found.0 found.1.now)) }
