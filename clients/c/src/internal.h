@@ -194,6 +194,8 @@ struct _vx_context {
     bool has_unused;
     /* Buffers for the next pictures. */
     struct buffer spares[SPARES];
+    /* Whether an image is widened. */
+    bool has_widened;
 };
 
 void free_context(vx_context context);
@@ -268,6 +270,10 @@ struct _vx_image {
     vx_map_id next_map;
     /* Whether a node may have written it, so that its valid rectangle isn't known here. */
     bool is_computed;
+    /* Whether a write has made it wholly valid on the server; and the valid rectangle that it has
+       all the same. */
+    bool is_widened;
+    vx_rectangle_t valid;
     /* Whether it is an image from a handle, with the program's memory, or a uniform image. */
     bool is_handle, is_uniform;
     struct grid memory;
@@ -283,7 +289,12 @@ vx_status create_samples(vx_context context, vx_uint32 scope, const struct descr
 /* An image as described, or an error. */
 vx_reference create_image(vx_context context, struct _vx_image made);
 vx_status query_valid(vx_image image, vx_rectangle_t *rect);
-vx_status set_valid(vx_image image, const vx_rectangle_t *rect);
+/* Notes that a write has made an image wholly valid on the server. Its valid rectangle stays what
+   it was before. */
+void widen(vx_image image, const vx_rectangle_t *valid);
+/* Sets the valid rectangles of widened images on the server, which makes the samples outside them
+   0. This comes before a run, which uses valid rectangles, and before a delay ages. */
+vx_status narrow_images(vx_context context);
 /* Whether pixels may be outside an image's valid rectangle. */
 bool may_be_partial(const struct _vx_image *image);
 /* Marks the outputs of a call as written by a node. */
