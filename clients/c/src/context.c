@@ -186,6 +186,7 @@ PUBLIC vx_context VX_API_CALL vxCreateContext(void) {
         free_context(context);
         return NULL;
     }
+    list_context(context);
     make_base(&context->base, context, VX_TYPE_CONTEXT, VX_SUCCESS);
     for (vx_status status = -1; status > VX_STATUS_MIN; status--)
         make_base(&context->errors[-status], context, VX_TYPE_ERROR, status);
@@ -194,12 +195,19 @@ PUBLIC vx_context VX_API_CALL vxCreateContext(void) {
 
 void leave_context(vx_context context) {
     leave_to_parent(&context->connection);
-    context->users = context->depth = 0;
-    context->is_in_callback = false;
+    context->is_in_callback =
+        context->is_in_callback && pthread_equal(context->caller, pthread_self());
+    context->users = context->depth = context->is_in_callback ? context->depth : 0;
+    /* A mutex that this thread locked before the fork can't be unlocked after it. */
     make_mutexes(context);
+    for (unsigned i = 0; i < context->depth; i++) {
+        pthread_mutex_lock(&context->calls);
+        pthread_mutex_lock(&context->objects);
+    }
 }
 
 void free_context(vx_context context) {
+    unlist_context(context);
     connection_close(&context->connection);
     while (context->first != NULL) {
         vx_reference object = context->first;

@@ -142,8 +142,10 @@ vx_status check(vx_context context, const void *reference, vx_enum type);
 /* Makes an object with one reference. Returns NULL where there is no memory. */
 void *make(vx_context context, vx_enum type, size_t size);
 void register_reference(vx_reference reference);
-/* From now on a child of this process leaves all contexts to it. */
+/* From now on a child of this process leaves all listed contexts to it. */
 void watch_forks_once(void);
+void list_context(vx_context context);
+void unlist_context(vx_context context);
 void unregister_reference(vx_reference reference);
 /* Adds or removes a reference of another object. */
 void hold(vx_reference reference);
@@ -175,9 +177,11 @@ struct _vx_context {
     /* A thread with both locks changes objects and uses the connection. While it waits for the
        server it has only the first. A thread with only the second reads objects. */
     pthread_mutex_t calls, objects;
-    /* How many threads use the context, under the registry's lock; whether it was released. */
+    /* How many calls use the context, under the registry's lock; whether it was released; and the
+       process's next context. */
     unsigned users;
     bool is_closed;
+    vx_context next;
     /* Its objects, without itself and its error objects. */
     vx_reference first;
     struct _vx_reference errors[STATUSES + 1];
@@ -187,6 +191,8 @@ struct _vx_context {
     vx_uint32 extremes;
     vx_log_callback_f callback;
     bool is_logging, is_in_callback;
+    /* The thread that the callback runs in. */
+    pthread_t caller;
     /* How many calls are nested, since a log callback may make calls; and whether callbacks left
        objects unused. The outermost call destroys these when it leaves: the calls around a callback
        may still have them in hand. */
@@ -199,7 +205,8 @@ struct _vx_context {
 };
 
 void free_context(vx_context context);
-/* After a fork, in the child: the context has no server, and no thread uses it. */
+/* After a fork, in the child: the context has no server. No thread uses it, unless its log callback
+   forked: then the call that the callback is in goes on. */
 void leave_context(vx_context context);
 /* Sets a border to the value of an attribute. */
 vx_status set_border(vx_border_t *border, const void *ptr, vx_size size);

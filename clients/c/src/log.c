@@ -20,6 +20,7 @@ static void tell_list(vx_reference reference, vx_status status, const char *word
     vsnprintf(message, sizeof message, words, list);
     /* Calls of the callback add no entries: else it might call itself without end. */
     context->is_in_callback = true;
+    context->caller = pthread_self();
     context->callback(context, known(reference), status, message);
     context->is_in_callback = false;
 }
