@@ -452,8 +452,6 @@ vx_status check_complete(vx_reference about, const struct call *call);
 /* Makes the thresholds, tables and other objects of a call on the server, and writes the bytes of
    the node. */
 vx_status encode_call(vx_reference about, struct call *call, uint8_t *bytes);
-/* The name of the graph in which a virtual image may be used; 0 for none. */
-vx_uint32 scope_of(vx_reference about);
 /* After a run: reads what MinMaxLoc found into the scalars and arrays of its call. */
 vx_status take_extremes(vx_context context, const struct call *call);
 
