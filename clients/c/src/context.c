@@ -100,8 +100,8 @@ static vx_status exchange(vx_context context, struct request *request, const uin
 }
 
 vx_status ask(vx_context context, enum op op, const uint8_t *body, size_t length, uint8_t *reply,
-              size_t room) {
-    struct request request = {.op = (uint8_t)op, .body = reply, .body_length = room};
+              size_t reply_length) {
+    struct request request = {.op = (uint8_t)op, .body = reply, .body_length = reply_length};
     return exchange(context, &request, body, length);
 }
 
@@ -154,16 +154,16 @@ static void make_base(vx_reference reference, vx_context context, vx_enum type, 
 }
 
 /* Connects to a server, which opens a context. Where that fails, writes why. */
-static bool open_server(vx_context context, char *why, size_t room) {
-    if (!connection_open(&context->connection, why, room))
+static bool open_server(vx_context context, char *why, size_t size) {
+    if (!connection_open(&context->connection, why, size))
         return false;
     end_look(context);
     vx_status status = ask(context, OPEN_CONTEXT, NULL, 0, NULL, 0);
     let_look(context);
     if (context->connection.has_ended)
-        connection_say_end(&context->connection, why, room);
+        connection_say_end(&context->connection, why, size);
     else
-        snprintf(why, room, "the server refused OpenContext: %s%s", name_of_status(status),
+        snprintf(why, size, "the server refused OpenContext: %s%s", name_of_status(status),
                  advice_on(OPEN_CONTEXT, status));
     return status == VX_SUCCESS;
 }

@@ -88,10 +88,10 @@ struct connection {
     size_t chunk_at, chunk_end;
 };
 
-bool connection_open(struct connection *connection, char *why, size_t room);
+bool connection_open(struct connection *connection, char *why, size_t size);
 void connection_close(struct connection *connection);
 /* Says in words why the connection has ended. */
-void connection_say_end(struct connection *connection, char *words, size_t room);
+void connection_say_end(struct connection *connection, char *words, size_t size);
 /* Sends a request's frame; false where the server has ended. */
 bool connection_send(struct connection *connection, struct request *request, const uint8_t *body,
                      size_t length);
@@ -106,7 +106,7 @@ bool connection_wait(struct connection *connection, struct request *request);
 
 /* ---- process.c: reaching a server ---- */
 
-bool reach_server(struct connection *connection, char *why, size_t room);
+bool reach_server(struct connection *connection, char *why, size_t size);
 void end_server(struct connection *connection);
 /* After a fork, in the child: leaves the server to the parent. */
 void leave_to_parent(struct connection *connection);
@@ -168,7 +168,7 @@ bool is_copy(vx_enum usage, vx_enum memory);
 /* Memory for samples that are sent or read. */
 struct buffer {
     uint8_t *bytes;
-    size_t room;
+    size_t capacity;
 };
 
 struct _vx_context {
@@ -210,9 +210,9 @@ void free_context(vx_context context);
 void leave_context(vx_context context);
 /* Sets a border to the value of an attribute. */
 vx_status set_border(vx_border_t *border, const void *ptr, vx_size size);
-/* Sends a request and waits for its reply, which has a body of exactly room bytes. */
+/* Sends a request and waits for its reply, which has a body of exactly reply_length bytes. */
 vx_status ask(vx_context context, enum op op, const uint8_t *body, size_t length, uint8_t *reply,
-              size_t room);
+              size_t reply_length);
 vx_status ask_named(vx_context context, enum op op, vx_uint32 name);
 /* The same for a reply without a body. A refusal adds no log entry. */
 vx_status ask_quietly(vx_context context, enum op op, const uint8_t *body, size_t length);
@@ -594,7 +594,7 @@ bool is_in_last_part(const struct _vx_node *node);
 /* ---- verdict.c ---- */
 
 /* Writes a node's number in order of addition, from 0, its function and its name. */
-void describe_node(vx_node node, char *words, size_t room);
+void describe_node(vx_node node, char *words, size_t size);
 /* Checks that no two nodes write the same scalar or array. The server doesn't know these. */
 vx_status check_writers(vx_graph graph);
 /* Whether a node reads an image that another node writes. */

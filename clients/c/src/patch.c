@@ -28,9 +28,9 @@ static struct buffer make_buffer(size_t length) {
     void *bytes;
     if (huge == 0) {
         made.bytes = calloc(1, length);
-    } else if (posix_memalign(&bytes, HUGE_PAGE, made.room) == 0) {
+    } else if (posix_memalign(&bytes, HUGE_PAGE, made.capacity) == 0) {
         madvise(bytes, huge, MADV_HUGEPAGE);
-        made.bytes = memset(bytes, 0, made.room);
+        made.bytes = memset(bytes, 0, made.capacity);
     }
     return made;
 }
@@ -41,8 +41,8 @@ static struct buffer take_buffer(vx_context context, size_t length) {
     struct buffer *best = NULL;
     for (int i = 0; i < SPARES; i++) {
         struct buffer *spare = &context->spares[i];
-        if (length >= LEAST_KEPT && spare->room >= length &&
-            (best == NULL || spare->room < best->room))
+        if (length >= LEAST_KEPT && spare->capacity >= length &&
+            (best == NULL || spare->capacity < best->capacity))
             best = spare;
     }
     if (best == NULL)
@@ -54,8 +54,9 @@ static struct buffer take_buffer(vx_context context, size_t length) {
 
 /* Keeps the buffer if it is larger than one that is kept. */
 static void give_buffer(vx_context context, struct buffer given) {
-    for (int i = 0; i < SPARES && given.room >= LEAST_KEPT && given.room <= GREATEST_KEPT; i++)
-        if (context->spares[i].room < given.room) {
+    bool may_be_kept = given.capacity >= LEAST_KEPT && given.capacity <= GREATEST_KEPT;
+    for (int i = 0; i < SPARES && may_be_kept; i++)
+        if (context->spares[i].capacity < given.capacity) {
             struct buffer smaller = context->spares[i];
             context->spares[i] = given;
             given = smaller;
