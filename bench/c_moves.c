@@ -1,7 +1,8 @@
 /* Measures the movement of pictures in the C library. c_moves prints a table row for each size and
    format, with the least times in microseconds of a copy to and from the library, of a map for
    reading, of a map for writing, and of memcpy. A last line has the quickest 1080p frame through
-   the six nodes of edges.c with maps, the times of its steps, and the run of the graph alone. */
+   the six nodes of edges.c with maps, and the times of its steps; the same frame with copies; and
+   the run of the graph alone. */
 #define _POSIX_C_SOURCE 200809L
 #include <VX/vx.h>
 #include <stdio.h>
@@ -29,19 +30,19 @@ static void expect(vx_status status) {
 
 static size_t bytes_of(void) { return (size_t)move.width * move.height * (size_t)move.size; }
 
-static void copy(void *samples, vx_enum usage) {
+static void copy(vx_image image, void *samples, vx_enum usage) {
     const vx_rectangle_t whole = {0, 0, move.width, move.height};
     vx_imagepatch_addressing_t addr = VX_IMAGEPATCH_ADDR_INIT;
     addr.dim_x = move.width;
     addr.dim_y = move.height;
     addr.stride_x = move.size;
     addr.stride_y = (vx_int32)move.width * move.size;
-    expect(vxCopyImagePatch(move.image, &whole, 0, &addr, samples, usage, VX_MEMORY_TYPE_HOST));
+    expect(vxCopyImagePatch(image, &whole, 0, &addr, samples, usage, VX_MEMORY_TYPE_HOST));
 }
 
-static void copy_in(void) { copy(move.samples, VX_WRITE_ONLY); }
+static void copy_in(void) { copy(move.image, move.samples, VX_WRITE_ONLY); }
 
-static void copy_out(void) { copy(move.copied, VX_READ_ONLY); }
+static void copy_out(void) { copy(move.image, move.copied, VX_READ_ONLY); }
 
 static void *begin_map(vx_image image, vx_enum usage, vx_map_id *id) {
     const vx_rectangle_t whole = {0, 0, move.width, move.height};
@@ -142,6 +143,12 @@ static void run_frame(double times[STEPS + 1]) {
     times[4] = now();
 }
 
+static void run_frame_by_copies(void) {
+    copy_in();
+    run();
+    copy(edges, move.copied, VX_READ_ONLY);
+}
+
 static void measure_frames(int count) {
     double least[STEPS + 1] = {[STEPS] = 1e9}, times[STEPS + 1];
     for (int i = 0; i < count; i++) {
@@ -152,7 +159,8 @@ static void measure_frames(int count) {
     printf("\na frame by maps %.0f", least[STEPS] - least[0]);
     for (int i = 0; i < STEPS; i++)
         printf("%s %s %.0f", i == 0 ? ":" : ",", step_names[i], least[i + 1] - least[i]);
-    printf("; a run alone %.0f\n", least_time(run, count));
+    printf("; by copies %.0f; a run alone %.0f\n", least_time(run_frame_by_copies, count),
+           least_time(run, count));
 }
 
 static void replicate(vx_node node) {
