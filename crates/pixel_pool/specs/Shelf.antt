@@ -32,12 +32,13 @@ module _ {T : Type 0} where
   abbrev pub IsTopOf : ℕ → ℕ → Free T → Type 0
   IsTopOf class len block = (block.class ≡ class) × (block.under.len + 1 ≡ len)
 
-  -- the key of a stack that isn't empty is that of its top block
+  -- if the stack isn't empty, its key is that of a block of the class, on top of a stack of its
+  -- height
   abbrev pub IsStack : Slab (Free T) → ℕ → Stack → Type 0
   IsStack free class stack = 0 < stack.len → IsSomeAnd (get free stack.top) (IsTopOf class stack.len)
 
-  -- a block's memory has at least its class's capacity, and the block is linked to the rest of the
-  -- stack of its class
+  -- a block's memory has at least its class's capacity, and the block is linked to the part of its
+  -- class's stack below it
   pub record IsStacked (stacks : List Stack) (free : Slab (Free T)) (block : Free T) : Type 0 where
     pub room : class_capacity block.class ≤ vec_capacity block.samples
     pub room_known : block.room ≡ class_capacity block.class

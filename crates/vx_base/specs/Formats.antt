@@ -59,8 +59,8 @@ takes_formats Accumulate U8 None (Some S16) = true
 takes_formats AccumulateSquare U8 None (Some S16) = true
 takes_formats function a second output = false
 
--- the format that an output image gets if its own is open, from the format of the node's first input; it has no meaning for a
--- function that writes no image
+-- the format that an output image gets if its own format is open, chosen by the format of the
+-- node's first input; unused for a function that writes no image
 abbrev pub open_format : Function → Format → Format
 open_format Add first = S16
 open_format Subtract first = S16

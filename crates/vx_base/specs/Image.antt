@@ -14,7 +14,7 @@ run x n f = map f (range_with_len x n)
 abbrev pub band : ℕ → ℕ → ℕ → (ℕ → ℕ → ℤ) → List ℤ
 band width start count f = flat_map (λ y. run 0 width (λ x. f x y)) (range_with_len start count)
 
--- f at all pixels of a width and height, in row-major order: the band of all rows
+-- the values of f at all pixels of an image of this width and height, in row-major order
 abbrev pub table : ℕ → ℕ → (ℕ → ℕ → ℤ) → List ℤ
 table width height f = band width 0 height f
 

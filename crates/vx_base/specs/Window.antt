@@ -131,8 +131,8 @@ convolution_result c format f x y = clamp format (int_div (matrix_product c f x 
 
 -- ---- images
 
--- the output's valid rectangle for windows of these radii: under Undefined the pixels whose whole window is valid, otherwise that of
--- the input
+-- the output's valid rectangle for windows of these radii: under Undefined the pixels whose whole
+-- window is valid, otherwise the input's valid rectangle
 abbrev pub window_valid : Border → ℕ → ℕ → Rectangle → Rectangle
 window_valid Undefined rx ry valid = shrink_of valid rx ry
 window_valid (Constant value) rx ry valid = valid

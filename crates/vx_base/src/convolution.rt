@@ -36,7 +36,7 @@ impl Model for Convolution {
         (c.rows * c.columns)) };
 }
 
-/// Whether a matrix can have this number of columns or rows.
+/// Checks whether a matrix can have this number of columns or rows.
 fn is_odd_side(side: u8) -> bool
     ensures { result ≡ is_odd_side side }
 {

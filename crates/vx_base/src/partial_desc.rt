@@ -116,7 +116,7 @@ impl PartialDesc {
     }
 }
 
-/// Whether a width or height is open or permitted.
+/// Checks whether a width or height is open or permitted.
 fn may_be_side(side: Option<u16>) -> bool
     ensures { result ≡ may_be_side side }
 {

@@ -30,8 +30,8 @@ impl ObjRef {
     ghost use Rattle.vx_base.specs.Reference.{IsReference};
     ghost use Rattle.vx_base.specs.Node.{is_nothing};
 
-    /// Returns the reference to the object of this name, or to one of its slots. A slot is below
-    /// 255.
+    /// Returns the reference to the object of this name, or to a slot of the delay of this name. A
+    /// slot is below 255.
     pub fn new(name: u32, slot: Option<u8>) -> ObjRef
         requires { ForSome slot (λ k. k < 255) }
         ensures { result ≡ record { name = name; slot = slot } }

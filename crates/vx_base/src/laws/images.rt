@@ -9,7 +9,7 @@ ghost use Rattle.vx_base.specs.Image.{ImageValue, IsImage, band, table, pixel_at
 ghost use Rattle.vx_base.specs.Image.{new_image};
 ghost use Rattle.vx_base.specs.Picture.{PictureValue, IsPicture, picture_of, picture_image};
 
-/// A table of samples has one for each pixel.
+/// A table of samples has one sample for each pixel.
 pub fn table_size()
     ensures { (width height : ℕ) (f : ℕ → ℕ → ℤ) → length (table width height f) ≡ height * width }
 {}
@@ -24,8 +24,8 @@ pub fn bands()
         ≡ band width start above f ++ band width (start + above) below f }
 {}
 
-/// An image made from a function has its values in the valid rectangle and 0 elsewhere. It is
-/// well-formed if its sides are permitted and the function's values are samples of the format.
+/// An image made from a function has the function's values in the valid rectangle and 0 elsewhere.
+/// The image is well-formed if its sides are permitted and the values are samples of its format.
 pub fn formula_samples()
     ensures image { (width height : ℕ) (format : Format) (valid : Rectangle) (f : ℕ → ℕ → ℤ) →
         IsTrue (is_side width) → IsTrue (is_side height) → IsCanonical valid →
