@@ -39,8 +39,8 @@ pub fn border_value(border: Border, edge: u8) -> u8
     }
 }
 
-/// The valid row that a window reads in row `y`: row `y` itself, or the border's. `None` if the
-/// border takes no row of the image.
+/// Returns the valid row that a window reads for row `y`: row `y` itself if it is valid, else the
+/// border's row. `None` if the border takes no row of the image.
 fn row_seen(valid: Rect, border: Border, y: i32) -> Option<u16>
     requires { valid.y0 < valid.y1 }
     ensures value { result ≡ row_seen valid border y }
@@ -136,7 +136,7 @@ pub fn load_row<T: Loaded>(
 
 /// Returns what a window reads in row `y` of a U8 image at `count` valid columns from column `x`
 /// on: the image's own samples without a copy, or `off_rows` if the border takes no row of the
-/// image. Each sample of `off_rows` is the border's.
+/// image. Each sample of `off_rows` has the border's value.
 pub fn row_in_place<'a>(
     image: &'a Image<'_>,
     x: u16,
@@ -161,7 +161,7 @@ pub fn row_in_place<'a>(
     }
 }
 
-/// The sample to the left of a valid column of a valid row, border included.
+/// Returns the sample to the left of a valid column of a valid row, border included.
 fn left_of(image: &Image<'_>, x: u16, line: u16, border: Border) -> u8
     requires format { image.now.format ≡ U8 }
     requires line { line < image.now.valid.y1 }
@@ -175,7 +175,7 @@ fn left_of(image: &Image<'_>, x: u16, line: u16, border: Border) -> u8
     row[usize::from(x) - 1]
 }
 
-/// The sample to the right of a valid column of a valid row, border included.
+/// Returns the sample to the right of a valid column of a valid row, border included.
 fn right_of(image: &Image<'_>, x: u16, line: u16, border: Border) -> u8
     requires format { image.now.format ≡ U8 }
     requires line { line < image.now.valid.y1 }
@@ -189,8 +189,8 @@ fn right_of(image: &Image<'_>, x: u16, line: u16, border: Border) -> u8
     row[usize::from(x) + 1]
 }
 
-/// Returns what a window reads in row `y` of a U8 image at the column to the left of a valid one,
-/// at that column, and at the column to its right.
+/// Returns the three samples that a window reads in row `y` of a U8 image: to the left of the valid
+/// column `x`, at column `x`, and to the right of it.
 pub fn seen_around(image: &Image<'_>, x: u16, y: i32, border: Border) -> (u8, u8, u8)
     requires format { image.now.format ≡ U8 }
     requires rows { image.now.valid.y0 < image.now.valid.y1 }
