@@ -49,7 +49,7 @@ impl Change {
 pub trait OfColumn<A: Item, T: Item> {
     ghost formula: { ℤ → ℤ → ℤ → ℤ };
 
-    /// The numbers that it accepts.
+    /// The numbers that the kernel accepts.
     ghost takes: { ℤ → Type 0 };
 
     /// Returns the result for three items.

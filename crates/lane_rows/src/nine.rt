@@ -70,7 +70,7 @@ impl<'a> Nine<'a> {
     }
 }
 
-/// A kernel's results for nine rows.
+/// A kernel's results for each window of nine rows.
 #[derive(Drop)]
 struct NineAt<'a, 'b, K> {
     kernel: &'a K,

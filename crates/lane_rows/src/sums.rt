@@ -15,7 +15,7 @@ use crate::shorts::{narrowed, short_differences, short_sums};
 use std::simd::prelude::*;
 use vx_base::{Policy, narrow_s16};
 
-/// The sum, narrowed by the policy.
+/// The sum of two items, narrowed by the policy.
 #[derive(Drop)]
 pub struct Sum<P>(pub P);
 
@@ -42,7 +42,7 @@ impl<P: Overflow> Arithmetic for Sum<P> {
     }
 }
 
-/// The first minus the second, narrowed by the policy.
+/// The first item minus the second, narrowed by the policy.
 #[derive(Drop)]
 pub struct Difference<P>(pub P);
 
