@@ -1,4 +1,4 @@
-//! Samples that are added to those of the output.
+//! Functions that add an image's samples to the output's earlier samples.
 ghost use Rattle.std.specs.Prelude.{◌≡◌, ◌≤◌, None};
 ghost use Rattle.vx_base.specs.declared.format.Format.TheVariants.{U8, S16};
 ghost use Rattle.vx_base.specs.declared.function.Function.TheVariants.{Accumulate};
@@ -74,9 +74,9 @@ pub fn accumulate(image: &Image<'_>, sums: &mut ImageMut<'_>)
     add_to_sums(&Accumulated, image, sums);
 }
 
-/// Adds the squares of a U8 image's samples over 2^amount, rounded down, to the samples of an S16
-/// image where both are valid (OpenVX 1.3, "Accumulate Squared"). Sums above 32,767 become 32,767.
-/// In the contract `old` is any image that has the earlier sums in the band's rows.
+/// Adds the squares of a U8 image's samples, divided by 2^amount and rounded down, to the samples
+/// of an S16 image where both are valid (OpenVX 1.3, "Accumulate Squared"). Sums above 32,767
+/// become 32,767. In the contract `old` is any image that has the earlier sums in the band's rows.
 pub fn accumulate_square(image: &Image<'_>, sums: &mut ImageMut<'_>, amount: u8)
     requires fits { Fits AccumulateSquare image.now None sums.old }
     requires room { IsWithin (target_image sums.old).valid (target_image sums.old).width
