@@ -3,17 +3,17 @@
 //! A *plane* is an image while a graph runs. For a client's image, its block of samples holds all
 //! rows; for a virtual image, only those that a band needs. A *step* is a node whose operands are
 //! planes, given by their indices. A *reduction* adds the rows of a plane to a histogram or to
-//! extremes. A *program* is the steps and reductions of a graph in an order in which they can run.
-//! It runs all of them on the first band, then all of them on the next band. A run over whole
-//! images is a run of one band.
+//! extremes. A *program* is the list of these *tasks*, the steps and reductions of a graph, in an
+//! order in which they can run. All tasks run on the first band, then all tasks on the next band. A
+//! run over whole images is a run of one band.
 //!
-//! To write a row, a step reads the input rows within its *radius* above and below. Therefore the
-//! rows written of an intermediate plane are the band and a *halo*. `find_halos` finds the halo of
-//! each plane, from the last task back to the first.
+//! To write a row, a step reads the input rows within its *radius* above and below that row.
+//! Therefore a step writes more rows of an intermediate plane than the band: a *halo* above and
+//! below it. `find_halos` finds the halo of each plane, from the last task back to the first.
 //!
 //! A row of an integral image is computed from the row above it, which is in the output's block. So
-//! its radius is 0. Its output is a whole image without a halo, unless the program runs in one
-//! band.
+//! the radius of an integral image is 0. The output is a whole image without a halo, unless the
+//! program runs in one band.
 //!
 //! - `step`: steps and reductions
 //! - `plane`: planes
