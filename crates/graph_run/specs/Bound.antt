@@ -27,13 +27,14 @@ is_lent other = false
 abbrev pub IsLent : Kind → Type 0
 IsLent k = is_lent k ≡ true
 
--- the second inputs of the nodes that aren't images can be read as tables
+-- each second input of a node that isn't an image can be read as a table
 abbrev pub LendTables : List NamedObject → List Node → Type 0
 LendTables objects nodes = All (λ n. IfSome (node_table objects n) (λ object. IsLent (object_kind object))) nodes
 
 -- ---- tallies
 
--- the node's output can take its tally, by the kind of the output
+-- the reference, a node's output of this kind, names an object that can take the node's tally;
+-- nothing is required of images
 abbrev pub KeepsTally : List NamedObject → Kind → Reference → Type 0
 KeepsTally objects kind.Image cell = ⊤
 KeepsTally objects kind.Distribution cell = HoldsKind objects (cell, kind.Distribution)

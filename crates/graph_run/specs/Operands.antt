@@ -39,7 +39,8 @@ pub record CellsStand (is : Reference → Operand) (nodes : List Node) (objects 
 abbrev pub operand_held : List NamedObject → Reference → Operand
 operand_held objects cell = unwrap_or (option_map operand_of (object_at objects cell)) Missing
 
--- the graph is verified and can run: nothing refuses it, and each reference names an object of the kind that the function has there
+-- the graph is verified and can run: its verdict is None, and each reference names an object of the
+-- kind that the node's function expects there
 pub record IsReady (objects : List NamedObject) (nodes : List Node) (v : Verified) : Type 0 where
   pub verified : IsVerified (operand_held objects) nodes v
   pub runs : (work : ℕ) × (verdict work (operand_held objects) nodes ≡ None)

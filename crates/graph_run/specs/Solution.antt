@@ -24,8 +24,9 @@ WritesNo k nodes objects = (cell : Reference) → is_written nodes cell ≡ true
 abbrev pub ReadImages : List Node → List NamedObject → Type 0
 ReadImages nodes objects = All (λ n. kind_in objects n.in1 ≡ Some kind.Image) nodes
 
--- the part of an object that no node changes: the format of an image, all of a graph, and the skeleton of other objects; a delay's images
--- are in its slots
+-- the part of an object that no node changes: the format of an image, all of a graph, and the
+-- skeleton of other objects; nothing of a delay, since the images in its slots have their own
+-- references
 abbrev pub form_of : ObjectValue → ObjectValue
 form_of (ImageObject image) = ImageObject (new_image 0 0 image.format)
 form_of (DelayObject images) = DelayObject []
