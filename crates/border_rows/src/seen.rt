@@ -134,9 +134,9 @@ pub fn load_row<T: Loaded>(
     }
 }
 
-/// Returns what a window reads in row `y` of a U8 image at `count` valid columns from column `x`
-/// on: the image's own samples without a copy, or `off_rows` if the border takes no row of the
-/// image. Each sample of `off_rows` has the border's value.
+/// Returns the samples that a window reads in row `y` of a U8 image, at `count` valid columns from
+/// column `x` on. They are the image's own samples, without a copy, or part of `off_rows` if the
+/// border takes no row of the image. Each sample of `off_rows` has the border's value.
 pub fn row_in_place<'a>(
     image: &'a Image<'_>,
     x: u16,
@@ -189,8 +189,8 @@ fn right_of(image: &Image<'_>, x: u16, line: u16, border: Border) -> u8
     row[usize::from(x) + 1]
 }
 
-/// Returns the three samples that a window reads in row `y` of a U8 image: to the left of the valid
-/// column `x`, at column `x`, and to the right of it.
+/// Returns three samples that a window reads in row `y` of a U8 image: at the columns `x - 1`, `x`
+/// and `x + 1`. Column `x` is valid.
 pub fn seen_around(image: &Image<'_>, x: u16, y: i32, border: Border) -> (u8, u8, u8)
     requires format { image.now.format ≡ U8 }
     requires rows { image.now.valid.y0 < image.now.valid.y1 }

@@ -1,4 +1,4 @@
--- The objects that a run reads as tables, and those that it writes as tallies.
+-- The objects that a run reads as tables, and the objects that it writes as tallies.
 use Rattle.std.specs.Prelude.{◌≡◌, ⊤, Bool, true, false, List, [], ◌∷◌, length, All, IfSome, unwrap_or}
 use Rattle.vx_base.specs.declared.kind.Kind.{Kind}
 use Rattle.vx_base.specs.declared.kind.Kind.TheVariants as kind

@@ -68,7 +68,8 @@ AreNear objects high radius nodes = (n : Node) → In n nodes → Covers (node_r
 abbrev pub client_cells : List Node → List VirtualOutput → List Reference
 client_cells steps outs = drop (length outs) (graph_cells steps outs)
 
--- the planes of a graph: first those of its virtual images, then those of the clients' images
+-- the planes of a graph: first the planes of its virtual images, then the planes of the clients'
+-- images
 abbrev pub planes_of : List NamedObject → List Node → List VirtualOutput → List PlaneValue → List PlaneValue
 planes_of objects steps outs virtuals = virtuals ++ image_planes objects (client_cells steps outs)
 
@@ -99,8 +100,8 @@ tallies_of objects nodes = flat_map (node_tallies objects) nodes
 
 -- ---- programs
 
--- a step that reads its output writes each row once, to a block of all rows: its output has no halo and takes no block, or there is one
--- band
+-- a step that reads its output writes each row once, to a block of all rows: either its output has
+-- no halo and takes no block, or there is only one band
 abbrev pub AddOnce : ℕ → ℕ → List ℕ → List Task → Type 0
 AddOnce high size halos tasks =
     (s : Step) → IsStepOf s tasks → reads_output s.node.function ≡ true → ((halo halos s.output ≡ 0) × (s.takes ≡ None)) ⊎ (high ≤ size)

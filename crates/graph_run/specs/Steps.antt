@@ -1,4 +1,4 @@
--- Single nodes: the objects that they read, and those that they write.
+-- Single nodes: the objects that they read, and the objects that they write.
 use Rattle.std.specs.Prelude.{ℕ, ◌≡◌, ◌≢◌, IsTrue, is_some, List, Option, Some, None, IfSome}
 use Rattle.std.specs.Option.{option_map, option_and_then}
 use Rattle.vx_base.specs.declared.kind.Kind.TheVariants as kind

@@ -35,8 +35,9 @@ abbrev pub last_in : ℕ → List ℕ → Option ℕ
 last_in slot [] = None
 last_in slot (s ∷ slots) = option_or (option_map suc (last_in slot slots)) (if s == slot then Some 0 else None)
 
--- the image that has a slot's block after `count` images are written: the last written image in the
--- slot, or if there is none the slot's last image, which still has the block from the previous band
+-- the image that has a slot's block after `count` images of a band are written: the last of them in
+-- the slot. If none of them is in the slot, the slot's last image still has the block, from the
+-- band before
 abbrev pub holder : List ℕ → ℕ → ℕ → Option ℕ
 holder slots slot count = option_or (last_in slot (take count slots)) (last_in slot slots)
 
@@ -57,8 +58,8 @@ block_at slots rooms count at =
     let room = rooms (slice_index_or slots at 0) in
     (room.0, (if is_at at (holder slots (slice_index_or slots at 0) count) then room.1 else 0))
 
--- the blocks of all planes after `count` virtual images are written: first those of virtual images,
--- then those of clients' images
+-- the blocks of all planes after `count` virtual images are written: first the blocks of virtual
+-- images, then the blocks of clients' images
 abbrev pub blocks_at : List ℕ → (ℕ → Format × ℕ) → List (Format × ℕ) → ℕ → List (Format × ℕ)
 blocks_at slots rooms clients count = map (block_at slots rooms count) (range_with_len 0 (length slots)) ++ clients
 
@@ -112,8 +113,8 @@ tasks_of cells slots radius nodes = tasks_from cells slots radius 0 0 nodes
 
 -- ---- blocks that tasks take
 
--- the tasks write the virtual images in order, from image k on, and each takes its block from the slot's previous holder;
--- steps that write clients' images take no block
+-- the tasks write the virtual images in order, from image k on. Each of these images takes its
+-- block from the slot's previous holder; a step that writes a client's image takes no block
 abbrev pub TakeTurns : List ℕ → ℕ → List Task → Type 0
 TakeTurns slots k [] = k ≡ length slots
 TakeTurns slots k (Reduce r ∷ later) = TakeTurns slots k later

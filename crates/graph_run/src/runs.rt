@@ -302,7 +302,7 @@ fn give(
     set_tallies(table, &schedule.tally_cells, tallies);
 }
 
-/// Moves the clients' images back to the table. Their planes come after those of the virtual
+/// Moves the clients' images back to the table. Their planes come after the planes of the virtual
 /// images.
 fn put_behind(table: &mut Table, virtuals: usize, cells: &[ObjRef], planes: &mut [Plane])
     requires cells { virtuals ≤ length cells.now }

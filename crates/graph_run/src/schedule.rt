@@ -20,8 +20,8 @@ use object_table::Table;
 use std::alloc::{AllocError, Global};
 use vx_base::{Format, ObjRef};
 
-/// The data that each run of a verified graph needs. They are computed once, and hold until the
-/// graph's nodes change.
+/// The data that each run of a verified graph needs. A schedule is computed once, and stays right
+/// until the graph's nodes change.
 #[derive(Drop)]
 pub struct Schedule {
     /// References to the images of the planes: first the virtual images, then the clients'.
@@ -80,7 +80,8 @@ pub fn schedule_of(
     })
 }
 
-/// Returns the references to the clients' images, which come after those of the virtual images.
+/// Returns the references to the clients' images, which come after the references to the virtual
+/// images.
 pub fn clients_of(cells: &[ObjRef], virtuals: usize) -> &[ObjRef]
     requires { virtuals ≤ length cells.now }
     ensures { result.now ≡ drop virtuals cells.now }

@@ -21,7 +21,7 @@ use vx_base::{Node, Numbered, ObjRef};
 /// input of each node is an image.
 ///
 /// `work` is the quota of the virtual images that the graph writes, in bytes. An error means that
-/// there is no memory, or that the graph can't run; it then has the verdict.
+/// there is no memory, or that the graph can't run; the error then holds the verdict.
 pub fn verify_in(
     alloc: Global,
     table: &Table,

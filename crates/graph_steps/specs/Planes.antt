@@ -10,8 +10,8 @@ use Rattle.vx_base.specs.Image.{ImageValue, IsImage, image_over, band, pixel_at}
 use Rattle.image_core.specs.declared.band.Band.{Band}
 use Rattle.image_core.specs.Bands.{IsInRows, all_rows, image_over_rows}
 
--- a plane: the whole image's description and valid rectangle, a block of samples of `format` that begins with image row `top`, and the
--- rows that a step may read
+-- a plane: the whole image's description and valid rectangle, the rows that a step may read, and a
+-- block of samples. The block has samples of `format`, and begins with row `top` of the image
 pub record PlaneValue : Type 0 where
   pub desc : Description
   pub valid : Rectangle

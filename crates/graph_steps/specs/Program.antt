@@ -81,8 +81,8 @@ after_tasks tables halos rows (t ∷ later) planes = after_tasks tables halos ro
 abbrev pub KeepsBlock : ℕ → List Task → ℕ → Type 0
 KeepsBlock count tasks c = (c < count) × ((s : Step) → IsStepOf s tasks → (t : ℕ) → s.takes ≡ Some t → (t ≢ c) × (s.output ≢ c))
 
--- the plane's present rows are still needed: a task reads them before a step writes new rows, or no
--- step writes the plane and `kept` holds of it
+-- the plane's present rows are still needed: a task reads them before a step writes the plane, or
+-- no step writes the plane and the plane is in `kept`
 abbrev pub IsLive : (ℕ → Type 0) → List Task → ℕ → Type 0
 IsLive kept [] c = kept c
 IsLive kept (Write s ∷ later) c = ReadsPlane s c ⊎ ((c ≢ s.output) × IsLive kept later c)
@@ -115,7 +115,8 @@ blocks_after_tasks (Reduce r ∷ later) blocks = blocks_after_tasks later blocks
 
 -- ---- programs
 
--- a step's indices are those of planes; its inputs are neither its output nor the plane whose block it takes
+-- a step's indices are indices of planes; its inputs are neither its output nor the plane whose
+-- block it takes
 pub record NamesPlanes (count : ℕ) (s : Step) : Type 0 where
   pub output : s.output < count
   pub reads : (c : ℕ) → ReadsPlane s c → (c < count) × (c ≢ s.output) × (s.takes ≢ Some c)
@@ -151,8 +152,8 @@ pub record IsProgram (tables : ℕ → Option ObjectValue) (high size : ℕ) (ha
   pub again : blocks_after_tasks tasks (capacities planes) ≡ capacities planes
 
 -- the images `after` solve the steps' equations. Each output is the image that its step computes
--- from the images `after` and, if the step accumulates, from the output's image `before`; all other
--- images are unchanged
+-- from them and, if the step accumulates, from the output's image in `before`. All other images are
+-- unchanged
 pub record SolvesSteps (tables : ℕ → Option ObjectValue) (count : ℕ) (tasks : List Task) (before after : ℕ → ImageValue) : Type 0 where
   pub images : (c : ℕ) → c < count → IsImage (after c)
   pub written : (s : Step) → IsStepOf s tasks → after s.output ≡ step_image tables s after (before s.output)

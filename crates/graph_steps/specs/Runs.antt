@@ -1,4 +1,4 @@
--- Premises of a band.
+-- Premises of running a program's tasks on one band.
 use Rattle.std.specs.Prelude.{ℕ, ◌+◌, ◌<◌, ◌^◌, ◌≡◌, ◌≢◌, List, length, Some, None, Option}
 use Rattle.vx_base.specs.Object.{ObjectValue}
 use Rattle.image_core.specs.declared.band.Band.{Band}

@@ -1,11 +1,11 @@
 //! Graphs as steps over planes, run one band of rows after another.
 //!
 //! A *plane* is an image while a graph runs. For a client's image, its block of samples holds all
-//! rows; for a virtual image, only those that a band needs. A *step* is a node whose operands are
-//! planes, given by their indices. A *reduction* adds the rows of a plane to a histogram or to
-//! extremes. A *program* is the list of these *tasks*, the steps and reductions of a graph, in an
-//! order in which they can run. All tasks run on the first band, then all tasks on the next band. A
-//! run over whole images is a run of one band.
+//! rows; for a virtual image, only the rows that a band needs. A *step* is a node whose operands
+//! are planes, given by their indices. A *reduction* adds the rows of a plane to a histogram or to
+//! extremes. A *program* is a list of *tasks*: the steps and reductions of a graph, in an order in
+//! which they can run. All tasks run on the first band, then all tasks on the next band. A run over
+//! whole images is a run of one band.
 //!
 //! To write a row, a step reads the input rows within its *radius* above and below that row.
 //! Therefore a step writes more rows of an intermediate plane than the band: a *halo* above and

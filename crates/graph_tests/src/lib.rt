@@ -1,6 +1,6 @@
-//! Tests of the public functions on a client's objects and graphs: the faults of a table, the slots
-//! that virtual images need, and graphs that run in a table. `tools/check_program` tests all other
-//! cases on the program.
+//! Tests of the public functions on a client's objects and graphs. They cover the faults of a
+//! table, the slots that virtual images need, and graphs that run in a table. `tools/check_program`
+//! tests all other cases on the program.
 //!
 //! - `holdings`: a table and its pool, for these tests
 //! - `tables`: the names and the charge of a table, and objects that are set

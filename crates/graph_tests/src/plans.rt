@@ -1,6 +1,6 @@
-//! Plans of slots for the virtual images of graphs. Names below 10 are U8 images of 2 by 2 samples,
-//! names from 10 to 19 are U8 images of 3 by 3 samples, and greater names are virtual images with
-//! everything open.
+//! Plans of slots for the virtual images of graphs. The names stand for objects: below 10 for U8
+//! images of 2 by 2 samples, from 10 to 19 for U8 images of 3 by 3 samples. Greater names stand for
+//! virtual images with everything open.
 ghost use Rattle.std.specs.Prelude.{IsTrue};
 ghost use Rattle.graph_verify.specs.Operand.{is_image};
 

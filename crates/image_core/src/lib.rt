@@ -2,7 +2,7 @@
 //! they write.
 //!
 //! - An `Image` borrows the samples of an input image, or of a `Band` of its rows. Its samples are
-//!   those of an image value, 0 outside the valid rectangle and outside the band.
+//!   0 outside the valid rectangle, and outside the band.
 //! - An `ImageMut` borrows the samples of an output image, or of a band of its rows. A kernel that
 //!   writes a whole image to it writes only the band's rows, so every kernel can also compute
 //!   bands.

@@ -151,8 +151,8 @@ fn matrix_of_five_by_three(rt: HostRuntime) -> Result<(), Fail> {
     Ok(())
 }
 
-/// Returns the convolution of an image that is 255 everywhere with a 9x9 matrix of the least
-/// coefficient, as U8 and as S16, and the valid rectangle of the S16 image.
+/// Returns the convolution of an image that is 255 everywhere, as U8 and as S16, and the valid
+/// rectangle of the S16 image. Each coefficient of the 9x9 matrix is the least possible.
 fn greatest_sum(exponent: u8) -> Option<([u8; 81], [i16; 81], Rect)> {
     let desc = Desc::new(9, 9, Format::U8)?;
     let mut samples = [255; 81];

@@ -1,5 +1,5 @@
-//! Kernels of windows: kernels of nine rows in lane_rows at lengths around that of a block, and
-//! functions of whole images, of widths around that of a block, under each border.
+//! Kernels of windows. Kernels of nine rows in lane_rows are tested at lengths around that of a
+//! block; functions of whole images at such widths, under each border.
 ghost use Rattle.std.specs.Prelude.{◌≡◌, ◌<◌, ◌≤◌, length};
 ghost use Rattle.vx_base.specs.declared.format.Format.TheVariants.{U8, S16};
 ghost use Rattle.lane_rows.specs.Windows.{window_count};

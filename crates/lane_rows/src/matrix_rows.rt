@@ -51,8 +51,8 @@ fn row_of(items: &[i16], line: u16, l: u8) -> &[i16]
 impl MatrixRows<'_> {
     ghost use Rattle.lane_rows.specs.MatrixRows.{matrix_sum};
 
-    /// Returns the sums at the 32 indices from `place` on: first those at an even distance from
-    /// `place`, then those at an odd distance.
+    /// Returns the sums at the 32 indices from `place` on: first the sums at an even distance from
+    /// `place`, then the sums at an odd distance.
     fn sum_rows(&self, place: usize) -> (i32x16, i32x16)
         requires { place + 2 * self.now.pairs + 31 ≤ self.now.line }
         ensures even { result.0 ≡ run 0 16 (λ i. matrix_sum self.now (place + 2 * i)) }

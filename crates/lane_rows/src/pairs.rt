@@ -77,7 +77,7 @@ fn sixteen_places(row: &[i16], place: usize, table: &[i16], at: usize) -> i32x16
 }
 
 /// Adds the sums of one matrix row to the sums at the 32 indices from `place` on. Returns the new
-/// sums: those at an even distance from `place`, and those at an odd distance.
+/// sums at an even distance from `place`, and the new sums at an odd distance.
 pub fn add_row(
     row: &[i16],
     place: usize,

@@ -11,7 +11,7 @@ use Rattle.pgm_images.specs.declared.header.Encoding.TheVariants.{Plain, Raw}
 use Rattle.pgm_images.specs.declared.header.Header.{Header}
 use Rattle.pgm_images.specs.Marks.{BeginsWith, then_take, is_space, take_next}
 
--- the fields of a header; the numbers are those of the text, however great
+-- the fields of a header, with the numbers that the text has, however great
 pub record HeaderValue : Type 0 where
   pub encoding : Encoding
   pub width : ℕ

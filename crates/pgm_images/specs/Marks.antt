@@ -79,9 +79,9 @@ abbrev pub begins_space : List ℕ → Bool
 begins_space [] = false
 begins_space (b ∷ text) = is_space b
 
--- The code examined the front of the text. Either no number begins there, and `bytes` is 0, or the
--- text begins with one whitespace byte and a number up to the maxval, which have `bytes` bytes
--- together.
+-- The code examined the front of the text, which begins with whitespace or a digit. If `bytes`
+-- isn't 0, the text begins with one whitespace byte and a number up to the maxval, which have
+-- `bytes` bytes together. If `bytes` is 0, the text doesn't begin with whitespace and a digit.
 pub record FindsNumber (maxval number bytes : ℕ) (text : List ℕ) : Type 0 where
   pub few : bytes ≤ length text
   pub is : 0 < bytes → TakesNumber (take_next text) number (drop bytes text)
@@ -99,8 +99,8 @@ FindNumbers maxval count numbers bytes text = (place : ℕ) → place < count �
 abbrev pub AreBegins : (begins : ℕ) (bytes : List ℕ) → Type 0
 AreBegins begins bytes = (place : ℕ) → place < 64 → bit_at begins place ≡ (if nat_lt 0 (slice_index bytes place) then 1 else 0)
 
--- The code examined the first 64 positions of a text and marked those where a number begins. The
--- first position isn't inside a number.
+-- The code examined the first 64 positions of a text and marked the positions where a number
+-- begins. The first position isn't inside a number.
 pub record IsBlock (maxval : ℕ) (numbers bytes : List ℕ) (begins : ℕ) (text : List ℕ) : Type 0 where
   pub told : FindNumbers maxval 64 numbers bytes text
   pub marked : AreBegins begins bytes

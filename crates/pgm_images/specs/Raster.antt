@@ -59,7 +59,7 @@ pub record HoldsNumbers (maxval : ℕ) (high : Bool) (written : List ℤ) (numbe
   pub above : high ≡ not (all_up_to maxval numbers)
   pub samples : high ≡ false → written ≡ map pos numbers
 
--- the numbers `done`, followed by the other numbers, if these could be read
+-- the numbers `done`, followed by the numbers of `o`; None if `o` is None
 abbrev pub prepend : List ℕ → Option (List ℕ) → Option (List ℕ)
 prepend done o = option_map (λ others. done ++ others) o
 
@@ -68,7 +68,7 @@ prepend done o = option_map (λ others. done ++ others) o
 abbrev pub LeftToFill : (take : List ℕ → BeginsWith ℕ) (is_end : List ℕ → Bool) (maxval : ℕ) (above : Bool) (samples : List ℤ) (left : ℕ) (rest : List ℕ) (whole : Option (List ℕ)) → Type 0
 LeftToFill take is_end maxval above samples left rest whole = (numbers : List ℕ) × HoldsNumbers maxval above samples numbers × (whole ≡ prepend numbers (take_count take is_end left rest))
 
--- the first `index` samples hold the first numbers of a plain text; the others are to be read from
--- `rest`
+-- the first `index` samples hold the first numbers of a plain text; the remaining numbers are to be
+-- read from `rest`
 abbrev pub PlainUpTo : {T : Type 0} (value : T → ℤ) (maxval index : ℕ) (above : Bool) (samples : List T) (rest : List ℕ) (whole : Option (List ℕ)) → Type 0
 PlainUpTo value maxval index above samples rest whole = LeftToFill take_next ends maxval above (map value (take index samples)) (length samples - index) rest whole

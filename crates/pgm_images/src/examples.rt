@@ -52,9 +52,9 @@ pub fn plain()
         }) }
 {}
 
-/// Texts without a header: a magic number alone, a magic number without a gap after it, a comment
-/// that doesn't end, a maxval of P5 without the one whitespace byte after it, and a byte that isn't
-/// whitespace in PGM.
+/// Texts without a header. They have a magic number alone, a magic number without a gap after it,
+/// or a comment that doesn't end. Or they lack the whitespace byte after the maxval of P5, or have
+/// a byte that isn't whitespace in PGM.
 pub fn headers()
     ensures empty { read_result [] ≡ Err InvalidFormat }
     ensures magic { read_result (codes "P5") ≡ Err InvalidFormat }

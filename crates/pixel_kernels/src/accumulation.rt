@@ -61,8 +61,8 @@ fn add_to_sums<K: OfSum<u8, i16>>(kernel: &K, image: &Image<'_>, sums: &mut Imag
     sums.update::<i16, _>(&update);
 }
 
-/// Adds the samples of a U8 image to those of an S16 image where both are valid (OpenVX 1.3,
-/// "Accumulate"); sums above 32,767 become 32,767. In the contract `old` is any image that has the
+/// Adds the samples of a U8 image to the samples of an S16 image where both are valid (OpenVX 1.3,
+/// "Accumulate"). Sums above 32,767 become 32,767. In the contract `old` is any image that has the
 /// earlier sums in the band's rows.
 pub fn accumulate(image: &Image<'_>, sums: &mut ImageMut<'_>)
     requires fits { Fits Accumulate image.now None sums.old }

@@ -35,7 +35,7 @@ struct Free<T> {
 
 /// The blocks of one format: the number of lent blocks, and the free blocks in a slab, with one
 /// stack for each class. `room` is the total capacity of the free blocks in samples, where each
-/// counts with its class's capacity.
+/// block counts with its class's capacity.
 #[derive(Drop)]
 pub struct Shelf<T> {
     alloc: Global,

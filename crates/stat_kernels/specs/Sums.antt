@@ -1,4 +1,4 @@
--- Sums of the samples to the left and above. OpenVX 1.3, "Integral Image".
+-- Sums of the samples to the left of a pixel and above it. OpenVX 1.3, "Integral Image".
 use Rattle.std.specs.Prelude.{ℕ, ℤ, pos, ◌≡◌, ◌+◌, ◌-◌, ◌%◌, ◌^◌, ◌<◌, ◌≤◌, ◌==◌, if◌then◌else◌, max, nat_le, unsigned_abs, Option, Some, None, List, length, map, slice_index, drop}
 use Rattle.std.specs.List.{sum_by}
 use Rattle.vx_base.specs.Rectangle.{Rectangle, has_pixel}

@@ -62,8 +62,8 @@ pub fn min_max(image: &Image<'_>) -> Extremes
     extremes_of(found_in(image, Band::whole(image.desc())))
 }
 
-/// Merges the extremes of a band into those of the rows above it. The band is `down` rows lower in
-/// the whole image than in `image`.
+/// Merges the extremes of a band into the extremes of the rows above it. The band is `down` rows
+/// lower in the whole image than in `image`.
 pub fn add_min_max(image: &Image<'_>, rows: Band, down: u16, above: Extremes) -> Extremes
     requires format { image.now.format ≢ U32 }
     requires rows { IsInRows image.now.height rows }

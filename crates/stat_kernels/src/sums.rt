@@ -25,7 +25,7 @@ const LONGEST_ROW: usize = GREATEST_SIDE as usize;
 static ZEROS: [u32; LONGEST_ROW] = [0; LONGEST_ROW];
 
 /// Adds the valid rows above row `y` to the sums. On entry `sums` holds the sums above the first
-/// valid row, on return those above row `y`.
+/// valid row, on return the sums above row `y`.
 fn add_lines(image: &Image<'_>, part: Part, y: u16, sums: &mut [u32])
     requires format { image.now.format ≡ U8 }
     requires part { IsValidPart image.now part }

@@ -42,8 +42,8 @@ image_over d valid samples = record { width = d.width; height = d.height; format
 abbrev pub pixel_at : ImageValue → ℕ → ℕ → ℤ
 pixel_at image x y = slice_index_or image.samples (y * image.width + x) (pos 0)
 
--- an image of allowed size, whose valid rectangle is canonical and within the image, with a sample of its format for each
--- pixel; the samples outside the valid rectangle are 0
+-- an image of permitted size, with a sample of its format for each pixel. The valid rectangle is
+-- canonical and within the image, and the samples outside it are 0.
 pub record IsImage (image : ImageValue) : Type 0 where
   pub sides : IsDescription (description_of image)
   pub size : length image.samples ≡ image.height * image.width

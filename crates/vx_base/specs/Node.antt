@@ -34,8 +34,8 @@ is_wrap Saturate = false
 abbrev pub has_amount : Parameters → Policy → ℕ → Bool
 has_amount p policy amount = (p.policy || is_wrap policy) && nat_le amount (unwrap_or p.greatest_amount 0)
 
--- whether the operands suit the function: a second input exactly if the function takes one; one or
--- both outputs if the function has two, else the first output alone
+-- whether the operands suit the function: a second input is given exactly if the function takes
+-- one. Of two outputs one or both are given; a function with one output has the first alone.
 abbrev pub has_operands : Parameters → Node → Bool
 has_operands p n =
     (if is_some p.second_input then is_some n.in2 else is_none n.in2)

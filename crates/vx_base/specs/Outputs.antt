@@ -36,8 +36,9 @@ node_image n output format a (Some other) = from_one format (λ _. pos 0) a
 abbrev pub second_or_output : Node → Option ObjectValue → ObjectValue → Option ObjectValue
 second_or_output n second old = if accumulates n.function then Some old else second
 
--- an output's new value, computed from the inputs and the output's earlier value. An accumulating function reads that value's samples;
--- the others use only its kind, format and bins.
+-- an output's new value, computed from the inputs and the output's earlier value. An accumulating
+-- function reads that value's samples; the other functions use only that value's kind, format and
+-- bins.
 abbrev pub node_output : Node → Output → ObjectValue → Option ObjectValue → ObjectValue → ObjectValue
 node_output n output (ImageObject a) second (ImageObject old) = ImageObject (node_image n output old.format a (second_or_output n second (ImageObject old)))
 node_output n output (ImageObject a) second (DistributionObject d) = DistributionObject (record { bins = d.bins; counts = histogram d.bins a })

@@ -25,8 +25,9 @@ holds r x y = (int_le (pos r.x0) x && int_lt x (pos r.x1)) && (int_le (pos r.y0)
 abbrev pub clamp_coordinate : ℕ → ℕ → ℤ → ℕ
 clamp_coordinate low high v = unsigned_abs (int_max (pos low) (int_min v (pos high -ℤ pos 1)))
 
--- the sample of a pixel outside the valid rectangle: 0 under Undefined, where no result uses it; the constant; or under Replicate
--- the nearest valid sample, with each coordinate clamped to the rectangle on its own
+-- the sample of a pixel outside the valid rectangle. Under Undefined it is 0, which no valid result
+-- uses; under Constant, the constant; under Replicate, the nearest valid sample, with each
+-- coordinate clamped to the rectangle.
 abbrev pub border_sample : ImageValue → Border → ℤ → ℤ → ℤ
 border_sample image Undefined x y = pos 0
 border_sample image (Constant value) x y = pos value

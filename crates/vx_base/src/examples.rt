@@ -268,7 +268,7 @@ pub fn and_of_halves()
         } }
 {}
 
-/// A code, and nodes of Bitwise Not: a proper one, one without an output, and one with a policy
+/// A code, and three sets of fields of Bitwise Not: of a node, without an output, and with a policy
 /// that the function doesn't take.
 pub fn nodes()
     ensures number { code_number InvalidFormat ≡ 5 }

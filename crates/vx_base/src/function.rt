@@ -66,15 +66,15 @@ pub enum Function {
 /// A function's parameters, other than the border and the first input, which is always an image.
 #[derive(Clone, Copy, PartialEq, Eq, Debug)]
 pub struct Parameters {
-    /// The kind of its second input, if it has one.
+    /// The kind of the second input, if the function has one.
     pub second_input: Option<Kind>,
-    /// Whether it takes an overflow policy.
+    /// Whether the function takes an overflow policy.
     pub policy: bool,
-    /// The greatest amount, if it takes one; the least is 0.
+    /// The greatest amount, if the function takes an amount; the least is 0.
     pub greatest_amount: Option<u8>,
-    /// The kind of its outputs.
+    /// The kind of the outputs.
     pub output: Kind,
-    /// Whether it has two outputs, either of which may be left out.
+    /// Whether the function has two outputs, either of which need not be given.
     pub output_pair: bool,
 }
 
@@ -208,10 +208,10 @@ impl Function {
         matches!(self, Function::Accumulate | Function::AccumulateSquare)
     }
 
-    /// Checks whether the function takes these formats: of its first input, its second input and
-    /// its output. A second input's format is that of the image, of the table's entries, of the
-    /// samples that the threshold tests or of the coefficients. `None` is an operand that is absent
-    /// or has no format.
+    /// Checks whether the function takes these formats of its first input, its second input and its
+    /// output. For a second input that isn't an image, the format is that of the table's entries,
+    /// the samples that the threshold tests, or the coefficients. `None` is an operand that is
+    /// absent or has no format.
     pub fn takes_formats(
         self,
         first: Format,
@@ -293,9 +293,8 @@ impl Function {
 impl Function {
     ghost use Rattle.vx_base.specs.Formats.{open_format};
 
-    /// Returns the format that an output image gets if its own format is open. It depends on the
-    /// format of the node's first input. The result has no meaning for a function that writes no
-    /// image.
+    /// Returns the format that an output image gets if its own format is open, given the format of
+    /// the node's first input. The result has no meaning for a function that writes no image.
     pub fn open_format(self, first: Format) -> Format
         ensures { result ≡ open_format self first }
     {

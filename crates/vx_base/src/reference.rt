@@ -4,8 +4,8 @@ ghost use Rattle.std.specs.Option.{ForSome};
 
 use std::marker::Model;
 
-/// A reference to the object with this name in the client's context, or to slot k of the delay with
-/// this name: the image k places behind the newest.
+/// A reference to the object with this name in the client's context, or to a slot of the delay with
+/// this name. Slot 0 has the newest image, slot 1 the image before it, and so on.
 #[derive(Clone, Copy, PartialEq, Eq, Debug)]
 pub struct ObjRef {
     name: u32,

@@ -14,8 +14,8 @@ pub enum ThresholdKind {
     Range(i16, i16),
 }
 
-/// A threshold for U8 or S16 samples: the comparison, and the output for samples that pass and for
-/// those that don't (OpenVX 1.3, `vx_threshold`).
+/// A threshold for U8 or S16 samples: the comparison, the output for samples that pass, and the
+/// output for samples that don't (OpenVX 1.3, `vx_threshold`).
 #[derive(Clone, Copy, PartialEq, Eq, Debug)]
 pub struct ThresholdRule {
     format: Format,

@@ -233,7 +233,7 @@ fn write_convolved<T: Convolved>(
 
 /// `with_rows!(width, rows => call)` makes the call with `rows`, scratch memory on the stack: nine
 /// rows of a piece, halo included, for an image of this width. The memory is zeroed once; a narrow
-/// image gets less of it.
+/// image gets less memory.
 macro_rules! with_rows {
     ($width:expr, $rows:ident => $call:expr) => {
         if $width <= 64 {

@@ -79,7 +79,7 @@ pub fn rotated_matrix()
     ensures { from_matrix U8 upper_left Undefined three_by_three ≡ at_centre U8 (pos 9) }
 {}
 
-/// A matrix with -3 at its centre on an image of one sample, 1: -3 / 2 is rounded toward zero and
+/// A matrix with -3 at its centre, on an image of one sample, 1. -3 / 2 is rounded toward zero and
 /// clamped to each format, and -3 / 2^31 is 0.
 pub fn scaled_sums()
     ensures to_zero { (from_matrix S16 (minus_three 1) Replicate single).samples ≡ negsuc 0 ∷ [] }

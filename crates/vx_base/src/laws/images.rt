@@ -55,7 +55,7 @@ pub fn pixels_decide_image()
         ((x y : ℕ) → x < a.width → y < a.height → pixel_at a x y ≡ pixel_at b x y) → a ≡ b }
 {}
 
-/// An image equals the one made from its own samples.
+/// An image equals the image made from its samples.
 pub fn image_of_own_samples()
     ensures { (a : ImageValue) → IsImage a →
         image_from a.width a.height a.format a.valid (pixel_at a) ≡ a }
