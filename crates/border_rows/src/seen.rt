@@ -81,7 +81,8 @@ fn load_between<T: Loaded>(left: u8, before: usize, samples: &[u8], right: u8, o
     set_all(back, T::loaded(right));
 }
 
-/// Writes what a window reads along a valid row, as `load_row` does.
+/// Writes the samples that a window reads along the valid row `line`, from column `start - radius`
+/// on.
 fn load_line<T: Loaded>(
     image: &Image<'_>,
     start: u16,
@@ -112,8 +113,8 @@ fn load_line<T: Loaded>(
     load_between(left, before, samples, right, out);
 }
 
-/// Writes what a window reads in row `y` of a U8 image, from column `start - radius` on. The image
-/// has a valid pixel.
+/// Writes the samples that a window reads in row `y` of a U8 image, from column `start - radius`
+/// on. The image has a valid pixel.
 pub fn load_row<T: Loaded>(
     image: &Image<'_>,
     start: u16,

@@ -27,14 +27,14 @@ is_lent other = false
 abbrev pub IsLent : Kind → Type 0
 IsLent k = is_lent k ≡ true
 
--- each second input of a node that isn't an image can be read as a table
+-- the second input of each node can be read as a table, unless it is an image
 abbrev pub LendTables : List NamedObject → List Node → Type 0
 LendTables objects nodes = All (λ n. IfSome (node_table objects n) (λ object. IsLent (object_kind object))) nodes
 
 -- ---- tallies
 
--- the reference, a node's output of this kind, names an object that can take the node's tally;
--- nothing is required of images
+-- an output of this kind can take its tally: its reference names a distribution or extremes.
+-- Nothing is required of an image
 abbrev pub KeepsTally : List NamedObject → Kind → Reference → Type 0
 KeepsTally objects kind.Image cell = ⊤
 KeepsTally objects kind.Distribution cell = HoldsKind objects (cell, kind.Distribution)

@@ -94,7 +94,7 @@ tally_by other object = tally.Extremes no_extremes ∷ []
 abbrev pub node_tallies : List NamedObject → Node → List Tally
 node_tallies objects n = tally_by (parameters n.function).output (cell_object objects (unwrap_or n.out1 n.in1))
 
--- the empty tallies of nodes, in their order
+-- the empty tallies of nodes, in the order of the nodes
 abbrev pub tallies_of : List NamedObject → List Node → List Tally
 tallies_of objects nodes = flat_map (node_tallies objects) nodes
 

@@ -25,8 +25,8 @@ abbrev pub ReadImages : List Node → List NamedObject → Type 0
 ReadImages nodes objects = All (λ n. kind_in objects n.in1 ≡ Some kind.Image) nodes
 
 -- the part of an object that no node changes: the format of an image, all of a graph, nothing of a
--- delay, and the skeleton of any other object. The images in a delay's slots have references of
--- their own, and so have forms
+-- delay, and the skeleton of any other object. The images in a delay's slots have references and
+-- forms of their own
 abbrev pub form_of : ObjectValue → ObjectValue
 form_of (ImageObject image) = ImageObject (new_image 0 0 image.format)
 form_of (DelayObject images) = DelayObject []

@@ -24,7 +24,7 @@ use vx_base::{Format, ObjRef};
 /// until the graph's nodes change.
 #[derive(Drop)]
 pub struct Schedule {
-    /// References to the images of the planes: first the virtual images, then the clients'.
+    /// References to the images of the planes: first the virtual images, then the clients' images.
     pub(crate) cells: Vec<ObjRef>,
     /// The slots of the virtual images, as indices among all slots.
     pub(crate) slots: Vec<usize>,

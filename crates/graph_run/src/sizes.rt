@@ -39,10 +39,11 @@ const GREATEST_ROWS: u32 = 64;
 /// The least number of bands. With fewer bands, a graph gains nothing.
 const LEAST_BANDS: u16 = 4;
 
-/// Wanted rows of a band for each row of its halo; halo rows are computed twice.
+/// The wanted number of rows of a band for each row of its halo; halo rows are computed twice.
 const ROWS_FOR_HALO_ROW: u32 = 16;
 
-/// Least rows of a band for each row of its halo. With fewer rows, bands cost more than they gain.
+/// The least number of rows of a band for each row of its halo. With fewer rows, bands cost more
+/// than they gain.
 const LEAST_FOR_HALO_ROW: u16 = 4;
 
 // ---- heights

@@ -64,7 +64,7 @@ lent_step n which = record { node = n; which = which; first = 0; second = Nothin
 
 -- ---- integral images
 
--- whether the function is the integral image
+-- whether the function computes an integral image
 abbrev pub is_integral : Function → Bool
 is_integral Integral = true
 is_integral other = false
@@ -111,7 +111,7 @@ Covers None radius high = high ≤ radius
 abbrev pub blank_image : Description → ImageValue
 blank_image d = image_over d empty_rectangle []
 
--- the plane of the second input, or index 0 if it isn't a plane
+-- the plane of the second input, or index 0 if the second input isn't a plane
 abbrev pub second_plane : SecondSource → ℕ
 second_plane (Plane c) = c
 second_plane other = 0
@@ -176,7 +176,7 @@ capacities planes = map (λ p. (p.format, length p.samples)) planes
 abbrev pub capacity : List (Format × ℕ) → ℕ → Format × ℕ
 capacity blocks c = slice_index_or blocks c (U8, 0)
 
--- the formats and sizes of all blocks after plane c has taken a plane's block, if it takes one
+-- the formats and sizes of all blocks after plane c has taken over a block, if it takes one
 abbrev pub blocks_with_move : Option ℕ → ℕ → List (Format × ℕ) → List (Format × ℕ)
 blocks_with_move None c blocks = blocks
 blocks_with_move (Some t) c blocks = slice_set (slice_set blocks t ((capacity blocks t).0, 0)) c (capacity blocks t)

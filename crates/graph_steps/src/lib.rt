@@ -8,8 +8,9 @@
 //! whole images is a run of one band.
 //!
 //! To write a row, a step reads the input rows within its *radius* above and below that row.
-//! Therefore a step writes more rows of an intermediate plane than the band: a *halo* above and
-//! below it. `find_halos` finds the halo of each plane, from the last task back to the first.
+//! Therefore the rows that a step writes of an intermediate plane are the band and a *halo* above
+//! and below the band. `find_halos` finds the halo of each plane, from the last task back to the
+//! first.
 //!
 //! A row of an integral image is computed from the row above it, which is in the output's block. So
 //! the radius of an integral image is 0. The output is a whole image without a halo, unless the

@@ -104,8 +104,8 @@ impl Plane {
         self.valid = Rect::empty();
     }
 
-    /// Moves the plane's block to a new plane and returns this plane. It can be written while the
-    /// list of planes is read; the plane that stays in the list has no samples.
+    /// Returns a copy of the plane that has its block, so that this copy can be written while the
+    /// list of planes is read. The plane in the list then has no samples.
     pub fn take_out(&mut self) -> Plane
         ensures { result ≡ self.old }
     {

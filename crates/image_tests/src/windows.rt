@@ -259,7 +259,8 @@ fn samples() -> [u8; SAMPLES] {
     samples
 }
 
-/// Writes the function of the case's image, and returns the valid rectangle of the result.
+/// Writes the function's result for the case's image, and returns the valid rectangle of the
+/// result.
 fn bytes_of(case: &Case, function: Function, to: &mut [u8]) -> Option<Rect> {
     let desc = Desc::new(case.width, case.height, Format::U8)?;
     let valid = Rect::new(case.first, 0, case.width, case.height)?;

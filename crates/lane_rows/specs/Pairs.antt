@@ -46,7 +46,8 @@ second_of_pair table j = slice_index_or table (16 * j + 1) (pos 0)
 abbrev pub IsPairTable : ℕ → List ℤ → Type 0
 IsPairTable n table = (j : ℕ) → j < n → chunk (16 * j) 16 table ≡ alternation 8 (first_of_pair table j) (second_of_pair table j)
 
--- the sum of n pairs of coefficients at an index of a row, each pair two samples to the right of the one before
+-- the sum of n pairs of coefficients times the samples of a row, from index p on; each pair is two
+-- samples to the right of the pair before
 abbrev pub row_sum : List ℤ → List ℤ → ℕ → ℕ → ℤ
 row_sum row table n p = sum_of_first n (λ j. pair_at row (first_of_pair table j) (second_of_pair table j) (p + 2 * j))
 

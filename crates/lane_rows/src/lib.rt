@@ -18,7 +18,7 @@
 //!   item occurs, and its first index
 //! - `tallies`: a histogram of the bytes of a row
 //! - `running`: running sums of a row, added to the sums of the row above
-//! - `indexed`: rows that are written in blocks of 32 items; the last block may overlap the one
+//! - `indexed`: rows that are written in blocks of 32 items; the last block may overlap the block
 //!   before
 //! - `nine_rows`, `nine`: windows of 3 x 3 samples as nine rows, and kernels of such windows
 //! - `ranks`, `gradients`: the kernels of 3 x 3 windows, and minima and maxima of three rows

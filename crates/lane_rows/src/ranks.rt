@@ -264,8 +264,8 @@ pub fn max9(nine: &Nine<'_>, out: &mut [u8])
     write_nine(&Greatest, nine, out);
 }
 
-/// Writes the median of each window: a sample with at most four smaller and at most four greater
-/// ones.
+/// Writes the median of each window: at most four samples are smaller, and at most four are
+/// greater.
 pub fn median9(nine: &Nine<'_>, out: &mut [u8])
     requires { window_count nine.now ≡ length out.old }
     ensures { map pos out.new ≡ run 0 (length out.old) (λ i. median (nine_at nine.now i)) }

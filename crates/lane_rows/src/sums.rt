@@ -80,7 +80,7 @@ pub fn add_u8(first: &[u8], second: &[u8], policy: Policy, out: &mut [u8])
     })
 }
 
-/// Writes the sums of the items, each U8 or S16, narrowed by the policy.
+/// Writes the sums of the items, narrowed by the policy. Each row is U8 or S16.
 pub fn add_s16<A: Short, B: Short>(first: &[A], second: &[B], policy: Policy, out: &mut [i16])
     requires first_len { length first.now ≡ length out.old }
     requires second_len { length second.now ≡ length out.old }

@@ -4,7 +4,7 @@ use Rattle.std.specs.Option.{option_and_then}
 use Rattle.std.specs.Char.{is_ascii_digit}
 use Rattle.std.specs.Int.{bit_at}
 
--- a token's value and the text after it, or none where the text doesn't begin with such a token
+-- a token's value and the text after the token, or None if the text doesn't begin with such a token
 abbrev pub BeginsWith : Type 0 → Type 0
 BeginsWith A = Option (A × List ℕ)
 
@@ -95,7 +95,7 @@ pub record FindsNumber (maxval number bytes : ℕ) (text : List ℕ) : Type 0 wh
 abbrev pub FindNumbers : (maxval count : ℕ) (numbers bytes text : List ℕ) → Type 0
 FindNumbers maxval count numbers bytes text = (place : ℕ) → place < count → FindsNumber maxval (slice_index numbers place) (slice_index bytes place) (drop place text)
 
--- bit k of `begins` is set where a number begins at position k, for 64 positions
+-- for each of 64 positions k, bit k of `begins` is 1 exactly if a number begins at position k
 abbrev pub AreBegins : (begins : ℕ) (bytes : List ℕ) → Type 0
 AreBegins begins bytes = (place : ℕ) → place < 64 → bit_at begins place ≡ (if nat_lt 0 (slice_index bytes place) then 1 else 0)
 

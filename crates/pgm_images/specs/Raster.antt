@@ -42,8 +42,8 @@ numbers_in Raw maxval count text = take_count (take_raw maxval) nothing_left cou
 abbrev pub all_up_to : ℕ → List ℕ → Bool
 all_up_to maxval numbers = list_all (λ n. nat_le n maxval) numbers
 
--- the numbers as samples; InvalidValue if one is above the maxval, InvalidFormat if the text didn't
--- give the numbers
+-- the numbers as samples; InvalidValue if one is above the maxval, InvalidFormat if there are no
+-- numbers to convert
 abbrev pub samples_up_to : ℕ → Option (List ℕ) → Result (List ℤ) PgmFault
 samples_up_to maxval None = Err InvalidFormat
 samples_up_to maxval (Some numbers) = if all_up_to maxval numbers then Ok (map pos numbers) else Err InvalidValue
@@ -53,8 +53,8 @@ pub record Reads {A : Type 0} (told : Result (List ℤ) PgmFault) (samples : Lis
   pub ok : OnOk result (told ≡ Ok samples)
   pub err : IfErr result (λ fault. told ≡ Err fault)
 
--- `written` are these numbers of a text as samples, unless a number is above the maxval, which
--- `high` says.
+-- `high` says whether one of these numbers is above the maxval. If none is, `written` are the
+-- numbers as samples.
 pub record HoldsNumbers (maxval : ℕ) (high : Bool) (written : List ℤ) (numbers : List ℕ) : Type 0 where
   pub above : high ≡ not (all_up_to maxval numbers)
   pub samples : high ≡ false → written ≡ map pos numbers

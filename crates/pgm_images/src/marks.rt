@@ -99,8 +99,8 @@ fn with_digit(number: u8, digit: u8, is_digit: bool) -> u8
 
 /// Reads a whitespace byte and a number of one to three digits from five bytes. Returns the number,
 /// and the length of whitespace and number together in bytes, 0 if no number begins here. The third
-/// value says whether the five bytes need another look: they begin a longer number or a number
-/// above the maxval, or the first byte is neither whitespace nor a digit.
+/// value is true in all cases that this function can't read: a longer number or one above the
+/// maxval begins here, or the first byte is neither whitespace nor a digit.
 ///
 /// The processor can't predict the number of digits, so nothing here branches on it.
 #[inline(always)]

@@ -32,8 +32,8 @@ impl Model for WrittenHeader {
 }
 
 impl WrittenHeader {
-    /// Returns the header of a picture of U8 with these sides. It is built from its end, and
-    /// allocates nothing.
+    /// Returns the header of a U8 picture with these sides. The header is built from its end.
+    /// Allocates nothing.
     pub fn new(desc: Desc) -> WrittenHeader
         ensures { result ≡ written_header desc }
     {

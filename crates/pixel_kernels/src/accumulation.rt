@@ -41,7 +41,7 @@ impl<K: OfSum<u8, i16>> RowUpdate<i16> for Added<'_, '_, K> {
 }
 
 /// Updates sums with an image of the same size, where both are valid: `kernel` computes each new
-/// sum. The other sums become 0.
+/// sum. All other sums become 0.
 fn add_to_sums<K: OfSum<u8, i16>>(kernel: &K, image: &Image<'_>, sums: &mut ImageMut<'_>)
     requires target { IsTarget sums.old }
     requires size { HaveSameSize (target_image sums.old) image.now }

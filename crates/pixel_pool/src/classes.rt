@@ -17,8 +17,8 @@ pub fn step(class: usize) -> usize
     1 << (class / 8).saturating_sub(1)
 }
 
-/// Returns the class of a block with a capacity of `room` samples, and the class's capacity. It is
-/// the greatest class whose capacity isn't above `room`.
+/// Returns the class of a block with a capacity of `room` samples, and the class's capacity. The
+/// class is the greatest one whose capacity isn't above `room`.
 #[tactic(auto, using(crate::proofs::ClassLemmas::room_steps))]
 pub fn class_of(room: usize) -> (usize, usize)
     ensures class { IsClassOf room result.0 }

@@ -20,7 +20,8 @@ const SMALL_ROOM: usize = 1024;
 /// The greatest total capacity, in samples, of the free blocks that `trim` keeps.
 const KEPT_ROOM: u128 = 67_108_864;
 
-/// The greatest number of free blocks that `trim` keeps: as many as one client can leave.
+/// The greatest number of free blocks that `trim` keeps. One client can have as many images, in
+/// 1,024 delays of 16 images.
 const KEPT_BLOCKS: usize = 16_384;
 
 /// A free block: its memory, its class, the class's capacity, and the part of the class's stack

@@ -14,8 +14,7 @@ corner r x y = record { x0 = r.x0; y0 = r.y0; x1 = x; y1 = y }
 abbrev pub sum_before : ImageValue → ℕ → ℕ → ℕ
 sum_before image x y = sum_by unsigned_abs (samples_in (corner image.valid x y) image)
 
--- item k of the list is the sum of the valid samples above row y up to the valid column number k,
--- modulo 2^32
+-- item k of the list is the sum of the samples above row y in the valid columns 0 to k, modulo 2^32
 abbrev pub AreSums : ImageValue → ℕ → List ℕ → Type 0
 AreSums image y sums = (k : ℕ) → k < length sums → slice_index sums k ≡ sum_before image (image.valid.x0 + k + 1) y % 2 ^ 32
 

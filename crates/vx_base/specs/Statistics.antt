@@ -83,7 +83,7 @@ abbrev pub best_of : (ℤ → ℤ → ℤ) → List ℤ → ℤ
 best_of choose [] = pos 0
 best_of choose (z ∷ zs) = fold choose z zs
 
--- the number of these samples that are z
+-- the number of these samples that equal z
 abbrev pub count_of : ℤ → List ℤ → ℕ
 count_of z samples = count_by (λ s. int_eq s z) samples
 

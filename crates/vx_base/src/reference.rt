@@ -63,7 +63,7 @@ impl ObjRef {
         let _parts = (self.name, self.slot);
     }
 
-    /// Checks whether the reference is name 0 without a slot, which no operand may be.
+    /// Checks whether the reference is name 0 without a slot. No operand may be this reference.
     pub fn is_nothing(self) -> bool
         ensures { result ≡ is_nothing self }
     {

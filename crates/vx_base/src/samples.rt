@@ -41,7 +41,7 @@ impl Samples {
         }
     }
 
-    /// Overwrites the samples with others of the same format and number.
+    /// Overwrites the samples with the samples of `other`, which have the same format and number.
     pub fn copy_from(&mut self, other: &Samples)
         requires format { samples_format self.old ≡ samples_format other.now }
         requires len { length (values self.old) ≡ length (values other.now) }
@@ -124,7 +124,7 @@ fn prove_words(samples: &[u32])
 {}
 
 /// Proves that each item is an S16 sample. The prover learns the range of a signed number only
-/// where it is read, so an otherwise empty loop reads each one; the compiler removes it.
+/// where it is read, so an otherwise empty loop reads each one; the compiler removes the loop.
 pub fn prove_shorts(samples: &[i16])
     ensures { All (IsSample S16) samples.now }
 {

@@ -110,7 +110,7 @@ pub fn from_two_samples()
         pixel_at (from_two format f a b) x y ≡ f (pixel_at a x y) (pixel_at b x y) }
 {}
 
-/// An accumulating node's output is a well-formed image of its format.
+/// The output of an accumulating node is a well-formed image of the output's format.
 pub fn accumulated_images()
     ensures { (n : Node) (output : Output) (a old : ImageValue) → IsNode n →
         IsImage a → IsImage old → accumulates n.function ≡ true →

@@ -26,7 +26,7 @@ pub fn pixels_of_whole()
         ≡ (nat_lt x width && nat_lt y height) }
 {}
 
-/// The intersection of two rectangles has the pixels that are in both.
+/// The intersection of two rectangles has the pixels that are in both rectangles.
 pub fn pixels_of_meet()
     ensures { (r s : Rectangle) (x y : ℕ) →
         has_pixel (meet_of r s) x y ≡ (has_pixel r x y && has_pixel s x y) }
