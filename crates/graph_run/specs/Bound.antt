@@ -33,8 +33,8 @@ LendTables objects nodes = All (λ n. IfSome (node_table objects n) (λ object. 
 
 -- ---- tallies
 
--- an output of this kind can take its tally: its reference names a distribution or extremes.
--- Nothing is required of an image
+-- an output of this kind can take its tally: its reference names an object of this kind, a
+-- distribution or extremes. Nothing is required of an image.
 abbrev pub KeepsTally : List NamedObject → Kind → Reference → Type 0
 KeepsTally objects kind.Image cell = ⊤
 KeepsTally objects kind.Distribution cell = HoldsKind objects (cell, kind.Distribution)

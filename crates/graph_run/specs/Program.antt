@@ -49,8 +49,8 @@ tables_of objects nodes k = slice_index_or (map (node_table objects) nodes) k No
 
 -- ---- radii
 
--- a node's radius: the number of input rows that it reads above, and below, an output row; None if
--- it reads all rows
+-- a node's radius: the number of input rows that it reads above an output row, and as many below;
+-- None if it reads all rows
 abbrev pub node_radius : List NamedObject → Node → Option ℕ
 node_radius objects n = step_radius n.function (matrix_in (option_and_then (object_at objects) n.in2))
 

@@ -37,7 +37,7 @@ last_in slot (s ∷ slots) = option_or (option_map suc (last_in slot slots)) (if
 
 -- the image that has a slot's block after `count` images of a band are written: the last of them in
 -- the slot. If none of them is in the slot, the slot's last image still has the block, from the
--- band before
+-- band before.
 abbrev pub holder : List ℕ → ℕ → ℕ → Option ℕ
 holder slots slot count = option_or (last_in slot (take count slots)) (last_in slot slots)
 
@@ -114,7 +114,7 @@ tasks_of cells slots radius nodes = tasks_from cells slots radius 0 0 nodes
 -- ---- blocks that tasks take
 
 -- the tasks write the virtual images in order, from image k on. Each of these images takes its
--- block from the slot's previous holder; a step that writes a client's image takes no block
+-- block from the slot's previous holder; a step that writes a client's image takes no block.
 abbrev pub TakeTurns : List ℕ → ℕ → List Task → Type 0
 TakeTurns slots k [] = k ≡ length slots
 TakeTurns slots k (Reduce r ∷ later) = TakeTurns slots k later

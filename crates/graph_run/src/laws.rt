@@ -29,8 +29,8 @@ pub fn once_in_order()
         rounds_of_nodes nodes (length nodes) objects ≡ one_by_one steps objects }
 {}
 
-/// The result of the rounds solves the equations of the nodes, and is the only solution. The graph
-/// has no cycle, and no object has two writers.
+/// If a graph has no cycle, and no object has two writers, the result of the rounds is the only
+/// solution of the nodes' equations.
 pub fn rounds_solve()
     ensures solves { (nodes : List Node) (before : List NamedObject) → two_writers nodes ≡ false →
         has_cycle feeds nodes ≡ false →

@@ -147,8 +147,8 @@ fn source(cells: &[ObjRef], at: usize, node: &Node) -> SecondSource
 
 // ---- radii
 
-/// Returns a node's radius: the number of input rows that it reads above, and below, an output row.
-/// The radius is `high` if the node reads all rows.
+/// Returns a node's radius: the number of input rows that it reads above an output row, and as many
+/// below. The radius is `high` if the node reads all rows.
 pub fn radius_of(table: &Table, high: u16, node: &Node) -> u16
     ensures { result ≡ radius_of table.now.objects high node.now }
 {

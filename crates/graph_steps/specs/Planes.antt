@@ -11,7 +11,7 @@ use Rattle.image_core.specs.declared.band.Band.{Band}
 use Rattle.image_core.specs.Bands.{IsInRows, all_rows, image_over_rows}
 
 -- a plane: the whole image's description and valid rectangle, the rows that a step may read, and a
--- block of samples. The block has samples of `format`, and begins with row `top` of the image
+-- block of samples. The block has samples of `format`, and begins with row `top` of the image.
 pub record PlaneValue : Type 0 where
   pub desc : Description
   pub valid : Rectangle

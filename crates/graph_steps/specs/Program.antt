@@ -152,8 +152,8 @@ pub record IsProgram (tables : ℕ → Option ObjectValue) (high size : ℕ) (ha
   pub again : blocks_after_tasks tasks (capacities planes) ≡ capacities planes
 
 -- the images `after` solve the steps' equations. Each output is the image that its step computes
--- from them and, if the step accumulates, from the output's image in `before`. All other images are
--- unchanged
+-- from `after` and, if the step accumulates, from the output's image in `before`. All other images
+-- are unchanged.
 pub record SolvesSteps (tables : ℕ → Option ObjectValue) (count : ℕ) (tasks : List Task) (before after : ℕ → ImageValue) : Type 0 where
   pub images : (c : ℕ) → c < count → IsImage (after c)
   pub written : (s : Step) → IsStepOf s tasks → after s.output ≡ step_image tables s after (before s.output)

@@ -87,8 +87,8 @@ abbrev pub rows_image : (ℕ → Option ObjectValue) → Step → Band → (ℕ 
 rows_image tables s rows images out =
     if is_integral s.node.function then scan_image rows.start (images s.first) out else step_image tables s images (plane_image (with_read_rows rows out))
 
--- a step's radius: the number of input rows that it reads above, and below, an output row; None if
--- it reads all rows
+-- a step's radius: the number of input rows that it reads above an output row, and as many below;
+-- None if it reads all rows
 abbrev pub step_radius : Function → Option ConvolutionValue → Option ℕ
 step_radius function matrix = if is_integral function then Some 0 else window_radius function matrix
 

@@ -31,13 +31,13 @@ pub struct Step {
     /// The index of the plane whose block the output takes over; this may be the output's own
     /// plane. `None` if the output is a client's image, whose block has all rows.
     pub takes: Option<usize>,
-    /// The number of input rows that the step reads above, and below, an output row.
+    /// The number of input rows that the step reads above an output row, and as many below.
     pub radius: u16,
 }
 
-/// Returns the radius of a step: the number of input rows that it reads above, and below, an output
-/// row. `None` means all rows. An integral image has radius 0, since a row continues from the row
-/// above it.
+/// Returns the radius of a step: the number of input rows that it reads above an output row, and as
+/// many below. `None` means all rows. An integral image has radius 0, since a row continues from
+/// the row above it.
 pub fn step_radius(function: Function, matrix: Option<&Convolution>) -> Option<u16>
     ensures { result ≡ step_radius function (option_copied matrix.entry) }
 {

@@ -4,7 +4,7 @@ use Rattle.std.specs.Simd.Lanes.{chunk}
 
 -- the absolute value is at most the limit. The limit is 8355840 (255 * 32768) for a U8 sample times
 -- an S16 coefficient, and twice that for a pair of products. The sum of 45 pairs, as many as the
--- nine rows of a matrix can have, has the limit 752025600, which is below 2^31
+-- nine rows of a matrix can have, has the limit 752025600, which is below 2^31.
 abbrev pub IsNear : ℕ → ℤ → Type 0
 IsNear limit z = unsigned_abs z ≤ limit
 

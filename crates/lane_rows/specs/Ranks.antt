@@ -14,7 +14,7 @@ middle_of_three lo hi a b c = hi (lo a b) (lo (hi a b) c)
 
 -- the median of nine items, from the columns a d g, b e h and c f i. Each column has a least, a
 -- middle and a greatest item. The result is the median of the greatest of the least items, the
--- least of the greatest items and the middle of the middle items
+-- least of the greatest items and the middle of the middle items.
 abbrev pub middle_of_nine : {A : Type 0} → (A → A → A) → (A → A → A) → A → A → A → A → A → A → A → A → A → A
 middle_of_nine lo hi a b c d e f g h i =
     middle_of_three lo hi

@@ -10,8 +10,8 @@ abbrev pub matrix_in : Option ObjectValue → Option ConvolutionValue
 matrix_in (Some (ConvolutionObject matrix)) = Some matrix
 matrix_in other = None
 
--- a function's vertical radius: the number of rows of its first input that it reads above, and
--- below, the output row. Half the rows of a matrix, 1 for a 3x3 window, 0 for a pixel-wise
+-- a function's vertical radius: the number of rows of its first input that it reads above an output
+-- row, and as many below. Half the rows of a matrix, 1 for a 3x3 window, 0 for a pixel-wise
 -- function; None if the function reads all rows or writes no image. Of a second image or an
 -- accumulator only the output row is read.
 abbrev pub window_radius : Function → Option ConvolutionValue → Option ℕ

@@ -10,8 +10,8 @@ ghost use Rattle.vx_base.specs.Outputs.{node_image};
 ghost use Rattle.node_rows.specs.Radius.{matrix_in, window_radius};
 ghost use Rattle.node_rows.specs.Rows.{AreAlike, AgreeInRows, SecondsAgree};
 
-/// Images that agree in some rows agree in any subset of them. Two images that agree in all rows
-/// are equal.
+/// Images that agree in some rows agree in any subset of these rows. Two images that agree in all
+/// rows are equal.
 pub fn rows_of_images()
     ensures fewer { (above first last below : ℕ) (a b : ImageValue) → above ≤ first → last ≤ below →
         AgreeInRows above below a b → AgreeInRows first last a b }

@@ -46,7 +46,7 @@ module _ {T : Type 0} where
     pub linked : IsStack free block.class block.under
 
   -- a stack for each class, linked by the keys of top blocks. No two blocks of a class are at one
-  -- height, and the stacks together have as many blocks as the slab
+  -- height, and the stacks together have as many blocks as the slab.
   pub record AreStacks (stacks : List Stack) (free : Slab (Free T)) : Type 0 where
     pub all : length stacks ≡ class_count
     pub tops : (class : ℕ) → IsStack free class (stack_at stacks class)

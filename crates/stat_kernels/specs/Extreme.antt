@@ -23,7 +23,7 @@ extreme_among choose f ps =
     let zs = map (λ p. f p.0 p.1) ps in
     record { value = best_of choose zs; count = count_of (best_of choose zs) zs; at = first_of f (best_of choose zs) ps }
 
--- the least and the greatest of f over these pixels
+-- the least and the greatest value of f at these pixels
 abbrev pub found_in : (ℕ → ℕ → ℤ) → List (ℕ × ℕ) → Found
 found_in f ps = record { least = extreme_among int_min f ps; greatest = extreme_among int_max f ps }
 

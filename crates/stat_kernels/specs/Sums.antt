@@ -51,8 +51,8 @@ abbrev pub sum_between : ImageValue → ℕ → ℕ → ℕ → ℕ
 sum_between image start x y = sum_by unsigned_abs (samples_in (record { x0 = image.valid.x0; y0 = max image.valid.y0 start; x1 = x; y1 = y }) image)
 
 -- a sample of an integral image in a row from `start` on: the sum in the row above `start`, plus
--- the samples below that row. The sum in the row above counts only if row `start` isn't above the
--- valid rectangle
+-- the sum of the samples from row `start` on. The sum in the row above counts only if row `start`
+-- isn't above the valid rectangle.
 abbrev pub sum_on : ImageValue → ℕ → (ℕ → ℕ) → ℕ → ℕ → ℤ
 sum_on image start above x y = pos (((if nat_le image.valid.y0 start then above x else 0) + sum_between image start (x + 1) (y + 1)) % 2 ^ 32)
 

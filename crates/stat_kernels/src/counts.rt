@@ -13,7 +13,8 @@ use image_core::{Band, Image};
 use lane_rows::tally_row;
 use vx_base::{Bins, GREATEST_BINS};
 
-/// Counts the valid samples of a band of a U8 image by value.
+/// Counts the valid samples of a band of a U8 image by value. The counts are in four tables
+/// together.
 fn count_values(
     image: &Image<'_>,
     rows: Band,

@@ -29,8 +29,8 @@ abbrev pub is_wrap : Policy → Bool
 is_wrap Wrap = true
 is_wrap Saturate = false
 
--- whether policy and amount suit the function: Wrap if the function takes no policy, and 0 if it
--- takes no amount
+-- whether policy and amount suit the function: Wrap if the function takes no policy; an amount up
+-- to the function's greatest, or 0 if the function takes none
 abbrev pub has_amount : Parameters → Policy → ℕ → Bool
 has_amount p policy amount = (p.policy || is_wrap policy) && nat_le amount (unwrap_or p.greatest_amount 0)
 
@@ -51,7 +51,7 @@ node_spec n = if is_node n then Some n else None
 
 -- ---- a node's operands
 
--- a reference as a list, empty if it is not given
+-- a reference as a list; empty if the reference is not given
 abbrev pub optional_cells : Option Reference → List Reference
 optional_cells None = []
 optional_cells (Some cell) = cell ∷ []
@@ -68,7 +68,7 @@ outputs n = optional_cells n.out1 ++ optional_cells n.out2
 abbrev pub second_kind : Node → Kind
 second_kind n = unwrap_or (parameters n.function).second_input kind.Image
 
--- a reference with this kind as a list, empty if it is not given
+-- a reference with this kind, as a list; empty if the reference is not given
 abbrev pub with_kind : Kind → Option Reference → List (Reference × Kind)
 with_kind k None = []
 with_kind k (Some cell) = (cell, k) ∷ []
