@@ -41,7 +41,8 @@ pub struct Schedule {
     pub(crate) tally_cells: Vec<ObjRef>,
 }
 
-/// Returns the schedule of a verified graph, with the slots of a plan.
+/// Returns the schedule of a verified graph, with the slots of a plan. An error means that there is
+/// no memory for it.
 pub fn schedule_of(
     alloc: Global,
     table: &Table,

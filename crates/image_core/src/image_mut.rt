@@ -83,7 +83,7 @@ impl<'a> ImageMut<'a> {
         self.rows
     }
 
-    /// Sets the valid rectangle; the samples stay as they are.
+    /// Sets the valid rectangle, which lies within the image; the samples stay as they are.
     pub fn set_valid(&mut self, valid: Rect)
         requires target { IsTarget self.old }
         requires room { IsWithin valid (target_image self.old).width

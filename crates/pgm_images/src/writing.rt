@@ -69,7 +69,8 @@ fn put_before(bytes: &mut [u8], end: usize, part: &[u8]) -> usize
 }
 
 /// Returns the PGM text of a U8 image (Netpbm, pgm(5)): a raw text (P5) with maxval 255 and all
-/// samples, whether valid or not. `read` returns the same picture from it.
+/// samples, whether valid or not. `read` returns the same picture from it. An error means that
+/// there is no memory for the text.
 pub fn write(alloc: Global, image: &Image<'_>) -> Result<Vec<u8>, AllocError>
     requires { image.now.format ≡ FormatU8 }
     ensures { IfOk result (λ text. text.items ≡ pgm_text (picture_of image.now)) }

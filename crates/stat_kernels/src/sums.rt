@@ -128,7 +128,7 @@ fn write_integral_row(image: &Image<'_>, part: Part, y: u16, above: Option<&[u32
     }
 }
 
-/// Returns the last row in `before`, or `None` if `before` has no row.
+/// Returns the last row of `width` sums in `before`, or `None` if `before` is empty.
 pub fn row_above(before: &[u32], width: usize) -> Option<&[u32]>
     requires { length before.now ≡ 0 ⊎ width ≤ length before.now }
     ensures { option_copied result ≡ last_row width before.now }
