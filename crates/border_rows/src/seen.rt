@@ -39,8 +39,8 @@ pub fn border_value(border: Border, edge: u8) -> u8
     }
 }
 
-/// The valid row that a window reads in row `y`: row `y` itself, or the border's. `None` if the
-/// border takes no row of the image.
+/// Returns the valid row that a window reads for row `y`: row `y` itself if it is valid, else the
+/// border's row. `None` if the border takes no row of the image.
 fn row_seen(valid: Rect, border: Border, y: i32) -> Option<u16>
     requires { valid.y0 < valid.y1 }
     ensures value { result ≡ row_seen valid border y }
@@ -67,7 +67,7 @@ fn load_samples<T: Loaded>(samples: &[u8], out: &mut [T])
     }
 }
 
-/// Writes `left` `before` times, then the samples, then `right` up to the end.
+/// Writes `left` to the first `before` items, then the samples, then `right` to all later items.
 fn load_between<T: Loaded>(left: u8, before: usize, samples: &[u8], right: u8, out: &mut [T])
     requires { before + length samples.now ≤ length out.old }
     ensures { map T.value out.new ≡ replicate before (pos left)
@@ -81,7 +81,8 @@ fn load_between<T: Loaded>(left: u8, before: usize, samples: &[u8], right: u8, o
     set_all(back, T::loaded(right));
 }
 
-/// Writes what a window reads along a valid row, as `load_row` does.
+/// Writes the samples that a window reads along the valid row `line`, from column `start - radius`
+/// on.
 fn load_line<T: Loaded>(
     image: &Image<'_>,
     start: u16,
@@ -112,8 +113,8 @@ fn load_line<T: Loaded>(
     load_between(left, before, samples, right, out);
 }
 
-/// Writes what a window reads in row `y` of a U8 image, from column `start - radius` on. The image
-/// has a valid pixel.
+/// Writes the samples that a window reads in row `y` of a U8 image, from column `start - radius`
+/// on. The image has a valid pixel.
 pub fn load_row<T: Loaded>(
     image: &Image<'_>,
     start: u16,
@@ -134,9 +135,9 @@ pub fn load_row<T: Loaded>(
     }
 }
 
-/// Returns what a window reads in row `y` of a U8 image at `count` valid columns from column `x`
-/// on: the image's own samples without a copy, or `off_rows` if the border takes no row of the
-/// image. Each sample of `off_rows` is the border's.
+/// Returns the samples that a window reads in row `y` of a U8 image, at `count` valid columns from
+/// column `x` on. They are the image's own samples, without a copy, or part of `off_rows` if the
+/// border takes no row of the image. Each sample of `off_rows` has the border's value.
 pub fn row_in_place<'a>(
     image: &'a Image<'_>,
     x: u16,
@@ -161,7 +162,7 @@ pub fn row_in_place<'a>(
     }
 }
 
-/// The sample to the left of a valid column of a valid row, border included.
+/// Returns the sample to the left of a valid column of a valid row, border included.
 fn left_of(image: &Image<'_>, x: u16, line: u16, border: Border) -> u8
     requires format { image.now.format ≡ U8 }
     requires line { line < image.now.valid.y1 }
@@ -175,7 +176,7 @@ fn left_of(image: &Image<'_>, x: u16, line: u16, border: Border) -> u8
     row[usize::from(x) - 1]
 }
 
-/// The sample to the right of a valid column of a valid row, border included.
+/// Returns the sample to the right of a valid column of a valid row, border included.
 fn right_of(image: &Image<'_>, x: u16, line: u16, border: Border) -> u8
     requires format { image.now.format ≡ U8 }
     requires line { line < image.now.valid.y1 }
@@ -189,8 +190,8 @@ fn right_of(image: &Image<'_>, x: u16, line: u16, border: Border) -> u8
     row[usize::from(x) + 1]
 }
 
-/// Returns what a window reads in row `y` of a U8 image at the column to the left of a valid one,
-/// at that column, and at the column to its right.
+/// Returns three samples that a window reads in row `y` of a U8 image: at the columns `x - 1`, `x`
+/// and `x + 1`. Column `x` is valid.
 pub fn seen_around(image: &Image<'_>, x: u16, y: i32, border: Border) -> (u8, u8, u8)
     requires format { image.now.format ≡ U8 }
     requires rows { image.now.valid.y0 < image.now.valid.y1 }

@@ -9,7 +9,7 @@ ghost use Rattle.vx_base.specs.Pixelwise.{smaller, greater, not_bits};
 use std::simd::prelude::*;
 use vx_base::Policy;
 
-/// Returns the products divided by 2^amount, rounded down.
+/// Returns the product of each pair divided by 2^amount, rounded down.
 pub fn byte_products(a: u8x32, b: u8x32, amount: u8) -> u16x32
     requires { amount ≤ 15 }
     ensures { result ≡ zip2 (λ x y. x * y / 2 ^ amount) a b }
@@ -17,7 +17,7 @@ pub fn byte_products(a: u8x32, b: u8x32, amount: u8) -> u16x32
     (a.cast::<u16>() * b.cast::<u16>()) >> u16::from(amount)
 }
 
-/// Returns the nearest bytes.
+/// Returns the byte nearest to each number.
 fn clamped(numbers: u16x32) -> u8x32
     ensures { result ≡ map (λ n. min n 255) numbers }
 {
@@ -48,7 +48,7 @@ pub fn inverted_bytes(a: u8x32) -> u8x32
     !a
 }
 
-/// Returns the sums, narrowed by the policy.
+/// Returns the sum of each pair, narrowed by the policy.
 pub fn byte_sums(a: u8x32, b: u8x32, policy: Policy) -> u8x32
     ensures { map pos result ≡ zip2 (sum U8 policy) (map pos a) (map pos b) }
 {
@@ -68,7 +68,7 @@ pub fn byte_differences(a: u8x32, b: u8x32, policy: Policy) -> u8x32
     }
 }
 
-/// Returns the absolute differences.
+/// Returns the absolute difference of each pair.
 pub fn byte_distances(a: u8x32, b: u8x32) -> u8x32
     ensures { map pos result ≡ zip2 (absolute_difference U8) (map pos a) (map pos b) }
 {

@@ -16,8 +16,8 @@ pub fn bytes_above(row: u8x32, limit: u8, true_value: u8, false_value: u8) -> u8
         .select(u8x32::splat(true_value), u8x32::splat(false_value))
 }
 
-/// Returns `true_value` where a byte is between the limits or equal to one, and `false_value`
-/// elsewhere.
+/// Returns `true_value` where a byte is between the limits or equal to one of them, and
+/// `false_value` elsewhere.
 pub fn bytes_between(row: u8x32, lower: u8, upper: u8, true_value: u8, false_value: u8) -> u8x32
     ensures { map pos result
         ≡ map (threshold_choice (Range (pos lower) (pos upper)) true_value false_value)
@@ -41,8 +41,8 @@ pub fn shorts_above(row: i16x32, limit: i16, true_value: u8, false_value: u8) ->
         .select(u8x32::splat(true_value), u8x32::splat(false_value))
 }
 
-/// Returns `true_value` where a number is between the limits or equal to one, and `false_value`
-/// elsewhere.
+/// Returns `true_value` where a number is between the limits or equal to one of them, and
+/// `false_value` elsewhere.
 pub fn shorts_between(row: i16x32, lower: i16, upper: i16, true_value: u8, false_value: u8) -> u8x32
     requires len { length row ≡ 32 }
     requires fits { Each1 (FitsSigned w16) row }

@@ -62,7 +62,7 @@ impl<P: Overflow> LanesOfItem<i16, u8> for Narrowed<P> {
     }
 }
 
-/// Writes the same numbers as S16 samples.
+/// Writes the items as S16 samples of the same values.
 pub fn widen(row: &[u8], out: &mut [i16])
     requires { length row.now ≡ length out.old }
     ensures { out.new ≡ map pos row.now }

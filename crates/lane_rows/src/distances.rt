@@ -48,7 +48,7 @@ pub fn absdiff_u8(first: &[u8], second: &[u8], out: &mut [u8])
     zip_rows(&OfSamples(&Distance), first, second, out);
 }
 
-/// Writes the absolute differences of the items, each U8 or S16, at most 32,767.
+/// Writes the absolute differences of the items, at most 32,767. Each row is U8 or S16.
 pub fn absdiff_s16<A: Short, B: Short>(first: &[A], second: &[B], out: &mut [i16])
     requires first_len { length first.now ≡ length out.old }
     requires second_len { length second.now ≡ length out.old }

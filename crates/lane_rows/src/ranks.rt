@@ -19,7 +19,8 @@ use crate::stores::store_32_bytes;
 use std::marker::PhantomData;
 use std::simd::prelude::*;
 
-/// The choice of the smaller of two samples, or of the greater, and so of three and of nine.
+/// A choice between two samples, of the smaller or of the greater; three and nine samples are
+/// chosen from two at a time.
 trait Choice {
     ghost choice: { ℕ → ℕ → ℕ };
 
@@ -117,7 +118,7 @@ impl<C: Choice> OfNine<u8> for C {
     }
 }
 
-/// The choices from three rows.
+/// The sample chosen from three rows, at each index.
 #[derive(Drop)]
 struct ChosenAt<'a, 'b, C> {
     choice: PhantomData<C>,
@@ -186,8 +187,8 @@ fn middle_lanes(items: ThreeLanes) -> u8x32
 
 /// The median of the nine samples of a window.
 ///
-/// It is computed from the least, the middle and the greatest sample of each column: the median of
-/// the greatest least, the middle middle and the least greatest.
+/// Each column has a least, a middle and a greatest sample. The median is that of three samples:
+/// the greatest of the least, the middle of the middle and the least of the greatest samples.
 pub struct Median;
 
 impl OfNine<u8> for Median {
@@ -263,8 +264,8 @@ pub fn max9(nine: &Nine<'_>, out: &mut [u8])
     write_nine(&Greatest, nine, out);
 }
 
-/// Writes the median of each window: a sample with at most four smaller and at most four greater
-/// ones.
+/// Writes the median of each window: at most four samples are smaller, and at most four are
+/// greater.
 pub fn median9(nine: &Nine<'_>, out: &mut [u8])
     requires { window_count nine.now ≡ length out.old }
     ensures { map pos out.new ≡ run 0 (length out.old) (λ i. median (nine_at nine.now i)) }

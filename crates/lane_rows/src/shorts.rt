@@ -15,7 +15,7 @@ use crate::scales::scaled_lanes;
 use std::simd::prelude::*;
 use vx_base::Policy;
 
-/// Returns the sums.
+/// Returns the sum of each pair.
 pub fn short_sums(a: i16x16, b: i16x16) -> i32x16
     requires a_len { length a ≡ 16 }
     requires b_len { length b ≡ 16 }
@@ -37,7 +37,7 @@ pub fn short_differences(a: i16x16, b: i16x16) -> i32x16
     a.cast::<i32>() - b.cast::<i32>()
 }
 
-/// Returns the absolute differences.
+/// Returns the absolute difference of each pair.
 pub fn short_distances(a: i16x16, b: i16x16) -> i32x16
     requires a_len { length a ≡ 16 }
     requires b_len { length b ≡ 16 }
@@ -70,11 +70,12 @@ pub fn greater_shorts(a: i16x16, b: i16x16) -> i16x16
     a.simd_max(b)
 }
 
-/// Returns the products, with the second and third quarters exchanged.
+/// Returns the product of each pair, with the second and third quarters of the lanes exchanged.
 ///
 /// The low and high halves of each product are computed separately. A processor multiplies numbers
 /// of 16 bits and joins the halves faster than it widens the numbers and multiplies them in 32
-/// bits. With registers of 32 bytes it joins within each 16 bytes, which gives this order.
+/// bits. In registers of 32 bytes it joins halves within each 16 bytes, which gives the order with
+/// exchanged quarters.
 fn products(a: i16x16, b: i16x16) -> i32x16
     requires a_len { length a ≡ 16 }
     requires b_len { length b ≡ 16 }
@@ -94,7 +95,7 @@ fn products(a: i16x16, b: i16x16) -> i32x16
     i32x16::from_le_bytes(halves.to_le_bytes())
 }
 
-/// Returns the nearest S16 samples.
+/// Returns the S16 sample nearest to each number.
 pub fn clamped(numbers: i32x16) -> i16x16
     requires len { length numbers ≡ 16 }
     requires fits { Each1 (FitsSigned w32) numbers }
@@ -130,9 +131,9 @@ pub fn narrowed(numbers: i32x16, policy: Policy) -> i16x16
 
 /// Returns the numbers with the second and third quarters exchanged.
 ///
-/// A processor with registers of 32 bytes does this exchange itself when it narrows two of them. It
-/// is done in lanes of 64 bits here: the compiler would move an exchange of 16-bit lanes before the
-/// narrowing, which takes longer.
+/// A processor with registers of 32 bytes exchanges the quarters itself when it narrows two
+/// registers. This function exchanges lanes of 64 bits. The compiler would move an exchange of
+/// 16-bit lanes before the narrowing, which takes longer.
 fn quarters_exchanged(numbers: i16x16) -> i16x16
     requires len { length numbers ≡ 16 }
     requires fits { Each1 (FitsSigned w16) numbers }
@@ -162,9 +163,10 @@ pub fn scaled_squares(row: u8x16, amount: u8) -> u16x16
     (row.cast::<u16>() * row.cast::<u16>()) >> u16::from(amount)
 }
 
-/// Returns the sums with the numbers added, at most 32,767.
+/// Returns each sum plus its number, at most 32,767.
 ///
-/// Each number is limited to 32,767 minus the sum. That difference fits 16 bits without a sign.
+/// Each number is first limited to 32,767 minus the sum, a difference that fits 16 bits without a
+/// sign.
 pub fn accumulated_shorts(numbers: u16x16, sums: i16x16) -> i16x16
     requires len { length sums ≡ 16 }
     requires fits { Each1 (FitsSigned w16) sums }

@@ -15,7 +15,7 @@ use crate::shorts::{narrowed, short_differences, short_sums};
 use std::simd::prelude::*;
 use vx_base::{Policy, narrow_s16};
 
-/// The sum, narrowed by the policy.
+/// The sum of two items, narrowed by the policy.
 #[derive(Drop)]
 pub struct Sum<P>(pub P);
 
@@ -42,7 +42,7 @@ impl<P: Overflow> Arithmetic for Sum<P> {
     }
 }
 
-/// The first minus the second, narrowed by the policy.
+/// The first item minus the second, narrowed by the policy.
 #[derive(Drop)]
 pub struct Difference<P>(pub P);
 
@@ -80,7 +80,7 @@ pub fn add_u8(first: &[u8], second: &[u8], policy: Policy, out: &mut [u8])
     })
 }
 
-/// Writes the sums of the items, each U8 or S16, narrowed by the policy.
+/// Writes the sums of the items, narrowed by the policy. Each row is U8 or S16.
 pub fn add_s16<A: Short, B: Short>(first: &[A], second: &[B], policy: Policy, out: &mut [i16])
     requires first_len { length first.now ≡ length out.old }
     requires second_len { length second.now ≡ length out.old }
@@ -91,7 +91,7 @@ pub fn add_s16<A: Short, B: Short>(first: &[A], second: &[B], policy: Policy, ou
     })
 }
 
-/// Writes the items of the first row minus those of the second, narrowed by the policy.
+/// Writes the items of the first row minus the items of the second, narrowed by the policy.
 pub fn sub_u8(first: &[u8], second: &[u8], policy: Policy, out: &mut [u8])
     requires first_len { length first.now ≡ length out.old }
     requires second_len { length second.now ≡ length out.old }
@@ -103,8 +103,8 @@ pub fn sub_u8(first: &[u8], second: &[u8], policy: Policy, out: &mut [u8])
     })
 }
 
-/// Writes the items of the first row minus those of the second, each U8 or S16, narrowed by the
-/// policy.
+/// Writes the items of the first row minus the items of the second, narrowed by the policy. Each
+/// row is U8 or S16.
 pub fn sub_s16<A: Short, B: Short>(first: &[A], second: &[B], policy: Policy, out: &mut [i16])
     requires first_len { length first.now ≡ length out.old }
     requires second_len { length second.now ≡ length out.old }

@@ -27,11 +27,11 @@ pub trait Tested: Item {
         requires { IsTrue (is_sample format number) }
         ensures { Self.value result ≡ number };
 
-    /// Returns whether the item is less than the other.
+    /// Returns whether the item is less than `other`.
     fn is_below(self, other: Self) -> bool
         ensures { result ≡ int_lt (Self.value self) (Self.value other) };
 
-    /// Returns whether the item is less than the other, or equal to it.
+    /// Returns whether the item is less than `other` or equal to it.
     fn is_at_most(self, other: Self) -> bool
         ensures { result ≡ int_le (Self.value self) (Self.value other) };
 
@@ -138,7 +138,8 @@ impl<A: Tested> LanesOfItem<A, u8> for Above<A> {
     }
 }
 
-/// The true value if an item is between the limits or equal to one, and the false value if not.
+/// The true value if an item is between the limits or equal to one of them, and the false value if
+/// not.
 #[derive(Drop)]
 pub struct Between<A> {
     pub lower: A,
@@ -178,7 +179,8 @@ impl<A: Tested> LanesOfItem<A, u8> for Between<A> {
     }
 }
 
-/// Writes the values of a rule that tests items of this type.
+/// Writes the rule's true value where an item passes, and its false value elsewhere. The rule tests
+/// items of type `A`.
 fn write_tested<A: Tested>(row: &[A], rule: ThresholdRule, out: &mut [u8])
     requires len { length row.now ≡ length out.old }
     requires format { rule.format ≡ A.format }

@@ -1,8 +1,8 @@
 -- Size classes of blocks. A capacity is a number of samples.
 use Rattle.std.specs.Prelude.{ℕ, zero, suc, ◌+◌, ◌-◌, ◌/◌, ◌^◌, ◌≤◌, ◌<◌}
 
--- the difference between the capacities of the next class and this one: 1 up to 16 samples, then an
--- eighth of the power of two below
+-- the capacity of the next class minus the capacity of this class. It is 1 up to 16 samples, and
+-- then an eighth of the greatest power of two that isn't above this class's capacity.
 abbrev pub class_step : ℕ → ℕ
 class_step class = 2 ^ (class / 8 - 1)
 
@@ -15,7 +15,7 @@ class_capacity (suc class) = class_capacity class + class_step class
 abbrev pub class_count : ℕ
 class_count = 193
 
--- the class of a block with capacity `room`: the greatest whose capacity isn't above it
+-- the class of a block with capacity `room`: the greatest class whose capacity isn't above `room`
 pub record IsClassOf (room class : ℕ) : Type 0 where
   pub class_known : class < class_count
   pub within : class_capacity class ≤ room

@@ -20,7 +20,7 @@ lent_of p U8 = p.u8s.lent
 lent_of p S16 = p.s16s.lent
 lent_of p U32 = p.u32s.lent
 
--- the number of free blocks of each class, of a format
+-- the number of free blocks of a format, for each class
 abbrev pub free_of : Pool → Format → List ℕ
 free_of p U8 = p.u8s.free
 free_of p S16 = p.s16s.free
@@ -30,8 +30,7 @@ free_of p U32 = p.u32s.free
 abbrev pub blocks_of : Pool → Format → ℕ
 blocks_of p format = lent_of p format + free_count (free_of p format)
 
--- 1 if the formats are equal, else 0: what one block of the first format adds to the count of the
--- other
+-- 1 if the formats are equal, else 0; added up over blocks, this counts the blocks of a format
 abbrev pub one_of : Format → Format → ℕ
 one_of format other = if same_format format other then 1 else 0
 
@@ -43,7 +42,7 @@ HasLent p format = 1 ≤ lent_of p format
 abbrev pub Lends : Pool → Pool → Format → Type 0
 Lends old new format = (f : Format) → lent_of new f ≡ lent_of old f + one_of format f
 
--- one block of this format less is lent
+-- one block fewer of this format is lent
 abbrev pub GetsBack : Pool → Pool → Format → Type 0
 GetsBack old new format = (f : Format) → lent_of new f + one_of format f ≡ lent_of old f
 

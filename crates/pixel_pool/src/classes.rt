@@ -17,8 +17,8 @@ pub fn step(class: usize) -> usize
     1 << (class / 8).saturating_sub(1)
 }
 
-/// Returns the class of a block with a capacity of `room` samples, which is the greatest whose
-/// capacity isn't above it, and that class's capacity.
+/// Returns the class of a block with a capacity of `room` samples, and the class's capacity. The
+/// class is the greatest one whose capacity isn't above `room`.
 #[tactic(auto, using(crate::proofs::ClassLemmas::room_steps))]
 pub fn class_of(room: usize) -> (usize, usize)
     ensures class { IsClassOf room result.0 }
@@ -35,8 +35,8 @@ pub fn class_of(room: usize) -> (usize, usize)
     (class, within)
 }
 
-/// Returns the capacity of a new block for `count` samples: that of the smallest class that fits
-/// them, or `count` if none does.
+/// Returns the capacity of a new block for `count` samples: the capacity of the smallest class that
+/// fits them, or `count` if no class does.
 #[tactic(auto, using(crate::proofs::ClassLemmas::room_steps))]
 pub fn room_for(count: usize) -> usize
     ensures enough { count ≤ result }

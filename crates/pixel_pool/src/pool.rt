@@ -107,8 +107,8 @@ impl Pool {
         }
     }
 
-    /// Drops free blocks of each format, the largest first, until at most 16,384 with a total
-    /// capacity of at most 67,108,864 samples are left.
+    /// Drops free blocks of each format, the largest first, until at most 16,384 remain, with a
+    /// total capacity of at most 67,108,864 samples.
     pub fn trim(&mut self)
         ensures lent { KeepsLent self.old self.new }
         ensures trim { (format : Format) → IsTrim (free_of self.new format) }

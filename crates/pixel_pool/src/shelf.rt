@@ -20,10 +20,12 @@ const SMALL_ROOM: usize = 1024;
 /// The greatest total capacity, in samples, of the free blocks that `trim` keeps.
 const KEPT_ROOM: u128 = 67_108_864;
 
-/// The greatest number of free blocks that `trim` keeps: as many as one client can leave.
+/// The greatest number of free blocks that `trim` keeps. One client can have as many images, in
+/// 1,024 delays of 16 images.
 const KEPT_BLOCKS: usize = 16_384;
 
-/// A free block, its class, the capacity of the class, and the stack of the class below this block.
+/// A free block: its memory, its class, the class's capacity, and the part of the class's stack
+/// below this block.
 #[derive(Drop)]
 struct Free<T> {
     samples: Vec<T>,
@@ -32,9 +34,9 @@ struct Free<T> {
     under: Stack,
 }
 
-/// The blocks of one format: the number of lent ones, and the free ones in a slab, stacked by their
-/// classes. `room` is the total capacity of the free blocks in samples, each counted with the
-/// capacity of its class.
+/// The blocks of one format: the number of lent blocks, and the free blocks in a slab, with one
+/// stack for each class. `room` is the total capacity of the free blocks in samples, where each
+/// block counts with its class's capacity.
 #[derive(Drop)]
 pub struct Shelf<T> {
     alloc: Global,
@@ -199,15 +201,15 @@ impl<T: Copy + Drop> Shelf<T> {
         }
     }
 
-    /// Whether the number of free blocks and their total capacity are within the limits.
+    /// Checks whether the number of free blocks and their total capacity are within the limits.
     fn is_trim(&self) -> bool
         ensures { IsTrue result ↔ IsTrim self.now.free }
     {
         self.free.len() <= KEPT_BLOCKS && self.room <= KEPT_ROOM
     }
 
-    /// Drops a free block of the greatest class that has one. There is one, because the limits are
-    /// exceeded.
+    /// Drops a free block of the greatest class that has any. Some block is free, because the
+    /// limits are exceeded.
     #[tactic(auto, using(crate::proofs::FreeLemmas::none_is_trim))]
     fn drop_largest(&mut self)
         requires { IsTrim self.old.free → ⊥ }
@@ -225,7 +227,7 @@ impl<T: Copy + Drop> Shelf<T> {
     }
 }
 
-/// New memory with `count` samples and the capacity of the smallest class that fits them.
+/// Returns new memory with `count` samples and the capacity of the smallest class that fits them.
 fn new_samples<T: Copy + Drop>(alloc: Global, zero: T, count: usize) -> Result<Vec<T>, AllocError>
     ensures count { IfOk result (λ samples. length samples.items ≡ count) }
     ensures room { IfOk result (λ samples. FitsIn count (vec_capacity samples)) }
@@ -235,8 +237,8 @@ fn new_samples<T: Copy + Drop>(alloc: Global, zero: T, count: usize) -> Result<V
     Ok(samples)
 }
 
-/// The same memory with `count` samples, which fit. Memory that is far too large is shrunk to the
-/// capacity of their class; if the system refuses, it stays as it is.
+/// Returns the same memory with `count` samples, which fit. Memory that is far too large is shrunk
+/// to the capacity of a new block; if the system refuses, it isn't shrunk.
 fn resized<T: Copy + Drop>(mut samples: Vec<T>, zero: T, count: usize) -> Vec<T>
     requires { count ≤ vec_capacity samples }
     ensures count { length result.items ≡ count }
@@ -249,7 +251,8 @@ fn resized<T: Copy + Drop>(mut samples: Vec<T>, zero: T, count: usize) -> Vec<T>
     samples
 }
 
-/// Whether a capacity is more than twice the requested one, and isn't small.
+/// Checks whether a capacity is above `SMALL_ROOM` and more than twice the requested number of
+/// samples.
 fn is_far_too_large(room: usize, count: usize) -> bool {
     room > SMALL_ROOM && room / 2 > count
 }

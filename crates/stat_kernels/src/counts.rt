@@ -13,7 +13,8 @@ use image_core::{Band, Image};
 use lane_rows::tally_row;
 use vx_base::{Bins, GREATEST_BINS};
 
-/// Counts the valid samples of a band of a U8 image by value.
+/// Counts the valid samples of a band of a U8 image by value. The counts are in four tables
+/// together.
 fn count_values(
     image: &Image<'_>,
     rows: Band,
@@ -65,7 +66,7 @@ fn count_in_bins(image: &Image<'_>, rows: Band, bins: Bins, counts: &mut [u32])
 }
 
 /// Writes the histogram of a U8 image's valid samples (OpenVX 1.3, "Histogram"; the bins are as
-/// this project defines them). The earlier counts are overwritten.
+/// this project defines them). The earlier counts, one for each bin, are overwritten.
 pub fn histogram(image: &Image<'_>, bins: Bins, counts: &mut [u32])
     requires format { image.now.format ≡ U8 }
     requires size { length counts.old ≡ bins.bins }
@@ -75,7 +76,8 @@ pub fn histogram(image: &Image<'_>, bins: Bins, counts: &mut [u32])
     count_in_bins(image, Band::whole(image.desc()), bins, counts);
 }
 
-/// Adds the histogram of a band's valid samples to the counts. The image is U8.
+/// Adds the histogram of a band's valid samples to `counts`, one count for each bin. The image is
+/// U8. No count may exceed 32 bits.
 pub fn add_histogram(image: &Image<'_>, rows: Band, bins: Bins, counts: &mut [u32])
     requires format { image.now.format ≡ U8 }
     requires rows { IsInRows image.now.height rows }

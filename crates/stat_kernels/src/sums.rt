@@ -21,11 +21,11 @@ use vx_base::{GREATEST_SIDE, Rect};
 
 const LONGEST_ROW: usize = GREATEST_SIDE as usize;
 
-/// The row above the first one, all zeros.
+/// The row above the first row of an image: all zeros.
 static ZEROS: [u32; LONGEST_ROW] = [0; LONGEST_ROW];
 
-/// Adds the valid rows above row `y` to the sums. On entry they are the sums above the first valid
-/// row.
+/// Adds the valid rows above row `y` to the sums. On entry `sums` holds the sums above the first
+/// valid row, on return the sums above row `y`.
 fn add_lines(image: &Image<'_>, part: Part, y: u16, sums: &mut [u32])
     requires format { image.now.format ≡ U8 }
     requires part { IsValidPart image.now part }
@@ -61,7 +61,7 @@ fn write_row_from_top(image: &Image<'_>, y: u16, out: &mut [u32])
 }
 
 /// Writes part of a row of an integral image, from column `x` on: the running sums of the row plus
-/// the sums in the row above. Without a row above, those are 0.
+/// the sums in the row above. Without a row above, the sums above are 0.
 fn write_part_of_row(row: &[u8], above: Option<&[u32]>, x: usize, out: &mut [u32])
     requires above_len { IfSome above (λ sums. x + length row.now ≤ length sums.now) }
     requires out_len { length out.old ≡ length row.now }
@@ -107,8 +107,8 @@ fn write_row_across_part(
     right.fill(0);
 }
 
-/// Writes a row of an integral image from the row above it, which is `None` for the first row of an
-/// image. In the contract `whole` is any image whose row `line` is row `y` of this one.
+/// Writes row `y` of an integral image from the row above it; `above` is `None` for the first row
+/// of an image. In the contract `whole` is any image whose row `line` is row `y` of `image`.
 fn write_integral_row(image: &Image<'_>, part: Part, y: u16, above: Option<&[u32]>, out: &mut [u32])
     requires format { image.now.format ≡ U8 }
     requires part { IsValidPart image.now part }
@@ -128,7 +128,7 @@ fn write_integral_row(image: &Image<'_>, part: Part, y: u16, above: Option<&[u32
     }
 }
 
-/// Returns the last of the rows in `before`, or `None` if there is none.
+/// Returns the last row of `width` sums in `before`, or `None` if `before` is empty.
 pub fn row_above(before: &[u32], width: usize) -> Option<&[u32]>
     requires { length before.now ≡ 0 ⊎ width ≤ length before.now }
     ensures { option_copied result ≡ last_row width before.now }
@@ -140,9 +140,9 @@ pub fn row_above(before: &[u32], width: usize) -> Option<&[u32]>
     }
 }
 
-/// Writes a band of an integral image, continuing from the row above it, which is `None` at the top
-/// of an image. Reads the band's rows only. In the contract `whole` is any image whose rows from
-/// `line` on are the band's.
+/// Writes a band of an integral image, continuing from `above`, the row above the band; `None` at
+/// the top of an image. Reads only the band's rows of `image`. In the contract `whole` is any image
+/// whose rows from `line` on are the band's rows.
 pub fn integral_on(image: &Image<'_>, rows: Band, above: Option<&[u32]>, samples: &mut [u32])
     requires format { image.now.format ≡ U8 }
     requires rows { IsInRows image.now.height rows }
@@ -164,8 +164,8 @@ pub fn integral_on(image: &Image<'_>, rows: Band, above: Option<&[u32]>, samples
     }
 }
 
-/// Writes a band of the integral image: its first row by summing all rows above it, the others each
-/// from the row above.
+/// Writes a band of the integral image: its first row by summing all valid rows up to it, each
+/// other row from the row above.
 fn write_integral_rows(image: &Image<'_>, rows: Band, samples: &mut [u32])
     requires format { image.now.format ≡ U8 }
     requires rows { IsInRows image.now.height rows }

@@ -35,7 +35,7 @@ impl Convolved for i16 {
     ghost same_format = { refl };
 }
 
-/// A coefficient of a row with the columns reversed, 0 after the last column.
+/// Returns a coefficient of a row with the columns reversed, or 0 after the last column.
 fn rotated_coefficient(convolution: &Convolution, row: usize, column: usize) -> i16
     requires { row < convolution.now.rows }
     ensures { result ≡ rotated_coefficient convolution.now row column }
@@ -233,7 +233,7 @@ fn write_convolved<T: Convolved>(
 
 /// `with_rows!(width, rows => call)` makes the call with `rows`, scratch memory on the stack: nine
 /// rows of a piece, halo included, for an image of this width. The memory is zeroed once; a narrow
-/// image gets less of it.
+/// image gets less memory.
 macro_rules! with_rows {
     ($width:expr, $rows:ident => $call:expr) => {
         if $width <= 64 {
@@ -249,7 +249,7 @@ macro_rules! with_rows {
     };
 }
 
-/// Writes the convolution to a U8 or S16 output.
+/// Writes the convolution of a U8 image to a U8 or S16 image of its size.
 fn convolve_with(
     image: &Image<'_>,
     convolution: &Convolution,
