@@ -131,8 +131,8 @@ class WorkerServer:
         self._idle: OrderedDict[Line, Tuple[str, int, int]] = OrderedDict()
 
     def take(self, key: Tuple[str, int, int], build: Build) -> Line:
-        """Returns a line for a job's pictures of this width and height that nobody else is
-        using."""
+        """Returns a line that nobody else is using, for a job's pictures of this width and
+        height."""
         with self._lock:
             line = next((line for line, its_key in self._idle.items() if its_key == key), None)
             if line is not None:

@@ -32,8 +32,8 @@ module _ {T : Type 0} where
   abbrev pub IsTopOf : ℕ → ℕ → Free T → Type 0
   IsTopOf class len block = (block.class ≡ class) × (block.under.len + 1 ≡ len)
 
-  -- if the stack isn't empty, `top` is the key of a free block of the class, which has the stack's
-  -- other blocks under it
+  -- if the stack isn't empty, `top` is the key of a free block of the class, and the stack's other
+  -- blocks are under this block
   abbrev pub IsStack : Slab (Free T) → ℕ → Stack → Type 0
   IsStack free class stack = 0 < stack.len → IsSomeAnd (get free stack.top) (IsTopOf class stack.len)
 
