@@ -15,61 +15,6 @@ use crate::scales::scaled_lanes;
 use std::simd::prelude::*;
 use vx_base::Policy;
 
-/// Returns the sums.
-pub fn short_sums(a: i16x16, b: i16x16) -> i32x16
-    requires a_len { length a ≡ 16 }
-    requires b_len { length b ≡ 16 }
-    requires a_fits { Each1 (FitsSigned w16) a }
-    requires b_fits { Each1 (FitsSigned w16) b }
-    ensures { result ≡ zip2 ◌+ℤ◌ a b }
-{
-    a.cast::<i32>() + b.cast::<i32>()
-}
-
-/// Returns the first numbers minus the second.
-pub fn short_differences(a: i16x16, b: i16x16) -> i32x16
-    requires a_len { length a ≡ 16 }
-    requires b_len { length b ≡ 16 }
-    requires a_fits { Each1 (FitsSigned w16) a }
-    requires b_fits { Each1 (FitsSigned w16) b }
-    ensures { result ≡ zip2 ◌-ℤ◌ a b }
-{
-    a.cast::<i32>() - b.cast::<i32>()
-}
-
-/// Returns the absolute differences.
-pub fn short_distances(a: i16x16, b: i16x16) -> i32x16
-    requires a_len { length a ≡ 16 }
-    requires b_len { length b ≡ 16 }
-    requires a_fits { Each1 (FitsSigned w16) a }
-    requires b_fits { Each1 (FitsSigned w16) b }
-    ensures { result ≡ zip2 (λ x y. pos (distance x y)) a b }
-{
-    a.simd_max(b).cast::<i32>() - a.simd_min(b).cast::<i32>()
-}
-
-/// Returns the smaller number of each pair.
-pub fn smaller_shorts(a: i16x16, b: i16x16) -> i16x16
-    requires a_len { length a ≡ 16 }
-    requires b_len { length b ≡ 16 }
-    requires a_fits { Each1 (FitsSigned w16) a }
-    requires b_fits { Each1 (FitsSigned w16) b }
-    ensures { result ≡ zip2 smaller a b }
-{
-    a.simd_min(b)
-}
-
-/// Returns the greater number of each pair.
-pub fn greater_shorts(a: i16x16, b: i16x16) -> i16x16
-    requires a_len { length a ≡ 16 }
-    requires b_len { length b ≡ 16 }
-    requires a_fits { Each1 (FitsSigned w16) a }
-    requires b_fits { Each1 (FitsSigned w16) b }
-    ensures { result ≡ zip2 greater a b }
-{
-    a.simd_max(b)
-}
-
 /// Returns the products, with the second and third quarters exchanged.
 ///
 /// The low and high halves of each product are computed separately. A processor multiplies numbers

@@ -9,8 +9,7 @@ ghost use Rattle.vx_base.specs.Threshold.{is_sample};
 ghost use Rattle.vx_base.specs.Pixelwise.{threshold_result};
 ghost use Rattle.lane_rows.specs.Chosen.{threshold_choice};
 
-use crate::choices::{bytes_above, bytes_between, shorts_above, shorts_between};
-use crate::item::{Item, shorts_of};
+use crate::item::{Item, bytes_of, shorts_of};
 use crate::kernel::{LanesOfItem, OfItem};
 use crate::rows::map_row;
 use crate::stores::store_32_bytes;
@@ -66,18 +65,21 @@ impl Tested for u8 {
         self <= other
     }
 
+    #[tactic(auto, using(crate::proofs::ThresholdLaws::byte_thresholds))]
     fn above(row: &[u8], limit: u8, true_value: u8, false_value: u8) -> u8x32 {
-        bytes_above(u8x32::from_slice(row), limit, true_value, false_value)
+        let row = bytes_of(row);
+        row.simd_gt(u8x32::splat(limit))
+            .select(u8x32::splat(true_value), u8x32::splat(false_value))
     }
 
+    #[tactic(auto, using(crate::proofs::ThresholdLaws::byte_thresholds))]
     fn between(row: &[u8], lower: u8, upper: u8, true_value: u8, false_value: u8) -> u8x32 {
-        bytes_between(
-            u8x32::from_slice(row),
-            lower,
-            upper,
-            true_value,
-            false_value,
-        )
+        let row = bytes_of(row);
+        let up_to = row
+            .simd_gt(u8x32::splat(upper))
+            .select(u8x32::splat(false_value), u8x32::splat(true_value));
+        row.simd_lt(u8x32::splat(lower))
+            .select(u8x32::splat(false_value), up_to)
     }
 }
 
@@ -96,12 +98,24 @@ impl Tested for i16 {
         self <= other
     }
 
+    #[tactic(auto, using(crate::proofs::ThresholdLaws::short_thresholds))]
     fn above(row: &[i16], limit: i16, true_value: u8, false_value: u8) -> u8x32 {
-        shorts_above(shorts_of(row), limit, true_value, false_value)
+        let row = shorts_of(row);
+        row.simd_gt(i16x32::splat(limit))
+            .cast::<i8>()
+            .select(u8x32::splat(true_value), u8x32::splat(false_value))
     }
 
+    #[tactic(auto, using(crate::proofs::ThresholdLaws::short_thresholds))]
     fn between(row: &[i16], lower: i16, upper: i16, true_value: u8, false_value: u8) -> u8x32 {
-        shorts_between(shorts_of(row), lower, upper, true_value, false_value)
+        let row = shorts_of(row);
+        let up_to = row
+            .simd_gt(i16x32::splat(upper))
+            .cast::<i8>()
+            .select(u8x32::splat(false_value), u8x32::splat(true_value));
+        row.simd_lt(i16x32::splat(lower))
+            .cast::<i8>()
+            .select(u8x32::splat(false_value), up_to)
     }
 }
 
