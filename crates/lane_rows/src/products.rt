@@ -11,8 +11,8 @@ use crate::arithmetic::{Arithmetic, OfSamples};
 use crate::item::Short;
 use crate::overflow::{Overflow, Saturated, Wrapped, with_overflow};
 use crate::rows::zip_rows;
-use crate::scales::scaled;
-use crate::shorts::multiplied;
+use crate::scales::{scaled, scaled_lanes};
+use crate::shorts::{narrowed, products, quarters_exchanged};
 use std::simd::prelude::*;
 use vx_base::{Policy, narrow_s16, narrow_u8};
 
@@ -26,7 +26,7 @@ fn scaled_product(a: i16, b: i16, amount: u8) -> i32
 
 /// Returns the numbers narrowed to U8 by the policy.
 #[tactic(auto, using(crate::proofs::LaneLaws::narrow_lanes))]
-fn narrowed(numbers: u16x32, policy: Policy) -> u8x32
+fn narrowed_bytes(numbers: u16x32, policy: Policy) -> u8x32
     ensures { map pos result ≡ map (narrow U8 policy) (map pos numbers) }
 {
     match policy {
@@ -57,11 +57,12 @@ impl<P: Overflow> Arithmetic for Product<P> {
 
     fn bytes(&self, a: u8x32, b: u8x32) -> u8x32 {
         let products = (a.cast::<u16>() * b.cast::<u16>()) >> u16::from(self.amount);
-        narrowed(products, self.overflow.policy())
+        narrowed_bytes(products, self.overflow.policy())
     }
 
     fn shorts(&self, a: i16x16, b: i16x16) -> i16x16 {
-        multiplied(a, b, self.amount, self.overflow.policy())
+        let quotients = scaled_lanes(products(a, b), self.amount);
+        quarters_exchanged(narrowed(quotients, self.overflow.policy()))
     }
 }
 

@@ -20,12 +20,13 @@ use vx_base::Policy;
 /// The low and high halves of each product are computed separately. A processor multiplies numbers
 /// of 16 bits and joins the halves faster than it widens the numbers and multiplies them in 32
 /// bits. With registers of 32 bytes it joins within each 16 bytes, which gives this order.
-fn products(a: i16x16, b: i16x16) -> i32x16
+pub fn products(a: i16x16, b: i16x16) -> i32x16
     requires a_len { length a ≡ 16 }
     requires b_len { length b ≡ 16 }
     requires a_fits { Each1 (FitsSigned w16) a }
     requires b_fits { Each1 (FitsSigned w16) b }
-    ensures { result ≡ swap_quarters (zip2 ◌*ℤ◌ a b) }
+    ensures value { result ≡ swap_quarters (zip2 ◌*ℤ◌ a b) }
+    ensures fits { Each1 (FitsSigned w32) result }
 {
     let low = a * b;
     let high = ((a.cast::<i32>() * b.cast::<i32>()) >> 16).cast::<i16>();
@@ -78,25 +79,14 @@ pub fn narrowed(numbers: i32x16, policy: Policy) -> i16x16
 /// A processor with registers of 32 bytes does this exchange itself when it narrows two of them. It
 /// is done in lanes of 64 bits here: the compiler would move an exchange of 16-bit lanes before the
 /// narrowing, which takes longer.
-fn quarters_exchanged(numbers: i16x16) -> i16x16
+pub fn quarters_exchanged(numbers: i16x16) -> i16x16
     requires len { length numbers ≡ 16 }
     requires fits { Each1 (FitsSigned w16) numbers }
-    ensures { result ≡ swap_quarters numbers }
+    ensures value { result ≡ swap_quarters numbers }
+    ensures result_fits { Each1 (FitsSigned w16) result }
 {
     let quarters = u64x4::from_le_bytes(numbers.to_le_bytes());
     i16x16::from_le_bytes(quarters.swizzle([0, 2, 1, 3]).to_le_bytes())
-}
-
-/// Returns the products divided by 2^amount, rounded toward zero and narrowed by the policy.
-pub fn multiplied(a: i16x16, b: i16x16, amount: u8, policy: Policy) -> i16x16
-    requires amount { amount ≤ 15 }
-    requires a_len { length a ≡ 16 }
-    requires b_len { length b ≡ 16 }
-    requires a_fits { Each1 (FitsSigned w16) a }
-    requires b_fits { Each1 (FitsSigned w16) b }
-    ensures { result ≡ zip2 (product S16 policy amount) a b }
-{
-    quarters_exchanged(narrowed(scaled_lanes(products(a, b), amount), policy))
 }
 
 /// Returns the squares of bytes divided by 2^amount, rounded down.
