@@ -3,7 +3,7 @@ use Rattle.std.proofs.Common.{◌≡◌, inl, inr, ℕ, ℤ, pos, negsuc, suc, �
 use Rattle.lane_rows.proofs.Common.{zip2, Each1, ints, clamps, cases_lt, U8, Wrap, Saturate, narrow, top}
 use Rattle.vx_base.specs.Pixelwise.{sum, difference, absolute_difference, smaller, greater, and_bits, or_bits, xor_bits, not_bits}
 use Rattle.lane_rows.proofs.LaneLaws.{clamp_pos, smaller_lane}
-use Rattle.lane_rows.proofs.Lanewise.{Lanewise, one, other, each, both, chosen, pairs_are, items_are, same_pairs}
+use Rattle.lane_rows.proofs.Lanewise.{Lanewise, one, other, each, both, chosen, pairs_are, items_are, same_pairs, lanes_are}
 
 abbrev less : ℕ → ℕ → ℕ
 less x y = cond (ltb x y) 255 0
@@ -43,10 +43,10 @@ where_w8 t a b = elim t as (λ v. cond (top 7 (cond v 255 0)) a b ≡ cond v a b
 greater_lane : (x y : ℕ) → cond (ltb x y) y x ≡ max x y
 greater_lane x y = grind arith
 
-pub smallest_at : (x y : ℕ) → cond (top 7 (less x y)) x y ≡ min x y
+smallest_at : (x y : ℕ) → cond (top 7 (less x y)) x y ≡ min x y
 smallest_at x y = where_w8 (ltb x y) x y ∙ smaller_lane x y
 
-pub largest_at : (x y : ℕ) → cond (top 7 (less x y)) y x ≡ max x y
+largest_at : (x y : ℕ) → cond (top 7 (less x y)) y x ≡ max x y
 largest_at x y = where_w8 (ltb x y) y x ∙ greater_lane x y
 
 below : (x y : ℕ) → x < y → pos x -ℤ pos y ≡ negsuc (y - suc x)
@@ -133,6 +133,12 @@ module _ (xs ys : List ℕ) (p : length xs ≡ 32) (q : length ys ≡ 32) (f : E
   pub largest_are : map pos ((largest one other).all 32 xs ys) ≡ zip2 greater (map pos xs) (map pos ys)
   largest_are = bytes_are (largest one other) greater xs ys p q f h greater_is
 
+  pub least_lanes : (smallest one other).all 32 xs ys ≡ zip2 min xs ys
+  least_lanes = lanes_are (smallest one other) (Fits w8) (Fits w8) min 32 xs ys p q f h (λ x y _ _. smallest_at x y)
+
+  pub greatest_lanes : (largest one other).all 32 xs ys ≡ zip2 max xs ys
+  greatest_lanes = lanes_are (largest one other) (Fits w8) (Fits w8) max 32 xs ys p q f h (λ x y _ _. largest_at x y)
+
 pub ands_are : (xs ys : List ℕ) → map pos (zip2 bit_and xs ys) ≡ zip2 and_bits (map pos xs) (map pos ys)
 ands_are = same_pairs pos pos pos bit_and and_bits (λ x y. refl)
 
@@ -150,5 +156,7 @@ pub ruleset sum_lanes = (sums_wrapped, sums_clamped)
 pub ruleset difference_lanes = (differences_wrapped, differences_clamped)
 
 pub ruleset extreme_lanes = (smallest_are, largest_are)
+
+pub ruleset rank_lanes = (least_lanes, greatest_lanes)
 
 pub ruleset bit_lanes = (ands_are, ors_are, xors_are, turned_are)

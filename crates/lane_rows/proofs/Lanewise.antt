@@ -85,7 +85,7 @@ same_pairs u v w g f at [] ys = refl
 same_pairs u v w g f at (x ∷ xs) [] = refl
 same_pairs u v w g f at (x ∷ xs) (y ∷ ys) = cc (at x y, same_pairs u v w g f at xs ys)
 
-alike : {A B C D E F : Type 0} (P : A → Type 0) (Q : B → Type 0) (u : C → F) (v : A → D) (w : B → E) (g : A → B → C) (f : D → E → F) (xs : List A) (ys : List B)
+pub alike : {A B C D E F : Type 0} (P : A → Type 0) (Q : B → Type 0) (u : C → F) (v : A → D) (w : B → E) (g : A → B → C) (f : D → E → F) (xs : List A) (ys : List B)
     → Each1 P xs → Each1 Q ys → ((a : A) (b : B) → P a → Q b → u (g a b) ≡ f (v a) (w b)) → map u (zip2 g xs ys) ≡ zip2 f (map v xs) (map w ys)
 alike P Q u v w g f [] ys ps qs at = refl
 alike P Q u v w g f (x ∷ xs) [] ps qs at = refl
