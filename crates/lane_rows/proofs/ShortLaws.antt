@@ -1,5 +1,5 @@
 -- Numbers of 16 bits in lanes: their products in 32 bits.
-use Rattle.std.proofs.Common.{rules, ◌≡◌, ℕ, ℤ, pos, negsuc, suc, ◌+◌, ◌-◌, ◌*◌, ◌/◌, ◌%◌, ◌^◌, ◌<◌, ◌≤◌, List, [], ◌∷◌, ◌++◌, map, length, replicate, refl, ap, ◌∙◌, sym, subst, arith, w16, w32, FitsSigned, to_z, of_z, ◌*ℤ◌, unsigned_abs}
+use Rattle.std.proofs.Common.{rules, ◌≡◌, ℕ, ℤ, pos, negsuc, suc, ◌+◌, ◌-◌, ◌*◌, ◌/◌, ◌%◌, ◌^◌, ◌<◌, ◌≤◌, List, [], ◌∷◌, ◌++◌, map, length, take, take_all, replicate, refl, ap, ◌∙◌, sym, subst, arith, w16, w32, FitsSigned, to_z, of_z, ◌*ℤ◌, unsigned_abs}
 use Rattle.lane_rows.proofs.Common.{shr_z, range_with_len, zip2, Each1, pick_l, number_l, digits_l, ints, to_z-of_z, int_wrap_fits, fits_signed_from_abs, length-zip2, length-map, swap_quarters, Width}
 use Rattle.std.proofs.lemmas.Int.{of_z-to_z, wrapping_mul_is, unsigned_abs-mul}
 use Rattle.std.proofs.lemmas.Nat.{mul-le, mul-mod}
@@ -23,6 +23,10 @@ fit_as_bits w xs ps = subst (Each1 (FitsSigned w)) (sym (of_bits w xs ps)) ps
 -- lanes equal to numbers that fit can be read back from their bits
 pub told : (w : Width) (xs ys : List ℤ) → xs ≡ ys → Each1 (FitsSigned w) ys → map (to_z w) (map (of_z w) xs) ≡ ys
 told w xs ys is fits = ap (λ l. map (to_z w) (map (of_z w) l)) is ∙ of_bits w ys fits
+
+-- all items of a row, read back from their bits
+pub read_whole : (w : Width) (n : ℕ) (xs : List ℤ) → length xs ≡ n → Each1 (FitsSigned w) xs → (map (to_z w) (map (of_z w) (take n xs)) ≡ xs) × Each1 (FitsSigned w) (map (to_z w) (map (of_z w) (take n xs)))
+read_whole w n xs long fits = let is = told w (take n xs) xs (take_all n xs (omega (arith, long))) fits in (is, subst (Each1 (FitsSigned w)) (sym is) fits)
 
 -- ---- two lists, an item of each in turn
 

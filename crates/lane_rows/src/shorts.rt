@@ -88,24 +88,3 @@ pub fn quarters_exchanged(numbers: i16x16) -> i16x16
     let quarters = u64x4::from_le_bytes(numbers.to_le_bytes());
     i16x16::from_le_bytes(quarters.swizzle([0, 2, 1, 3]).to_le_bytes())
 }
-
-/// Returns the squares of bytes divided by 2^amount, rounded down.
-pub fn scaled_squares(row: u8x16, amount: u8) -> u16x16
-    requires { amount ≤ 15 }
-    ensures { map pos result ≡ map (λ a. int_div_euclid (a *ℤ a) (pos (2 ^ amount))) (map pos row) }
-{
-    (row.cast::<u16>() * row.cast::<u16>()) >> u16::from(amount)
-}
-
-/// Returns the sums with the numbers added, at most 32,767.
-///
-/// Each number is limited to 32,767 minus the sum. That difference fits 16 bits without a sign.
-pub fn accumulated_shorts(numbers: u16x16, sums: i16x16) -> i16x16
-    requires len { length sums ≡ 16 }
-    requires fits { Each1 (FitsSigned w16) sums }
-    ensures value { result ≡ zip2 (accumulated_sum S16) (map pos numbers) sums }
-    ensures result_fits { Each1 (FitsSigned w16) result }
-{
-    let room = u16x16::from_le_bytes((i16x16::splat(32767) - sums).to_le_bytes());
-    sums + i16x16::from_le_bytes(numbers.simd_min(room).to_le_bytes())
-}
