@@ -6,7 +6,7 @@ use Rattle.lane_rows.proofs.Common.{zip2, Each1, length-map, length-zip2, put_ch
 use Rattle.vx_base.specs.Pixelwise.{accumulated_sum, accumulated_square}
 use Rattle.lane_rows.proofs.LaneLaws.{products, product_lane, chosen_w16, smaller_lane}
 use Rattle.lane_rows.proofs.DigitLaws.{recast}
-use Rattle.lane_rows.proofs.Lanewise.{Lanewise, one, other, constant, each, both, chosen, items_are, pairs_are, each_is}
+use Rattle.lane_rows.proofs.Lanewise.{Lanewise, one, other, constant, each, both, chosen, items_are, pairs_are, each_is, length-all}
 
 -- ---- squares
 
@@ -93,19 +93,16 @@ module _ (xs : List ℕ) (cs : List ℤ) (p : (length xs ≡ 16) × Each1 (Fits 
   abbrev least : List ℕ → List ℕ
   least ys = sel_l (map (top 15) (zip2 less xs ys)) xs ys
 
-  made_long : (e : Lanewise ℕ ℤ ℕ) → length (e.all 16 xs cs) ≡ 16
-  made_long e = ap length (e.same 16 xs cs p.0 long) ∙ length-zip2 e.at xs cs (p.0 ∙ sym long) ∙ p.0
-
   room_same : in_bytes (room.all 16 xs cs) ≡ room.all 16 xs cs
   room_same =
-      same_bytes (room.all 16 xs cs) (made_long room)
+      same_bytes (room.all 16 xs cs) (length-all room 16 xs cs p.0 long)
       (each_is room (Fits w16) (FitsSigned w16) (λ x. x < 65536) 16 xs cs p.0 long p.1 fs (λ a c f g. left_below (of_z w16 c)))
 
   accumulated_are : map (to_z w16) (sums (in_bytes (least (in_bytes (room.all 16 xs cs))))) ≡ zip2 (accumulated_sum S16) (map pos xs) cs
   accumulated_are =
       ap (λ l. map (to_z w16) (sums (in_bytes (least l)))) room_same
       ∙ ap (λ l. map (to_z w16) (sums l))
-      (same_bytes (added.all 16 xs cs) (made_long added) (each_is added (Fits w16) (FitsSigned w16) (λ x. x < 65536) 16 xs cs p.0 long p.1 fs (λ a c f g. added_below a c f.fits)))
+      (same_bytes (added.all 16 xs cs) (length-all added 16 xs cs p.0 long) (each_is added (Fits w16) (FitsSigned w16) (λ x. x < 65536) 16 xs cs p.0 long p.1 fs (λ a c f g. added_below a c f.fits)))
       ∙ pairs_are after (Fits w16) (FitsSigned w16) (to_z w16) pos (λ c. c) (accumulated_sum S16) 16 xs cs p.0 long p.1 fs after_is
       ∙ ap (zip2 (accumulated_sum S16) (map pos xs)) (map-id cs)
 

@@ -1,5 +1,5 @@
 //! Kernels of two items, for the combinations of U8 and S16 that OpenVX allows.
-#![tactic(auto, using(crate::proofs::ShortLaws::fit_as_bits))]
+#![tactic(auto, using(crate::proofs::ShortLaws::read_bits))]
 
 ghost use Rattle.std.specs.Prelude.{◌≡◌, ℤ, pos, map, length, FitsSigned};
 ghost use Rattle.std.specs.Int.{w16};

@@ -1,7 +1,7 @@
 //! Thresholds. OpenVX 1.3, "Thresholding".
 #![tactic(auto, using(crate::proofs::ShortLaws::fit_as_bits))]
 
-ghost use Rattle.std.specs.Prelude.{◌≡◌, IsTrue, pos, int_lt, int_le, map, length};
+ghost use Rattle.std.specs.Prelude.{◌≡◌, IsTrue, pos, map, length};
 ghost use Rattle.vx_base.specs.declared.format.Format.{Format};
 ghost use Rattle.vx_base.specs.declared.format.Format.TheVariants.{U8, S16};
 ghost use Rattle.vx_base.specs.declared.threshold.ThresholdKind.TheVariants.{Binary, Range};
@@ -9,7 +9,7 @@ ghost use Rattle.vx_base.specs.Threshold.{is_sample};
 ghost use Rattle.vx_base.specs.Pixelwise.{threshold_result};
 ghost use Rattle.lane_rows.specs.Chosen.{threshold_choice};
 
-use crate::item::{Item, bytes_of, shorts_of};
+use crate::item::{Short, bytes_of, shorts_of};
 use crate::kernel::{LanesOfItem, OfItem};
 use crate::rows::map_row;
 use crate::stores::store_32_bytes;
@@ -17,7 +17,7 @@ use std::simd::prelude::*;
 use vx_base::{ThresholdKind, ThresholdRule};
 
 /// An item type that a threshold can test: `u8` or `i16`.
-pub trait Tested: Item {
+pub trait Tested: Short {
     /// The format of the samples.
     ghost format: { Format };
 
@@ -25,14 +25,6 @@ pub trait Tested: Item {
     fn from_short(number: i16) -> Self
         requires { IsTrue (is_sample format number) }
         ensures { Self.value result ≡ number };
-
-    /// Returns whether the item is less than the other.
-    fn is_below(self, other: Self) -> bool
-        ensures { result ≡ int_lt (Self.value self) (Self.value other) };
-
-    /// Returns whether the item is less than the other, or equal to it.
-    fn is_at_most(self, other: Self) -> bool
-        ensures { result ≡ int_le (Self.value self) (Self.value other) };
 
     /// Returns, for each of 32 items, `true_value` if it is above the limit, else `false_value`.
     fn above(row: &[Self], limit: Self, true_value: u8, false_value: u8) -> u8x32
@@ -55,14 +47,6 @@ impl Tested for u8 {
 
     fn from_short(number: i16) -> u8 {
         number as u8
-    }
-
-    fn is_below(self, other: u8) -> bool {
-        self < other
-    }
-
-    fn is_at_most(self, other: u8) -> bool {
-        self <= other
     }
 
     #[tactic(auto, using(crate::proofs::ThresholdLaws::byte_thresholds))]
@@ -88,14 +72,6 @@ impl Tested for i16 {
 
     fn from_short(number: i16) -> i16 {
         number
-    }
-
-    fn is_below(self, other: i16) -> bool {
-        self < other
-    }
-
-    fn is_at_most(self, other: i16) -> bool {
-        self <= other
     }
 
     #[tactic(auto, using(crate::proofs::ThresholdLaws::short_thresholds))]
@@ -137,7 +113,7 @@ impl<A: Tested> OfItem<A, u8> for Above<A> {
     }) };
 
     fn item(&self, a: A) -> u8 {
-        if self.limit.is_below(a) {
+        if self.limit.short() < a.short() {
             self.true_value
         } else {
             self.false_value
@@ -171,7 +147,8 @@ impl<A: Tested> OfItem<A, u8> for Between<A> {
     }) };
 
     fn item(&self, a: A) -> u8 {
-        if self.lower.is_at_most(a) && a.is_at_most(self.upper) {
+        let number = a.short();
+        if self.lower.short() <= number && number <= self.upper.short() {
             self.true_value
         } else {
             self.false_value
