@@ -10,7 +10,7 @@ mod QuarterLaws
 mod ShortLaws
 mod NarrowLaws
 mod ShortLanes
-mod TestLanes
+mod ThresholdLaws
 mod StoreLaws
 mod Names
 pub mod CountLaws
