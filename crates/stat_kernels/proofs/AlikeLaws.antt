@@ -6,7 +6,7 @@ use Rattle.stat_kernels.specs.Extreme.{added_extremes}
 use Rattle.stat_kernels.specs.Sums.{AreRowsOf}
 use Rattle.stat_kernels.proofs.FirstPixelLaws.{AreLowered, extremes_joined, lowered_none, lowered_row}
 use Rattle.stat_kernels.proofs.BandLaws.{places_lowered, row_of, rows_at, rows_follow}
-use Rattle.stat_kernels.proofs.NextRowLaws.{inside_from, inside_parts, same_columns}
+use Rattle.stat_kernels.proofs.PlaceLaws.{inside_from, inside_parts, same_columns}
 
 -- the places of a row that has a valid place, and of one that has none
 row_some : (r : Rectangle) (y : ℕ) → r.y0 ≤ y → y < r.y1 → row_of r y ≡ row_pixels r.x0 (r.x1 - r.x0) y

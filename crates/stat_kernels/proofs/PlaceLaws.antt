@@ -1,8 +1,9 @@
 -- The places of a rectangle and their samples, row by row.
-use Rattle.std.proofs.Common.{◌≡◌, ℕ, ℤ, ◌+◌, ◌-◌, ◌*◌, ◌<◌, ◌≤◌, List, [], ◌++◌, length, map, zero, suc, ap, ◌∙◌, sym, arith, append-nil, length-append}
-use Rattle.stat_kernels.proofs.Common.{range_with_len, flat_map, map-append, length-map, Rectangle, ImageValue, pixel_at, run, row_pixels, rectangle_pixels, samples_in, range-append, length-range, Part, IsValidPart}
+use Rattle.std.proofs.Common.{true, ◌≡◌, ℕ, ℤ, ◌+◌, ◌-◌, ◌*◌, ◌<◌, ◌≤◌, List, [], ◌++◌, length, map, zero, suc, ap, ◌∙◌, sym, arith, append-nil, length-append}
+use Rattle.stat_kernels.proofs.Common.{nat_tests, range_with_len, flat_map, map-append, length-map, Rectangle, ImageValue, pixel_at, run, row_pixels, rectangle_pixels, samples_in, range-append, length-range, Part, IsValidPart}
 use Rattle.std.proofs.lemmas.List.Concat.{flat_map-append}
 use Rattle.std.proofs.lemmas.Simd.{map-map}
+use Rattle.vx_base.specs.Rectangle.{has_pixel}
 use Rattle.stat_kernels.proofs.Rows.{above}
 
 -- no row is above the first
@@ -74,3 +75,38 @@ module _ (image : ImageValue) (part : Part) (is : IsValidPart image part) where
 -- the places of a row, cut in two
 pub row_places-append : (x m n y : ℕ) → row_pixels x (m + n) y ≡ row_pixels x m y ++ row_pixels (x + m) n y
 row_places-append x m n y = ap (map (λ k. (k, y))) (range-append x m n) ∙ map-append (λ k. (k, y)) (range_with_len x m) (range_with_len (x + m) n)
+
+-- ---- the pixels of a row
+
+pub record IsInside (r : Rectangle) (x y : ℕ) : Type 0 where
+  pub left : r.x0 ≤ x
+  pub right : x < r.x1
+  pub top : r.y0 ≤ y
+  pub bottom : y < r.y1
+
+pub inside_parts : (r : Rectangle) (x y : ℕ) → has_pixel r x y ≡ true → IsInside r x y
+inside_parts r x y is =
+    record { left = grind (arith, nat_tests, is); right = grind (arith, nat_tests, is); top = grind (arith, nat_tests, is); bottom = grind (arith, nat_tests, is) }
+
+pub inside_from : (r : Rectangle) (x y : ℕ) → r.x0 ≤ x → x < r.x1 → r.y0 ≤ y → y < r.y1 → has_pixel r x y ≡ true
+inside_from r x y a b c d = grind (arith, nat_tests, a, b, c, d)
+
+-- where a row has valid places, another with the same ones has the same columns
+pub record SameColumns (r s : Rectangle) (line : ℕ) : Type 0 where
+  pub first : r.x0 ≡ s.x0
+  pub last : r.x1 ≡ s.x1
+  pub top : s.y0 ≤ line
+  pub bottom : line < s.y1
+
+pub same_columns : (r s : Rectangle) (y line : ℕ) → ((x : ℕ) → has_pixel r x y ≡ has_pixel s x line) → r.x0 < r.x1 → r.y0 ≤ y → y < r.y1 → SameColumns r s line
+same_columns r s y line same some above below =
+    let other = inside_parts s r.x0 line (sym (same r.x0) ∙ inside_from r r.x0 y (omega arith) some above below) in
+    let back = inside_parts r s.x0 y (same s.x0 ∙ inside_from s s.x0 line (omega arith) (omega (arith, other.left, other.right)) other.top other.bottom) in
+    let last = inside_parts s (r.x1 - 1) line (sym (same (r.x1 - 1)) ∙ inside_from r (r.x1 - 1) y (omega (arith, some)) (omega (arith, some)) above below) in
+    let last_back = inside_parts r (s.x1 - 1) y (same (s.x1 - 1) ∙ inside_from s (s.x1 - 1) line (omega (arith, other.left, other.right)) (omega (arith, other.right)) other.top other.bottom) in
+    record {
+      first = omega (arith, back.left, other.left);
+      last = omega (arith, some, other.right, last.right, last_back.right);
+      top = other.top;
+      bottom = other.bottom;
+    }

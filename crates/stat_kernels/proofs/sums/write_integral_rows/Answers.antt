@@ -1,5 +1,5 @@
 use Rattle.std.proofs.Common.{arith}
-use Rattle.stat_kernels.proofs.NextRowLaws.{rows_below}
+use Rattle.stat_kernels.proofs.SumLaws.{rows_below}
 use Rattle.stat_kernels.proofs.sums.write_integral_rows.Goals as goal
 
 pub returns : goal.returns
