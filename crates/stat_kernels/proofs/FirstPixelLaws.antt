@@ -1,6 +1,6 @@
 -- Extremes with one more row.
 use Rattle.std.proofs.Common.{zero, suc, ◌⊎◌, inl, inr, ◌≡◌, ℕ, ℤ, pos, ◌+◌, ◌<◌, ◌≤◌, List, [], ◌∷◌, ◌++◌, length, map, cond, Bool, true, false, ap, ◌∙◌, sym, refl, arith, Some, None, ◌-◌, take, get_or, add-one, int_lt, append-nil}
-use Rattle.stat_kernels.proofs.Common.{fold, flat_map, range_with_len, All, Rectangle, int_eq, int_min, int_max, cases_Bool, cases_eq, ints, map-append, length-map, sum_by-append, sum_by-cons, count_by-le-length, All-nil, All-cons, All-head, All-tail, nat_tests, ImageValue, pixel_at, run, row_pixels, rectangle_pixels, best_of, count_of, first_of, Part, Found, IsValidPart, get_or-run, take-map-range_with_len, found_in, extremes_of}
+use Rattle.stat_kernels.proofs.Common.{fold, flat_map, range_with_len, Rectangle, int_eq, int_min, int_max, cases_Bool, cases_eq, ints, map-append, length-map, sum_by-append, sum_by-cons, count_by-le-length, nat_tests, ImageValue, pixel_at, run, row_pixels, rectangle_pixels, best_of, count_of, first_of, Part, Found, IsValidPart, get_or-run, take-map-range_with_len, found_in, extremes_of}
 use Rattle.stat_kernels.specs.declared.extreme.Extreme.{Extreme}
 use Rattle.std.specs.List.{find}
 use Rattle.std.specs.Option.{unwrap_or, option_or}
@@ -23,48 +23,42 @@ count_cons v a zs = sum_by-cons (λ s. cond (int_eq s v) 1 0) a zs
 count_append : (v : ℤ) (zs ws : List ℤ) → count_of v (zs ++ ws) ≡ count_of v zs + count_of v ws
 count_append v zs ws = sum_by-append (λ s. cond (int_eq s v) 1 0) zs ws
 
-count_here : (a : ℤ) (zs : List ℤ) → 0 < count_of a (a ∷ zs)
-count_here a zs = grind (arith, count_cons a a zs, test_same a)
-
 module _ (choose : ℤ → ℤ → ℤ) (beyond : ℤ → ℤ → Bool) (d : IsDirection choose beyond) where
-  -- what is not beyond one of two is not beyond the choice between them
-  choice_kept : (a z w : ℤ) → beyond w a ≡ false → beyond w (choose a z) ≡ false
-  choice_kept a z w below = grind (arith, cases_Bool (beyond z a), cases_Bool (beyond w z), d.takes a z, d.keeps a z, d.transitive w z a)
+  fold_joined : (a z : ℤ) (zs : List ℤ) → fold choose (choose a z) zs ≡ choose a (fold choose z zs)
+  fold_joined a z [] = refl
+  fold_joined a z (w ∷ zs) = ap (λ b. fold choose b zs) (d.associative a z w) ∙ fold_joined a (choose z w) zs
 
-  fold_kept : (a w : ℤ) (zs : List ℤ) → beyond w a ≡ false → beyond w (fold choose a zs) ≡ false
-  fold_kept a w [] below = below
-  fold_kept a w (z ∷ zs) below = fold_kept (choose a z) w zs (choice_kept a z w below)
-
-  choice_above : (a z : ℤ) → beyond z (choose a z) ≡ false
-  choice_above a z = grind (arith, cases_Bool (beyond z a), d.takes a z, d.keeps a z, d.irreflexive z)
-
-  fold_above : (a : ℤ) (zs : List ℤ) → All (λ z. beyond z (fold choose a zs) ≡ false) zs
-  fold_above a [] = All-nil (λ z. beyond z a ≡ false)
-  fold_above a (z ∷ zs) =
-      All-cons (λ w. beyond w (fold choose (choose a z) zs) ≡ false) z zs (fold_kept (choose a z) z zs (choice_above a z)) (fold_above (choose a z) zs)
-
-  -- no sample is beyond the one that is chosen
-  pub none_beyond : (zs : List ℤ) → All (λ z. beyond z (best_of choose zs) ≡ false) zs
-  none_beyond [] = All-nil (λ z. beyond z (pos 0) ≡ false)
-  none_beyond (a ∷ zs) = All-cons (λ w. beyond w (fold choose a zs) ≡ false) a zs (fold_kept a a zs (d.irreflexive a)) (fold_above a zs)
-
-  -- the one that is chosen is one of them
+  -- the sample that is chosen is one of them
   fold_counted : (a : ℤ) (zs : List ℤ) → 0 < count_of (fold choose a zs) (a ∷ zs)
-  fold_counted a [] = count_here a []
+  fold_counted a [] = grind (arith, count_cons a a [], test_same a)
   fold_counted a (z ∷ zs) =
       let v = fold choose (choose a z) zs in
       grind (arith, fold_counted (choose a z) zs, cases_Bool (beyond z a), d.takes a z, d.keeps a z, count_cons v a (z ∷ zs), count_cons v z zs, count_cons v (choose a z) zs)
 
-  -- a sample beyond the one that was chosen is none of those before
-  count_beyond : (v z : ℤ) (zs : List ℤ) → beyond z v ≡ true → All (λ w. beyond w v ≡ false) zs → count_of z zs ≡ 0
-  count_beyond v z [] is below = refl
-  count_beyond v z (a ∷ zs) is below =
-      let other : int_eq a z ≡ false = test_other a z (λ same. cc (is, same, All-head (λ w. beyond w v ≡ false) a zs below)) in
-      omega (arith, count_cons z a zs, ap (λ b. let n : ℕ = cond b 1 0 in n) other, count_beyond v z zs is (All-tail (λ w. beyond w v ≡ false) a zs below))
+  pub chosen_among : (zs : List ℤ) (v : ℤ) → 0 < length zs → v ≡ best_of choose zs → 0 < count_of v zs
+  chosen_among [] v some is = absurd (omega (arith, some))
+  chosen_among (a ∷ zs) v some is = omega (arith, fold_counted a zs, ap (λ w. count_of w (a ∷ zs)) is)
 
-  fold_joined : (a z : ℤ) (zs : List ℤ) → fold choose (choose a z) zs ≡ choose a (fold choose z zs)
-  fold_joined a z [] = refl
-  fold_joined a z (w ∷ zs) = ap (λ b. fold choose b zs) (d.associative a z w) ∙ fold_joined a (choose z w) zs
+  -- a sample beyond the one that is chosen is none of them
+  beyond_both : (w v z : ℤ) → beyond w (choose v z) ≡ true → (beyond w v ≡ true) × (beyond w z ≡ true)
+  beyond_both w v z is = elim (cases_Bool (beyond z v)) [
+    | inl taken ↦ (let there = ap (beyond w) (sym (d.takes v z taken)) ∙ is in (d.transitive w z v there taken, there))
+    | inr kept ↦
+        let there = ap (beyond w) (sym (d.keeps v z kept)) ∙ is in (
+          there,
+          elim (cases_Bool (int_eq z v)) [
+            | inl same ↦ ap (beyond w) (eq_from_test z v same) ∙ there
+            | inr other ↦ d.transitive w v z there (d.total z v kept (λ e. cc (other, e, test_same v)))
+          ],
+        )
+  ]
+
+  count_beyond : (z : ℤ) (zs : List ℤ) → beyond z (best_of choose zs) ≡ true → count_of z zs ≡ 0
+  count_beyond z [] is = refl
+  count_beyond z (a ∷ []) is = grind (arith, count_cons z a [], test_other a z (λ e. cc (is, e, d.irreflexive z)))
+  count_beyond z (a ∷ w ∷ zs) is =
+      let both = beyond_both z a (fold choose w zs) (ap (beyond z) (sym (fold_joined a w zs)) ∙ is) in
+      grind (arith, count_cons z a (w ∷ zs), test_other a z (λ e. cc (both.0, e, d.irreflexive z)), count_beyond z (w ∷ zs) both.1)
 
   -- the choice from two lists is the choice between those from each
   chosen_joined : (a w : ℤ) (zs ws : List ℤ) → best_of choose ((a ∷ zs) ++ w ∷ ws) ≡ choose (best_of choose (a ∷ zs)) (best_of choose (w ∷ ws))
@@ -79,11 +73,6 @@ module _ (choose : ℤ → ℤ → ℤ) (beyond : ℤ → ℤ → Bool) (d : IsD
   chosen_kept [] ws some not = absurd (omega (arith, some))
   chosen_kept (a ∷ zs) [] some not = ap (best_of choose) (append-nil (a ∷ zs))
   chosen_kept (a ∷ zs) (w ∷ ws) some not = chosen_joined a w zs ws ∙ d.keeps (best_of choose (a ∷ zs)) (best_of choose (w ∷ ws)) not
-
-  -- the one that is chosen is among those that it is chosen from
-  pub chosen_among : (zs : List ℤ) (v : ℤ) → 0 < length zs → v ≡ best_of choose zs → 0 < count_of v zs
-  chosen_among [] v some is = absurd (omega (arith, some))
-  chosen_among (a ∷ zs) v some is = omega (arith, fold_counted a zs, ap (λ w. count_of w (a ∷ zs)) is)
 
 -- ---- the first place
 
@@ -170,7 +159,7 @@ module _ (choose : ℤ → ℤ → ℤ) (beyond : ℤ → ℤ → Bool) (d : IsD
 
     taken : 0 < b.count → beyond b.value a.value ≡ true → b ≡ extreme_among choose f (ps ++ qs)
     taken some is =
-        let none : count_of b.value zs ≡ 0 = count_beyond choose beyond d a.value b.value zs is (none_beyond choose beyond d zs) in
+        let none : count_of b.value zs ≡ 0 = count_beyond choose beyond d b.value zs is in
         is_located choose f (ps ++ qs) b.value b.count b.at (sym (ap (best_of choose) both_samples ∙ chosen_beyond choose beyond d zs ws some is))
         (omega (arith, both_count b.value, none)) (ap (λ o. unwrap_or o (0, 0)) (sym (found_behind f b.value ps qs none)))
 
@@ -188,8 +177,7 @@ module _ (choose : ℤ → ℤ → ℤ) (beyond : ℤ → ℤ → Bool) (d : IsD
                 ∙ kept (a.count + b.count) (omega (arith, some)) not (ap (λ w. a.count + count_of w ws) equal)
             | inr differ ↦
                 let differs : b.value ≡ a.value → ⊥ = λ e. cc (differ, e, test_same a.value) in
-                let none = count_beyond choose beyond d b.value a.value ws
-                (d.total b.value a.value not differs) (none_beyond choose beyond d ws) in
+                let none = count_beyond choose beyond d a.value ws (d.total b.value a.value not differs) in
                 joined_kept beyond a b (omega (arith, some)) (omega (arith, more)) not differs
                 ∙ kept a.count (omega (arith, some)) not (omega (arith, none))
           ]

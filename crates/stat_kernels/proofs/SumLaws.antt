@@ -1,11 +1,11 @@
 -- Rows of an integral image in memory.
-use Rattle.std.proofs.Common.{true, false, ◌%◌, ◌≡◌, inl, inr, ℕ, ℤ, pos, zero, suc, ◌+◌, ◌-◌, ◌*◌, ◌<◌, ◌≤◌, List, [], ◌∷◌, ◌++◌, length, map, take, drop, get_or, replicate, Option, Some, None, ap, ◌∙◌, sym, refl, arith, add-one, unwrap_or, option_map, Bool, if◌then◌else◌, ◌==◌, Bor, option_copied, subst, unsigned_abs, append-nil, ext_get_or, get_or-drop, get_or-take}
+use Rattle.std.proofs.Common.{true, false, ◌%◌, ◌≡◌, inl, inr, ℕ, ℤ, pos, zero, suc, ◌+◌, ◌-◌, ◌*◌, ◌<◌, ◌≤◌, List, [], ◌∷◌, ◌++◌, length, map, take, drop, get_or, replicate, Option, Some, None, ap, ◌∙◌, sym, refl, arith, add-one, unwrap_or, option_map, Bool, if◌then◌else◌, ◌==◌, Bor, option_copied, subst, unsigned_abs, ext_get_or, get_or-drop, get_or-take}
 use Rattle.std.proofs.Math.ListN.{get_or-map}
 use Rattle.std.proofs.Math.Seq.{take-append_seam, take-append-add}
 use Rattle.std.specs.Option.{option_or}
-use Rattle.stat_kernels.proofs.Common.{cases_Bool, sum, sum_by, sum_by-cons, nat_tests, take-map, get_or-map-range_with_len, get_or-replicate, length-map, map-append, map-replicate, take-map-range_with_len, ImageValue, IsImage, pixel_at, band, run, zero_outside, sum_to, band-more, get_or-run, run-same, Part, IsValidPart, IsRowAbove, sum_below, sums_below, sums_row, last_row}
+use Rattle.stat_kernels.proofs.Common.{Band, cases_Bool, sum, sum_by, sum_by-cons, nat_tests, take-map, get_or-map-range_with_len, get_or-replicate, length-map, map-append, map-replicate, take-map-range_with_len, ImageValue, IsImage, pixel_at, band, run, zero_outside, sum_to, band-more, get_or-run, run-same, Part, IsValidPart, sum_below, sums_below, sums_row, last_row}
 use Rattle.vx_base.specs.Rectangle.{has_pixel}
-use Rattle.vx_base.proofs.TableLaws.{band-append, length-run, row_across, run-constant, within_elsewhere}
+use Rattle.vx_base.proofs.TableLaws.{length-run, row_across, run-constant, within_elsewhere}
 use Rattle.stat_kernels.specs.Part.{part_has_row}
 use Rattle.stat_kernels.specs.Sums.{AreRowsOf, row_sums, sum_on}
 use Rattle.stat_kernels.proofs.ScanLaws.{IsScan, above_at, band_get, first_same, row_total, scan_at, sum_on_scan, sum_to_scan, value_above}
@@ -139,16 +139,9 @@ module _ (image : ImageValue) (start width : ℕ) (before : List ℕ) (above : O
       (subst (λ n. IsScan image x (start + k) n last) (last_sums k x are long (omega arith)) (sum_on_scan image (start + k) x (row_sums (last_or width before above))))
       (scan_at image x start (row_sums above x) f (sum_on_scan image start x (row_sums above)) k) (record { pixel = refl; total = λ _. refl }))
 
--- the first row of some, and those below it
-pub rows_below : (image : ImageValue) → IsImage image → (start count n : ℕ) (first others : List ℕ) → count ≡ 1 + n → map pos first ≡ sums_row image start
-    → ((whole : ImageValue) (line : ℕ) → AreRowsOf image (record { start = start + 1; count = n }) whole line → IsRowAbove whole line (Some first) → map pos others ≡ band image.width line n (zero_outside whole.valid (sum_to whole)))
-    → map pos (first ++ others) ≡ band image.width start count (zero_outside image.valid (sum_to image))
-rows_below image is start count n first others next top rest =
-    let f = zero_outside image.valid (sum_to image) in
-    let back : start ≡ start + 1 - 1 = omega arith in
-    let below = rest image (start + 1) (record { is = is; each = λ k h. record { width = refl; valid = λ x. refl; samples = λ x below. refl } }) (omega arith, top ∙ ap (sums_row image) back) in
-    map-append pos first others ∙ ap (λ l. l ++ map pos others) (top ∙ sym (append-nil (sums_row image start))) ∙ ap (λ l. band image.width start 1 f ++ l) below
-    ∙ sym (band-append image.width start 1 n f) ∙ ap (λ m. band image.width start m f) (sym next)
+-- an image's rows are its own
+pub own_rows : (image : ImageValue) → IsImage image → (rows : Band) → AreRowsOf image rows image rows.start
+own_rows image is rows = record { is = is; each = λ k h. record { width = refl; valid = λ x. refl; samples = λ x below. refl } }
 
 -- one more row is written
 module _ (y width : ℕ) (before row rest : List ℕ) (start : length before ≡ y * width) (long : length row ≡ width) where

@@ -31,7 +31,7 @@ fn count_values(
     ensures few { length (valid_samples (valid_in rows image.now)) < 2 ^ 32 }
 {
     let _limits = image.desc().height();
-    let part = Part::of(image).in_rows(rows);
+    let part = Part::of_rows(image, rows);
     for y in part.top..part.bottom {
         let row = image.part_of_row::<u8>(part.x, y, part.count);
         tally_row(row, first, second, third, fourth);

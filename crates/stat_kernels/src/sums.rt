@@ -143,8 +143,8 @@ pub fn integral_on(image: &Image<'_>, rows: Band, above: Option<&[u32]>, samples
     }
 }
 
-/// Writes a band of the integral image: its first row by summing all rows above it, the others each
-/// from the row above.
+/// Writes a band of the integral image, from the row above the band, which is the sum of all rows
+/// up to it.
 fn write_integral_rows(image: &Image<'_>, rows: Band, samples: &mut [u32])
     requires format { image.now.format ≡ U8 }
     requires rows { IsInRows image.now.height rows }
@@ -153,16 +153,14 @@ fn write_integral_rows(image: &Image<'_>, rows: Band, samples: &mut [u32])
         (zero_outside image.now.valid (sum_to image.now)) }
 {
     let _valid = image.valid();
-    if rows.count == 0 {
-        return;
+    if rows.start == 0 {
+        integral_on(image, rows, None, samples);
+    } else {
+        let mut room = [0; LONGEST_ROW];
+        let above = &mut room[..usize::from(image.desc().width())];
+        write_row_from_top(image, rows.start - 1, above);
+        integral_on(image, rows, Some(above), samples);
     }
-    let (first, others) = samples.split_at_mut(usize::from(image.desc().width()));
-    write_row_from_top(image, rows.start, first);
-    let below = Band {
-        start: rows.start + 1,
-        count: rows.count - 1,
-    };
-    integral_on(image, below, Some(first), others);
 }
 
 /// An image whose integral image is written.
