@@ -36,13 +36,10 @@ row_lowered r s f g y down width same samples within = elim (cases_Bool (has_pix
       let columns = same_columns r s y (y + down) same (omega (arith, one.right)) one.top one.bottom in
       let row_is : row_of r y ≡ row_pixels s.x0 (s.x1 - s.x0) y =
       row_some r y one.top one.bottom ∙ ap (λ n. row_pixels n (r.x1 - n) y) columns.first ∙ ap (λ n. row_pixels s.x0 (n - s.x0) y) columns.last in
-      subst (λ ps. AreLowered down f g ps (row_of s (y + down))) (sym row_is)
-      (subst (λ qs. AreLowered down f g (row_pixels s.x0 (s.x1 - s.x0) y) qs) (sym (row_some s (y + down) columns.top columns.bottom))
-      (lowered_row down f g s.x0 (s.x1 - s.x0) y (λ x from to. samples x (omega (arith, from, to, within))))))
+      rw (row_is, row_some s (y + down) columns.top columns.bottom) (lowered_row down f g s.x0 (s.x1 - s.x0) y (λ x from to. samples x (omega (arith, from, to, within)))))
   | inr none ↦
       (let nowhere = none_inside r y none in
-      subst (λ ps. AreLowered down f g ps (row_of s (y + down))) (sym (row_none r y nowhere))
-      (subst (λ qs. AreLowered down f g [] qs) (sym (row_none s (y + down) (λ x. sym (same x) ∙ nowhere x))) (lowered_none down f g)))
+      rw (row_none r y nowhere, row_none s (y + down) (λ x. sym (same x) ∙ nowhere x)) (lowered_none down f g))
 ]
 
 -- the extremes of rows of one image and of a band of another, whose rows equal those below them, `down` rows lower

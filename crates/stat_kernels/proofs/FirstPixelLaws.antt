@@ -1,6 +1,6 @@
 -- Extremes with one more row.
-use Rattle.std.proofs.Common.{zero, suc, ◌⊎◌, inl, inr, ◌≡◌, ℕ, ℤ, pos, ◌+◌, ◌<◌, ◌≤◌, List, [], ◌∷◌, ◌++◌, length, map, cond, Bool, true, false, ap, ◌∙◌, sym, refl, arith, Some, None, ◌-◌, take, get_or, add-one, int_lt, append-nil}
-use Rattle.stat_kernels.proofs.Common.{fold, flat_map, range_with_len, Rectangle, int_eq, int_min, int_max, cases_Bool, cases_eq, ints, map-append, length-map, sum_by-append, sum_by-cons, count_by-le-length, nat_tests, ImageValue, pixel_at, run, row_pixels, rectangle_pixels, best_of, count_of, first_of, Part, Found, IsValidPart, get_or-run, take-map-range_with_len, found_in, extremes_of}
+use Rattle.std.proofs.Common.{zero, suc, ◌⊎◌, inl, inr, ◌≡◌, ℕ, ℤ, pos, ◌+◌, ◌<◌, ◌≤◌, List, [], ◌∷◌, ◌++◌, length, map, cond, Bool, true, false, ap, ◌∙◌, sym, refl, arith, Some, None, ◌-◌, take, get_or, int_lt, append-nil}
+use Rattle.stat_kernels.proofs.Common.{fold, flat_map, range_with_len, Rectangle, int_eq, int_min, int_max, cases_Bool, cases_eq, ints, map-append, length-map, sum_by-append, sum_by-cons, count_by-le-length, nat_tests, ImageValue, pixel_at, run, row_pixels, rectangle_pixels, best_of, count_of, first_of, Part, Found, IsValidPart, found_in, extremes_of}
 use Rattle.stat_kernels.specs.declared.extreme.Extreme.{Extreme}
 use Rattle.std.specs.List.{find}
 use Rattle.std.specs.Option.{unwrap_or, option_or}
@@ -8,8 +8,17 @@ use Rattle.std.proofs.lemmas.List.Sums.{fold-append}
 use Rattle.std.proofs.lemmas.List.Folds.{find-append}
 use Rattle.stat_kernels.proofs.Rows.{above}
 use Rattle.lane_rows.proofs.CountLaws.{eq_from_test, test_same, test_other}
-use Rattle.stat_kernels.proofs.PlaceLaws.{next_places, places_fit, row_samples, row_places-append}
-use Rattle.stat_kernels.specs.Extreme.{IsDirection, extreme_among, merge_found, shift_down, shift_found, merge}
+use Rattle.stat_kernels.proofs.PlaceLaws.{next_places, places_fit, row_samples}
+use Rattle.stat_kernels.specs.Extreme.{row_extreme, extreme_among, merge_found, shift_down, shift_found, merge}
+
+-- `choose` takes the sample that is beyond the other one, by the strict order `beyond`
+pub record IsDirection (choose : ℤ → ℤ → ℤ) (beyond : ℤ → ℤ → Bool) : Type 0 where
+  pub takes : (v z : ℤ) → beyond z v ≡ true → choose v z ≡ z
+  pub keeps : (v z : ℤ) → beyond z v ≡ false → choose v z ≡ v
+  pub irreflexive : (z : ℤ) → beyond z z ≡ false
+  pub total : (z v : ℤ) → beyond z v ≡ false → (z ≡ v → ⊥) → beyond v z ≡ true
+  pub associative : (v z w : ℤ) → choose (choose v z) w ≡ choose v (choose z w)
+  pub transitive : (w z v : ℤ) → beyond w z ≡ true → beyond z v ≡ true → beyond w v ≡ true
 
 pub downwards : IsDirection int_min int_lt
 downwards = grind (arith, ints)
@@ -94,13 +103,19 @@ found_behind : (f : ℕ → ℕ → ℤ) (v : ℤ) (ps qs : List (ℕ × ℕ)) �
 found_behind f v ps qs none = find-append (holds f v) ps qs ∙ ap (λ o. option_or o (find (holds f v) qs)) (found_none f v ps none)
 
 -- where a row holds it first
-first_in_row : (f : ℕ → ℕ → ℤ) (v : ℤ) (x n y i m : ℕ) → n ≡ i + (m + 1) → count_of v (samples f (row_pixels x i y)) ≡ 0 → f (x + i) y ≡ v → find (holds f v) (row_pixels x n y) ≡ Some (x + i, y)
-first_in_row f v x n y i m split none is =
-    ap (λ k. find (holds f v) (row_pixels x k y)) split
-    ∙ ap (find (holds f v)) (row_places-append x i (m + 1) y)
-    ∙ found_behind f v (row_pixels x i y) (row_pixels (x + i) (m + 1) y) none
-    ∙ ap (λ k. find (holds f v) (row_pixels (x + i) k y)) (add-one m)
-    ∙ ap (λ b. cond b (Some (x + i, y)) (find (holds f v) (row_pixels (x + i + 1) m y))) (ap (λ w. int_eq w v) is ∙ test_same v)
+first_in_row : (f : ℕ → ℕ → ℤ) (v : ℤ) (x y : ℕ) (ws : List ℤ) (i : ℕ) → ws ≡ run x (length ws) (λ k. f k y) → i < length ws → get_or ws i (pos 0) ≡ v → count_of v (take i ws) ≡ 0 → find (holds f v) (row_pixels x (length ws) y) ≡ Some (x + i, y)
+first_in_row f v x y [] i row below here none = absurd (omega (arith, below))
+first_in_row f v x y (w ∷ ws) zero row below here none =
+    let at : f x y ≡ v = cc in
+    let first : x ≡ x + 0 = omega arith in
+    ap (λ b. cond b (Some (x, y)) (find (holds f v) (row_pixels (x + 1) (length ws) y))) (ap (λ z. int_eq z v) at ∙ test_same v) ∙ ap (λ k. Some (k, y)) first
+first_in_row f v x y (w ∷ ws) (suc i) row below here none =
+    let at : w ≡ f x y = cc in
+    let rest : ws ≡ run (x + 1) (length ws) (λ k. f k y) = cc in
+    let next : x + 1 + i ≡ x + suc i = omega arith in
+    let other : int_eq w v ≡ false = grind (arith, count_cons v w (take i ws), none, cases_Bool (int_eq w v)) in
+    ap (λ b. cond b (Some (x, y)) (find (holds f v) (row_pixels (x + 1) (length ws) y))) (ap (λ z. int_eq z v) (sym at) ∙ other)
+    ∙ first_in_row f v (x + 1) y ws i rest (omega (arith, below)) here (omega (arith, count_cons v w (take i ws), none)) ∙ ap (λ k. Some (k, y)) next
 
 -- no count is above the number of places
 pub at_most : (choose : ℤ → ℤ → ℤ) (f : ℕ → ℕ → ℤ) (ps : List (ℕ × ℕ)) → (extreme_among choose f ps).count ≤ length ps
@@ -185,33 +200,28 @@ module _ (choose : ℤ → ℤ → ℤ) (beyond : ℤ → ℤ → Bool) (d : IsD
       ]
     ]
 
-  -- one more row, whose extreme is v, at each way through the code
-  module _ (x n y : ℕ) (ws : List ℤ) (row : ws ≡ run x n (λ k. f k y)) (v : ℤ) (is : v ≡ best_of choose ws) (among : 0 < count_of v ws) (ps : List (ℕ × ℕ)) (old : Extreme) (same : old ≡ extreme_among choose f ps) where
-    abbrev its : Extreme
-    its = parts v (count_of v ws) (first_of f v (row_pixels x n y))
+  -- one more row, whose extreme is v
+  pub row_joined : (x y : ℕ) (ws : List ℤ) (v : ℤ) (ps : List (ℕ × ℕ)) (old : Extreme) → ws ≡ run x (length ws) (λ k. f k y) → v ≡ best_of choose ws → old ≡ extreme_among choose f ps
+      → merge beyond old (row_extreme f v ws x y) ≡ extreme_among choose f (ps ++ row_pixels x (length ws) y)
+  row_joined x y ws v ps old row is same =
+      let qs = row_pixels x (length ws) y in
+      let samples_are : ws ≡ samples f qs = row ∙ sym (row_samples f x (length ws) y) in
+      ap (merge beyond old) (is_located choose f qs v (count_of v ws) (first_of f v qs) (is ∙ ap (best_of choose) samples_are) (ap (count_of v) samples_are) refl)
+      ∙ ap (λ a. merge beyond a (extreme_among choose f qs)) same ∙ located_joined ps qs
 
-    joins : (new : Extreme) → new ≡ merge beyond old its → new ≡ extreme_among choose f (ps ++ row_pixels x n y)
-    joins new e =
-        let samples_are : ws ≡ samples f (row_pixels x n y) = row ∙ sym (row_samples f x n y) in
-        let row_is : its ≡ extreme_among choose f (row_pixels x n y) =
-        is_located choose f (row_pixels x n y) v (count_of v ws) _ (is ∙ ap (best_of choose) samples_are) (ap (count_of v) samples_are) refl in
-        e ∙ ap (merge beyond old) row_is ∙ ap (λ a. merge beyond a (extreme_among choose f (row_pixels x n y))) same
-        ∙ located_joined ps (row_pixels x n y)
+-- the extreme of a row, merged at each way through the code
+module _ (beyond : ℤ → ℤ → Bool) (f : ℕ → ℕ → ℤ) (x y : ℕ) (ws : List ℤ) (v : ℤ) (old : Extreme) (among : 0 < count_of v ws) where
+  pub row_taken : (old.count ≡ 0) ⊎ (beyond v old.value ≡ true) → ws ≡ run x (length ws) (λ k. f k y) → (m i : ℕ) → m ≡ count_of v ws → i < length ws → get_or ws i (pos 0) ≡ v → count_of v (take i ws) ≡ 0
+      → parts v m (x + i, y) ≡ merge beyond old (row_extreme f v ws x y)
+  row_taken either row m i count below here before =
+      ap (λ k. parts v k (x + i, y)) count ∙ ap (λ o. parts v (count_of v ws) (unwrap_or o (0, 0))) (sym (first_in_row f v x y ws i row below here before)) ∙ sym (joined_taken beyond old (row_extreme f v ws x y) among either)
 
-    pub joins_taken : (old.count ≡ 0) ⊎ (beyond v old.value ≡ true) → (m i : ℕ) → m ≡ count_of v ws → i < n → get_or ws i (pos 0) ≡ v → count_of v (take i ws) ≡ 0 → parts v m (x + i, y) ≡ extreme_among choose f (ps ++ row_pixels x n y)
-    joins_taken either m i count below here before =
-        let left : samples f (row_pixels x i y) ≡ take i ws =
-        row_samples f x i y ∙ sym (ap (take i) row ∙ take-map-range_with_len (λ k. f k y) x n i (omega (arith, below))) in
-        let at_place : f (x + i) y ≡ v = sym (ap (λ l. get_or l i (pos 0)) row ∙ get_or-run (λ k. f k y) x n i (pos 0) below) ∙ here in
-        let first = first_in_row f v x n y i (n - (i + 1)) (omega (arith, below)) (ap (count_of v) left ∙ before) at_place in
-        joins _ (ap (λ k. parts v k (x + i, y)) count ∙ ap (λ o. parts v (count_of v ws) (unwrap_or o (0, 0))) (sym first) ∙ sym (joined_taken beyond old its among either))
+  pub row_equal : (m : ℕ) → 0 < old.count → beyond v old.value ≡ false → v ≡ old.value → m ≡ count_of v ws → parts v (old.count + m) old.at ≡ merge beyond old (row_extreme f v ws x y)
+  row_equal m some below equal count =
+      ap (λ k. parts v (old.count + k) old.at) count ∙ ap (λ w. parts w (old.count + count_of v ws) old.at) equal ∙ sym (joined_equal beyond old (row_extreme f v ws x y) some among below equal)
 
-    pub joins_equal : (m : ℕ) → 0 < old.count → beyond v old.value ≡ false → v ≡ old.value → m ≡ count_of v ws → parts v (old.count + m) old.at ≡ extreme_among choose f (ps ++ row_pixels x n y)
-    joins_equal m some below equal count =
-        joins _ (ap (λ k. parts v (old.count + k) old.at) count ∙ ap (λ w. parts w (old.count + count_of v ws) old.at) equal ∙ sym (joined_equal beyond old its some among below equal))
-
-    pub joins_other : 0 < old.count → beyond v old.value ≡ false → (v ≡ old.value → ⊥) → old ≡ extreme_among choose f (ps ++ row_pixels x n y)
-    joins_other some below other = joins old (sym (joined_kept beyond old its some among below other))
+  pub row_kept : 0 < old.count → beyond v old.value ≡ false → (v ≡ old.value → ⊥) → old ≡ merge beyond old (row_extreme f v ws x y)
+  row_kept some below other = sym (joined_kept beyond old (row_extreme f v ws x y) some among below other)
 
 -- one more row
 pub next_found : (image : ImageValue) (part : Part) → IsValidPart image part → (y : ℕ) (new : Found) → part.top ≤ y

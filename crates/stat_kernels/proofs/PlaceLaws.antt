@@ -72,10 +72,6 @@ module _ (image : ImageValue) (part : Part) (is : IsValidPart image part) where
   pub samples_fit : length (samples_in image.valid image) < 4294967296
   samples_fit = omega (arith, length-samples image.valid image, area_fits (image.valid.y1 - image.valid.y0) (image.valid.x1 - image.valid.x0) (omega (arith, is.rows_fit, is.bottom)) (omega (arith, is.count, is.columns_fit)))
 
--- the places of a row, cut in two
-pub row_places-append : (x m n y : ℕ) → row_pixels x (m + n) y ≡ row_pixels x m y ++ row_pixels (x + m) n y
-row_places-append x m n y = ap (map (λ k. (k, y))) (range-append x m n) ∙ map-append (λ k. (k, y)) (range_with_len x m) (range_with_len (x + m) n)
-
 -- ---- the pixels of a row
 
 pub record IsInside (r : Rectangle) (x y : ℕ) : Type 0 where
@@ -99,14 +95,9 @@ pub record SameColumns (r s : Rectangle) (line : ℕ) : Type 0 where
   pub bottom : line < s.y1
 
 pub same_columns : (r s : Rectangle) (y line : ℕ) → ((x : ℕ) → has_pixel r x y ≡ has_pixel s x line) → r.x0 < r.x1 → r.y0 ≤ y → y < r.y1 → SameColumns r s line
-same_columns r s y line same some above below =
-    let other = inside_parts s r.x0 line (sym (same r.x0) ∙ inside_from r r.x0 y (omega arith) some above below) in
-    let back = inside_parts r s.x0 y (same s.x0 ∙ inside_from s s.x0 line (omega arith) (omega (arith, other.left, other.right)) other.top other.bottom) in
-    let last = inside_parts s (r.x1 - 1) line (sym (same (r.x1 - 1)) ∙ inside_from r (r.x1 - 1) y (omega (arith, some)) (omega (arith, some)) above below) in
-    let last_back = inside_parts r (s.x1 - 1) y (same (s.x1 - 1) ∙ inside_from s (s.x1 - 1) line (omega (arith, other.left, other.right)) (omega (arith, other.right)) other.top other.bottom) in
-    record {
-      first = omega (arith, back.left, other.left);
-      last = omega (arith, some, other.right, last.right, last_back.right);
-      top = other.top;
-      bottom = other.bottom;
-    }
+same_columns r s y line same some above below = record {
+  first = grind (arith, nat_tests, same r.x0, same s.x0);
+  last = grind (arith, nat_tests, same r.x0, same (r.x1 - 1), same (s.x1 - 1));
+  top = grind (arith, nat_tests, same r.x0);
+  bottom = grind (arith, nat_tests, same r.x0);
+}

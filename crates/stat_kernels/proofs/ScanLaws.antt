@@ -8,7 +8,7 @@ use Rattle.vx_base.specs.Sample.{IsSample}
 use Rattle.vx_base.proofs.ImageLaws.{get_or-table}
 use Rattle.vx_base.proofs.TableLaws.{within_elsewhere, within_inside}
 use Rattle.stat_kernels.specs.Sums.{AreRowsOf, row_sums, sum_between, sum_on}
-use Rattle.stat_kernels.proofs.PlaceLaws.{inside_from, inside_parts, samples_more}
+use Rattle.stat_kernels.proofs.PlaceLaws.{inside_parts, samples_more}
 
 -- the sum of the valid samples of row y up to column x
 abbrev pub row_total : ImageValue → ℕ → ℕ → ℕ
@@ -114,11 +114,7 @@ rows_agree : (a b : ImageValue) (x y line : ℕ) → ((k : ℕ) → has_pixel a.
 rows_agree a b x y line valid same = record {
   pixel = valid x;
   total = λ is.
-      let i = inside_parts b.valid x line is in
-      let j = inside_parts a.valid x y (valid x ∙ is) in
-      let k = inside_parts a.valid b.valid.x0 y (valid b.valid.x0 ∙ inside_from b.valid b.valid.x0 line (omega arith) (omega arith) i.top i.bottom) in
-      let l = inside_parts b.valid a.valid.x0 line (sym (valid a.valid.x0) ∙ inside_from a.valid a.valid.x0 y (omega arith) (omega arith) j.top j.bottom) in
-      let first : a.valid.x0 ≡ b.valid.x0 = omega arith in
+      let first : a.valid.x0 ≡ b.valid.x0 = grind (arith, nat_tests, is, valid x, valid a.valid.x0, valid b.valid.x0) in
       ap (λ n. sum_by unsigned_abs (run n (x + 1 - n) (λ k. pixel_at a k y))) first
       ∙ ap (sum_by unsigned_abs) (run-same (λ k. pixel_at a k y) (λ k. pixel_at b k line) b.valid.x0 (x + 1 - b.valid.x0) (λ k from to. same k (omega arith)));
 }
