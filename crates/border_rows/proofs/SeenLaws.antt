@@ -1,12 +1,12 @@
 -- What windows read along rows.
-use Rattle.std.proofs.Common.{◌≡◌, ℕ, ℤ, pos, ◌+◌, ◌-◌, ◌<◌, ◌≤◌, ◌+ℤ◌, ◌-ℤ◌, ◌<ℤ◌, ◌≤ℤ◌, ◌&&◌, Bool, true, false, cond, List, ◌++◌, length, map, replicate, min, max, take, get_or, refl, ap, ◌∙◌, sym, arith, zero-add, Option, Some, None, int_lt, int_le, unsigned_abs}
+use Rattle.std.proofs.Common.{◌≡◌, ℕ, ℤ, pos, ◌+◌, ◌-◌, ◌<◌, ◌≤◌, ◌-ℤ◌, ◌<ℤ◌, ◌≤ℤ◌, ◌&&◌, Bool, true, false, cond, List, ◌++◌, length, map, replicate, min, max, take, get_or, refl, ap, ◌∙◌, sym, arith, zero-add, Option, Some, None, int_lt, int_le, unsigned_abs}
 use Rattle.std.proofs.lemmas.Int.{ints, by_lt_z}
 use Rattle.std.proofs.lemmas.List.{take-map, take-replicate}
 use Rattle.std.proofs.Math.ListN.{get_or-map}
 use Rattle.vx_base.specs.declared.border.Border.{Border}
 use Rattle.vx_base.specs.declared.border.Border.TheVariants.{Undefined, Constant, Replicate}
 use Rattle.vx_base.specs.Rectangle.{Rectangle}
-use Rattle.vx_base.specs.Image.{ImageValue, run, pixel_at}
+use Rattle.vx_base.specs.Image.{ImageValue, IsImage, run, pixel_at}
 use Rattle.vx_base.specs.Window.{clamp_coordinate, border_sample, sample_or_border}
 use Rattle.vx_base.proofs.TableLaws.{run-append, run-same, run-constant, get_or-run}
 use Rattle.vx_base.proofs.WindowLaws.{run_shifted}
@@ -61,6 +61,10 @@ seen_inside image border x line a b = rw (not_below x (pos image.valid.x0) a, be
 
 pub seen_right : (image : ImageValue) (border : Border) (x : ℤ) (line : ℕ) → pos image.valid.x0 ≤ℤ x → pos image.valid.x1 ≤ℤ x → seen_along image border line x ≡ border_value border (pixel_at image (image.valid.x1 - 1) line)
 seen_right image border x line a b = rw (not_below x (pos image.valid.x0) a, not_below x (pos image.valid.x1) b) refl
+
+-- the row that is seen, from a test of it
+pub row_is : (image : ImageValue) (border : Border) (y z : ℤ) (found o : Option ℕ) → y ≡ z → found ≡ row_seen image.valid border y → found ≡ o → row_seen image.valid border z ≡ o
+row_is image border y z found o same is at = ap (row_seen image.valid border) (sym same) ∙ sym is ∙ at
 
 -- ---- rows
 
@@ -154,10 +158,20 @@ seen_in_three image border line start radius n b m first left right samples some
     after : (c : ℕ) → start + b + m ≤ c → c < start + b + m + (n - (b + m)) → g c ≡ pos right
     after c h k = seen_right image border (pos c -ℤ pos radius) line (omega (arith, ints)) (omega (arith, ints)) ∙ sym is_right
 
+-- the valid columns, from a rectangle that is lent
+pub record EdgesAre (image : ImageValue) (r : Rectangle) : Type 0 where
+  pub first : r.x0 ≡ image.valid.x0
+  pub end : r.x1 ≡ image.valid.x1
+  pub room : image.valid.x1 ≤ image.width
+
+pub edges_are : (image : ImageValue) (r : Rectangle) → IsImage image → r ≡ image.valid → EdgesAre image r
+edges_are image r is same = record { first = ap (λ (r : Rectangle). r.x0) same; end = ap (λ (r : Rectangle). r.x1) same; room = is.room.columns }
+
 -- a sample of a row
-pub item_of_row : (row : List ℕ) (g : ℕ → ℤ) (w i : ℕ) → map pos row ≡ run 0 w g → length row ≡ w → i < w → pos (get_or row i 0) ≡ g i
-item_of_row row g w i same long below =
-    sym (get_or-map pos row i 0) ∙ ap (λ l. get_or l i (pos 0)) same ∙ get_or-run g 0 w i (pos 0) below ∙ ap g (zero-add i)
+pub item_is : (image : ImageValue) (line : ℕ) (row : List ℕ) (k x : ℕ) → map pos row ≡ run 0 image.width (λ x. pixel_at image x line) → k ≡ x → x < image.width → pos (get_or row k 0) ≡ pixel_at image x line
+item_is image line row k x same at below =
+    ap (λ i. pos (get_or row i 0)) at ∙ sym (get_or-map pos row x 0) ∙ ap (λ l. get_or l x (pos 0)) same
+    ∙ get_or-run (λ x. pixel_at image x line) 0 image.width x (pos 0) below ∙ ap (λ i. pixel_at image i line) (zero-add x)
 
 -- ---- rows that are read in place
 
@@ -174,46 +188,3 @@ pub seen_nowhere : (image : ImageValue) (border : Border) (x count : ℕ) (y : �
 seen_nowhere image border x count y all off same room =
     rw (← take-map pos count all, same, take-replicate count (length all) (border_value border (pos 0)) room, ← run-constant (border_value border (pos 0)) x count)
     (run-same (λ _. border_value border (pos 0)) (λ c. sample_or_border image border (pos c) y) x count (λ k a b. sym (look_off image border (pos k) y off)))
-
--- ---- outside the valid columns the border depends on the nearest one
-
-elsewhere_again : (border : Border) (z : ℤ) → border_value border (border_value border z) ≡ border_value border z
-elsewhere_again Undefined z = refl
-elsewhere_again (Constant value) z = refl
-elsewhere_again Replicate z = refl
-
--- column x outside the valid ones; column e is the nearest of them
-look_from_edge : (image : ImageValue) (border : Border) (x y : ℤ) (e : ℕ) (seen : Option ℕ) → row_seen image.valid border y ≡ seen → image.valid.x0 < image.valid.x1
-    → ((line : ℕ) → seen_along image border line x ≡ border_value border (pixel_at image e line)) → image.valid.x0 ≤ e → e < image.valid.x1 → sample_or_border image border x y ≡ border_value border (sample_or_border image border (pos e) y)
-look_from_edge image border x y e (Some line) is some along left right =
-    rw (look_along image border x y line some is, along line, look_inside image border (pos e) y line is (omega (arith, ints)) (omega (arith, ints))) refl
-look_from_edge image border x y e None is some along left right =
-    rw (look_off image border x y is, look_off image border (pos e) y is) (sym (elsewhere_again border (pos 0)))
-
-pub look_left : (image : ImageValue) (border : Border) (x y : ℤ) → image.valid.x0 < image.valid.x1 → x <ℤ pos image.valid.x0 → sample_or_border image border x y ≡ border_value border (sample_or_border image border (pos image.valid.x0) y)
-look_left image border x y some h =
-    look_from_edge image border x y image.valid.x0 (row_seen image.valid border y) refl some (λ line. seen_left image border x line h) (omega arith) some
-
-pub look_right : (image : ImageValue) (border : Border) (x y : ℤ) → image.valid.x0 < image.valid.x1 → pos image.valid.x1 ≤ℤ x → sample_or_border image border x y ≡ border_value border (sample_or_border image border (pos (image.valid.x1 - 1)) y)
-look_right image border x y some h =
-    look_from_edge image border x y (image.valid.x1 - 1) (row_seen image.valid border y) refl some (λ line. seen_right image border x line (omega (arith, ints)) h) (omega arith) (omega arith)
-
--- ---- the neighbours of a column
-
--- the left neighbour of the first valid column, and of another one
-pub left_of_first : (image : ImageValue) (border : Border) (x line : ℕ) (v : ℕ) → x ≡ image.valid.x0 → pos v ≡ pixel_at image x line → border_value border (pos v) ≡ seen_along image border line (pos x -ℤ pos 1)
-left_of_first image border x line v first is =
-    ap (border_value border) (is ∙ ap (λ k. pixel_at image k line) first) ∙ sym (seen_left image border (pos x -ℤ pos 1) line (omega (arith, ints)))
-
-pub left_of_other : (image : ImageValue) (border : Border) (x line k v : ℕ) → image.valid.x0 < x → x < image.valid.x1 → k ≡ x - 1 → pos v ≡ pixel_at image k line → pos v ≡ seen_along image border line (pos x -ℤ pos 1)
-left_of_other image border x line k v after before here is =
-    is ∙ ap (λ j. pixel_at image j line) (let e : k ≡ unsigned_abs (pos x -ℤ pos 1) = omega (arith, ints) in e) ∙ sym (seen_inside image border (pos x -ℤ pos 1) line (omega (arith, ints)) (omega (arith, ints)))
-
--- the right neighbour of the last valid column, and of another one
-pub right_of_last : (image : ImageValue) (border : Border) (x line : ℕ) (v : ℕ) → image.valid.x0 ≤ x → x + 1 ≡ image.valid.x1 → pos v ≡ pixel_at image x line → border_value border (pos v) ≡ seen_along image border line (pos x +ℤ pos 1)
-right_of_last image border x line v inside last is =
-    ap (border_value border) (is ∙ ap (λ k. pixel_at image k line) (let e : x ≡ image.valid.x1 - 1 = omega arith in e)) ∙ sym (seen_right image border (pos x +ℤ pos 1) line (omega (arith, ints)) (omega (arith, ints)))
-
-pub right_of_other : (image : ImageValue) (border : Border) (x line k v : ℕ) → image.valid.x0 ≤ x → x + 1 < image.valid.x1 → k ≡ x + 1 → pos v ≡ pixel_at image k line → pos v ≡ seen_along image border line (pos x +ℤ pos 1)
-right_of_other image border x line k v after before here is =
-    is ∙ ap (λ j. pixel_at image j line) (let e : k ≡ unsigned_abs (pos x +ℤ pos 1) = omega (arith, ints) in e) ∙ sym (seen_inside image border (pos x +ℤ pos 1) line (omega (arith, ints)) (omega (arith, ints)))
