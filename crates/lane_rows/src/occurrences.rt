@@ -1,4 +1,6 @@
 //! The number of times that an item occurs in a row, and its first index.
+#![tactic(auto, using(crate::proofs::CountLaws::counts))]
+
 ghost use Rattle.std.specs.Prelude.{◌≡◌, ◌*◌, ◌<◌, ◌≤◌, ◌^◌, pos, map, length, slice_range};
 ghost use Rattle.std.specs.Prelude.{slice_index_or};
 ghost use Rattle.vx_base.specs.Statistics.{count_of};
