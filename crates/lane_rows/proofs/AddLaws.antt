@@ -1,6 +1,6 @@
 -- Pairs that are added one after another.
 use Rattle.std.proofs.Common.{◌≡◌, ℕ, ℤ, ◌+◌, ◌-◌, ◌*◌, ◌≤◌, List, length, map, ap, ◌∙◌, sym, subst, arith, w32, to_z, of_z, ◌%◌, ◌+ℤ◌}
-use Rattle.lane_rows.proofs.PairNames.{Each1, zip2, length-map, run, IsNear, row_sum, pair_at, first_of_pair, second_of_pair}
+use Rattle.lane_rows.proofs.Common.{Each1, zip2, length-map, run, IsNear, row_sum, pair_at, first_of_pair, second_of_pair}
 use Rattle.lane_rows.proofs.BitLaws.{each_fits_32, up_to_more, added, added_bits, added_up_to, length-added}
 use Rattle.lane_rows.proofs.ShortLaws.{of_bits}
 use Rattle.lane_rows.proofs.PairLaws.{AreAdded, none_added, pair_added}

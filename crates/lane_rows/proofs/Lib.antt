@@ -12,7 +12,6 @@ mod NarrowLaws
 mod ShortLanes
 mod ThresholdLaws
 mod StoreLaws
-mod Names
 pub mod CountLaws
 mod RunningLaws
 mod TallyLaws
@@ -26,7 +25,6 @@ mod ThreeLaws
 mod SampleLaws
 mod DepthLaws
 mod SumLaws
-mod PairNames
 pub mod BitLaws
 mod PairLaws
 mod AddLaws

@@ -1,6 +1,6 @@
 -- Rows of a matrix that are added one after another.
 use Rattle.std.proofs.Common.{◌≡◌, ℕ, ℤ, pos, zero, get_or, ◌+◌, ◌-◌, ◌*◌, ◌<◌, ◌≤◌, List, [], ◌∷◌, ◌++◌, length, map, take, drop, replicate, refl, ap, ◌∙◌, sym, subst, arith, add-one, suc, w32, to_z, of_z, ◌+ℤ◌, unsigned_abs, All}
-use Rattle.lane_rows.proofs.PairNames.{MatrixRows, matrix_sum, Each1, chunk, pick_l, length-map, Each1-chunk, length-chunk, to_z-of_z, run, run-same, IsNear, row_sum, line_of, sum_of_rows}
+use Rattle.lane_rows.proofs.Common.{MatrixRows, matrix_sum, Each1, chunk, pick_l, length-map, Each1-chunk, length-chunk, to_z-of_z, run, run-same, IsNear, row_sum, line_of, sum_of_rows}
 use Rattle.std.proofs.lemmas.Simd.{Each1-replicate, Each1-from_get_or}
 use Rattle.lane_rows.proofs.BitLaws.{picked, fits_32, each_fits_32, up_to_more, Each1-append}
 use Rattle.lane_rows.proofs.ShortLaws.{of_bits}

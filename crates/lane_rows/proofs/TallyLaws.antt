@@ -1,6 +1,6 @@
 -- Counts of the first bytes of a row.
 use Rattle.std.proofs.Common.{◌≡◌, ℕ, pos, ◌+◌, ◌*◌, ◌<◌, List, [], ◌∷◌, length, map, take, get_or, cond, suc, refl, ap, ◌∙◌, arith, unsigned_abs, ◌==◌}
-use Rattle.lane_rows.proofs.Names.{All, get_or-map, length-map, All-nil, All-cons, sum_by_more, count_at}
+use Rattle.lane_rows.proofs.Common.{All, get_or-map, length-map, All-nil, All-cons, sum_by_more, count_at}
 
 -- one sample more
 pub one_at : (v : ℕ) (row : List ℕ) (i j : ℕ) → i < length row → j ≡ i + 1 → count_at v (take j (map pos row)) ≡ count_at v (take i (map pos row)) + cond (get_or row i 0 == v) 1 0

@@ -6,7 +6,7 @@ ghost use Rattle.std.specs.Prelude.{FitsSigned};
 ghost use Rattle.std.specs.Int.{w16, w32, int_div_euclid};
 ghost use Rattle.std.specs.Simd.Lanes.{zip2, Each1};
 ghost use Rattle.vx_base.specs.declared.format.Format.TheVariants.{S16};
-ghost use Rattle.vx_base.specs.declared.policy.Policy.TheVariants.{Wrap, Saturate};
+ghost use Rattle.vx_base.specs.declared.policy.Policy.TheVariants.{Saturate};
 ghost use Rattle.vx_base.specs.Sample.{narrow, distance};
 ghost use Rattle.vx_base.specs.Pixelwise.{product, smaller, greater, accumulated_sum};
 ghost use Rattle.lane_rows.specs.Quarters.{swap_quarters};
@@ -53,15 +53,6 @@ pub fn clamped(numbers: i32x16) -> i16x16
         .cast::<i16>()
 }
 
-/// Returns the numbers modulo 2^16, as S16 samples.
-fn wrapped(numbers: i32x16) -> i16x16
-    requires len { length numbers ≡ 16 }
-    requires fits { Each1 (FitsSigned w32) numbers }
-    ensures { result ≡ map (narrow S16 Wrap) numbers }
-{
-    ((numbers << 16) >> 16).cast::<i16>()
-}
-
 /// Returns the numbers narrowed to S16 by the policy.
 pub fn narrowed(numbers: i32x16, policy: Policy) -> i16x16
     requires len { length numbers ≡ 16 }
@@ -70,7 +61,7 @@ pub fn narrowed(numbers: i32x16, policy: Policy) -> i16x16
     ensures result_fits { Each1 (FitsSigned w16) result }
 {
     match policy {
-        Policy::Wrap => wrapped(numbers),
+        Policy::Wrap => ((numbers << 16) >> 16).cast::<i16>(),
         Policy::Saturate => clamped(numbers),
     }
 }

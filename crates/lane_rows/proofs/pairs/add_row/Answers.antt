@@ -1,5 +1,5 @@
 use Rattle.std.proofs.Common.{◌≡◌, ◌+◌, arith}
-use Rattle.lane_rows.proofs.PairNames.{first_of_pair, second_of_pair}
+use Rattle.lane_rows.proofs.Common.{first_of_pair, second_of_pair}
 use Rattle.lane_rows.proofs.AddLaws.{added_none, added_more, all_added, length-all_added, all_up_to}
 use Rattle.lane_rows.proofs.pairs.add_row.Goals as goal
 

@@ -1,5 +1,5 @@
 use Rattle.std.proofs.Common.{rules, ◌∙◌, ap, length, sym, subst, w16, w32, FitsSigned}
-use Rattle.lane_rows.proofs.PairNames.{Each1, chunk, Each1-chunk, length-chunk, IsNear}
+use Rattle.lane_rows.proofs.Common.{Each1, chunk, Each1-chunk, length-chunk, IsNear}
 use Rattle.lane_rows.proofs.BitLaws.{loaded, bytes_fit, product_fits}
 use Rattle.lane_rows.proofs.ShortLaws.{of_bits}
 use Rattle.lane_rows.proofs.PairLaws.{eight_along}

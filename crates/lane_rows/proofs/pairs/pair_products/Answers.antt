@@ -1,5 +1,5 @@
 use Rattle.std.proofs.Common.{sym, subst}
-use Rattle.lane_rows.proofs.PairNames.{Each1, IsNear}
+use Rattle.lane_rows.proofs.Common.{Each1, IsNear}
 use Rattle.lane_rows.proofs.BitLaws.{pair_products_are}
 use Rattle.lane_rows.proofs.pairs.pair_products.Goals as goal
 

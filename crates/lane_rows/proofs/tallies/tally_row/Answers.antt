@@ -1,5 +1,5 @@
 use Rattle.std.proofs.Common.{◌+◌, ap, pos, map, arith, refl, take_all}
-use Rattle.lane_rows.proofs.Names.{length-map, count_at}
+use Rattle.lane_rows.proofs.Common.{length-map, count_at}
 use Rattle.lane_rows.proofs.TallyLaws.{one_at, four_more, all_bytes}
 use Rattle.lane_rows.proofs.tallies.tally_row.Goals as goal
 

@@ -1,5 +1,5 @@
 use Rattle.std.proofs.Common.{◌≡◌, ◌+◌, ◌*◌, ◌<◌, ◌^◌, ℕ, pos, map, take, length}
-use Rattle.lane_rows.proofs.Names.{count_at, count_in_all}
+use Rattle.lane_rows.proofs.Common.{count_at, count_in_all}
 use Rattle.lane_rows.proofs.tallies.tally_row.Given as goal
 
 abbrev pub invariant-loop-k : goal.invariant-loop-k

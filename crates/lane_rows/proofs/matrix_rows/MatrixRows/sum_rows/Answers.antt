@@ -1,5 +1,5 @@
 use Rattle.std.proofs.Common.{◌+◌, ◌<◌, ℤ, List, sym, subst, arith, w16, FitsSigned}
-use Rattle.lane_rows.proofs.PairNames.{row_fits, IsNear, IsPairTable}
+use Rattle.lane_rows.proofs.Common.{row_fits, IsNear, IsPairTable}
 use Rattle.lane_rows.proofs.MatrixSumLaws.{each_of_row, length_row, no_row_added, row_added, sums_up_to, length_sums, all_rows_added, all_rows_up_to}
 use Rattle.lane_rows.proofs.matrix_rows.MatrixRows.sum_rows.Goals as goal
 
