@@ -31,9 +31,6 @@ not_at_most a b h = grind (arith, ints)
 nearest_below : (low high : ℕ) (v : ℤ) → low < high → v <ℤ pos low → clamp_coordinate low high v ≡ low
 nearest_below low high v some h = grind (arith, ints)
 
-nearest_inside : (low high : ℕ) (v : ℤ) → pos low ≤ℤ v → v <ℤ pos high → clamp_coordinate low high v ≡ unsigned_abs v
-nearest_inside low high v a b = grind (arith, ints)
-
 nearest_tested : (low high : ℕ) (v : ℤ) → (int_le (pos low) v && int_lt v (pos high)) ≡ true → clamp_coordinate low high v ≡ unsigned_abs v
 nearest_tested low high v h = grind (arith, ints)
 
@@ -68,52 +65,37 @@ row_is image border y z found o same is at = ap (row_seen image.valid border) (s
 
 -- ---- rows
 
--- a row that is seen in row y under Replicate is the nearest
-line_near : (valid : Rectangle) (y : ℤ) (line : ℕ) → row_seen valid Replicate y ≡ Some line → clamp_coordinate valid.y0 valid.y1 y ≡ line
-line_near valid y line e = known (int_le (pos valid.y0) y && int_lt y (pos valid.y1)) refl e
-  where
-    known : (b : Bool) → (int_le (pos valid.y0) y && int_lt y (pos valid.y1)) ≡ b → cond b (Some (unsigned_abs y)) (Some (clamp_coordinate valid.y0 valid.y1 y)) ≡ Some line → clamp_coordinate valid.y0 valid.y1 y ≡ line
-    known true inside e = cc (nearest_tested valid.y0 valid.y1 y inside)
-    known false outside e = cc
+-- in a row that takes the samples of a valid row: its sample in the valid columns, elsewhere the border's for the nearest of them
+line_at : (image : ImageValue) (border : Border) (x y : ℤ) (line : ℕ) (b c : Bool) → (int_le (pos image.valid.y0) y && int_lt y (pos image.valid.y1)) ≡ b → (int_le (pos image.valid.x0) x && int_lt x (pos image.valid.x1)) ≡ c
+    → cond b (Some (unsigned_abs y)) (border_row image.valid border y) ≡ Some line → cond (c && b) (pixel_at image (unsigned_abs x) (unsigned_abs y)) (border_sample image border x y)
+    ≡ cond c (pixel_at image (unsigned_abs x) line) (border_value border (pixel_at image (clamp_coordinate image.valid.x0 image.valid.x1 x) line))
+line_at image border x y line true true rows columns e = let same : unsigned_abs y ≡ line = cc in ap (pixel_at image (unsigned_abs x)) same
+line_at image Undefined x y line true false rows columns e = refl
+line_at image (Constant value) x y line true false rows columns e = refl
+line_at image Replicate x y line true false rows columns e = cc (nearest_tested image.valid.y0 image.valid.y1 y rows)
+line_at image Undefined x y line false c rows columns e = cc
+line_at image (Constant value) x y line false c rows columns e = cc
+line_at image Replicate x y line false true rows columns e = cc (nearest_tested image.valid.x0 image.valid.x1 x columns)
+line_at image Replicate x y line false false rows columns e = cc
 
--- the border's sample in a row that takes the samples of a valid row
-elsewhere_line : (image : ImageValue) (border : Border) (x y : ℤ) (line edge : ℕ) → row_seen image.valid border y ≡ Some line → clamp_coordinate image.valid.x0 image.valid.x1 x ≡ edge → border_sample image border x y ≡ border_value border (pixel_at image edge line)
-elsewhere_line image Undefined x y line edge e near = refl
-elsewhere_line image (Constant value) x y line edge e near = refl
-elsewhere_line image Replicate x y line edge e near = ap (λ n. pixel_at image n (clamp_coordinate image.valid.y0 image.valid.y1 y)) near ∙ ap (pixel_at image edge) (line_near image.valid y line e)
-
--- outside the valid columns
-look_elsewhere : (image : ImageValue) (border : Border) (x y : ℤ) (line edge : ℕ) → row_seen image.valid border y ≡ Some line → clamp_coordinate image.valid.x0 image.valid.x1 x ≡ edge → (int_le (pos image.valid.x0) x && int_lt x (pos image.valid.x1)) ≡ false → sample_or_border image border x y ≡ border_value border (pixel_at image edge line)
-look_elsewhere image border x y line edge e near out = rw out (elsewhere_line image border x y line edge e near)
-
--- in the columns
-inner_row : (image : ImageValue) (border : Border) (x y : ℤ) (line : ℕ) (b : Bool) → cond b (Some (unsigned_abs y)) (border_row image.valid border y) ≡ Some line → row_seen image.valid border y ≡ Some line → clamp_coordinate image.valid.x0 image.valid.x1 x ≡ unsigned_abs x → cond b (pixel_at image (unsigned_abs x) (unsigned_abs y)) (border_sample image border x y) ≡ pixel_at image (unsigned_abs x) line
-inner_row image border x y line true e seen near = let same : unsigned_abs y ≡ line = cc in ap (pixel_at image (unsigned_abs x)) same
-inner_row image Undefined x y line false e seen near = cc
-inner_row image (Constant value) x y line false e seen near = cc
-inner_row image Replicate x y line false e seen near = elsewhere_line image Replicate x y line (unsigned_abs x) seen near
+look_line : (image : ImageValue) (border : Border) (x y : ℤ) (line : ℕ) (c : Bool) → row_seen image.valid border y ≡ Some line → (int_le (pos image.valid.x0) x && int_lt x (pos image.valid.x1)) ≡ c
+    → sample_or_border image border x y ≡ cond c (pixel_at image (unsigned_abs x) line) (border_value border (pixel_at image (clamp_coordinate image.valid.x0 image.valid.x1 x) line))
+look_line image border x y line c e columns =
+    line_at image border x y line _ _ refl refl e ∙ ap (λ t. cond t (pixel_at image (unsigned_abs x) line) (border_value border (pixel_at image (clamp_coordinate image.valid.x0 image.valid.x1 x) line))) columns
 
 pub look_inside : (image : ImageValue) (border : Border) (x y : ℤ) (line : ℕ) → row_seen image.valid border y ≡ Some line → pos image.valid.x0 ≤ℤ x → x <ℤ pos image.valid.x1 → sample_or_border image border x y ≡ pixel_at image (unsigned_abs x) line
-look_inside image border x y line e a b =
-    rw (at_most (pos image.valid.x0) x a, below x (pos image.valid.x1) b)
-    (inner_row image border x y line (int_le (pos image.valid.y0) y && int_lt y (pos image.valid.y1)) e e (nearest_inside image.valid.x0 image.valid.x1 x a b))
+look_inside image border x y line e a b = look_line image border x y line true e (cc (at_most (pos image.valid.x0) x a, below x (pos image.valid.x1) b))
 
 -- a window reads in row y what it reads along the valid row that the border takes for it
 pub look_along : (image : ImageValue) (border : Border) (x y : ℤ) (line : ℕ) → image.valid.x0 < image.valid.x1 → row_seen image.valid border y ≡ Some line → sample_or_border image border x y ≡ seen_along image border line x
-look_along image border x y line some e = by_lt_z x (pos image.valid.x0) left (λ a. by_lt_z x (pos image.valid.x1) (λ b. between a b) (λ b. right a b))
+look_along image border x y line some e = by_lt_z x (pos image.valid.x0)
+    (λ h. look_line image border x y line false e (cc (not_at_most (pos image.valid.x0) x h)) ∙ edge (nearest_below image.valid.x0 image.valid.x1 x some h) ∙ sym (seen_left image border x line h))
+    (λ a. by_lt_z x (pos image.valid.x1)
+    (λ b. look_inside image border x y line e a b ∙ sym (seen_inside image border x line a b))
+    (λ b. look_line image border x y line false e (cc (at_most (pos image.valid.x0) x a, not_below x (pos image.valid.x1) b)) ∙ edge (nearest_above image.valid.x0 image.valid.x1 x some b) ∙ sym (seen_right image border x line a b)))
   where
-    left : x <ℤ pos image.valid.x0 → sample_or_border image border x y ≡ seen_along image border line x
-    left h =
-        look_elsewhere image border x y line image.valid.x0 e (nearest_below image.valid.x0 image.valid.x1 x some h) (cc (not_at_most (pos image.valid.x0) x h))
-        ∙ sym (seen_left image border x line h)
-
-    between : pos image.valid.x0 ≤ℤ x → x <ℤ pos image.valid.x1 → sample_or_border image border x y ≡ seen_along image border line x
-    between a b = look_inside image border x y line e a b ∙ sym (seen_inside image border x line a b)
-
-    right : pos image.valid.x0 ≤ℤ x → pos image.valid.x1 ≤ℤ x → sample_or_border image border x y ≡ seen_along image border line x
-    right a b =
-        look_elsewhere image border x y line (image.valid.x1 - 1) e (nearest_above image.valid.x0 image.valid.x1 x some b) (cc (at_most (pos image.valid.x0) x a, not_below x (pos image.valid.x1) b))
-        ∙ sym (seen_right image border x line a b)
+    edge : {n m : ℕ} → n ≡ m → border_value border (pixel_at image n line) ≡ border_value border (pixel_at image m line)
+    edge same = ap (λ n. border_value border (pixel_at image n line)) same
 
 -- where the border takes no valid row
 off_row : (image : ImageValue) (border : Border) (x y : ℤ) (b c : Bool) → cond b (Some (unsigned_abs y)) (border_row image.valid border y) ≡ None → cond (c && b) (pixel_at image (unsigned_abs x) (unsigned_abs y)) (border_sample image border x y) ≡ border_value border (pos 0)
