@@ -1,5 +1,5 @@
 //! The size classes of blocks.
-ghost use Rattle.std.specs.Prelude.{◌≡◌, ◌<◌, ◌≤◌, ◌^◌};
+ghost use Rattle.std.specs.Prelude.{◌≡◌, ℕ, ◌<◌, ◌≤◌, ◌^◌};
 ghost use Rattle.pixel_pool.specs.Classes.{class_count, class_capacity, class_step, IsClassOf};
 ghost use Rattle.pixel_pool.specs.Classes.{FitsIn};
 
@@ -41,6 +41,8 @@ pub fn class_of(room: usize) -> (usize, usize)
 pub fn room_for(count: usize) -> usize
     ensures enough { count ≤ result }
     ensures class { FitsIn count result }
+    ensures least { (class : ℕ) → class < class_count → count ≤ class_capacity class →
+        result ≤ class_capacity class }
 {
     let mut room = 0;
     for class in 0..CLASSES {
