@@ -20,7 +20,7 @@ aged_images images = drop (length images - 1) images ++ take (length images - 1)
 abbrev pub image_in : List ImageValue → ℕ → ImageValue
 image_in images k = slice_index_or images k (new_image 0 0 U8)
 
--- the image in a slot of a delay, or without a slot the object itself; none where the slot does not exist or the object is no delay
+-- what a slot of the object has: without a slot, the object itself; with one, a delay's image in it, if there is such a slot
 abbrev pub in_slot : Option ℕ → ObjectValue → Option ObjectValue
 in_slot None object = Some object
 in_slot (Some k) (DelayObject images) = option_map ImageObject (slice_get images k)

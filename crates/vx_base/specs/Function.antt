@@ -44,7 +44,7 @@ functions =
 abbrev pub function_numbered : ℕ → Option Function
 function_numbered n = find (λ function. function_number function == n) functions
 
--- ---- a function's parameters, apart from its first input, which is an image, and the border
+-- ---- parameters. They don't list what all functions have: an image as first input, and a border
 
 -- one input image and one output image
 abbrev pub of_one_image : Parameters

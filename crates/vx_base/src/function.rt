@@ -325,14 +325,14 @@ fn are_bytes(first: Format, second: Format, output: Format) -> bool
     first == Format::U8 && second == Format::U8 && output == Format::U8
 }
 
-/// Whether all are U8, or all S16.
+/// Whether all are U8 or all are S16.
 fn are_equal(first: Format, second: Format, output: Format) -> bool
     ensures { result ≡ are_equal first second output }
 {
     first == second && second == output && output != Format::U32
 }
 
-/// Whether the inputs are U8 or S16 and the output is S16, or all are U8.
+/// Whether the output is S16 and the inputs are U8 or S16, or all three are U8.
 fn are_arithmetic(first: Format, second: Format, output: Format) -> bool
     ensures { result ≡ are_arithmetic first second output }
 {
