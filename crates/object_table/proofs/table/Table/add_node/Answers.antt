@@ -25,7 +25,7 @@ returns-in_err-number c =
     rw (p.1, p.2) (record {
       number = tt;
       ok = tt;
-      room = tt;
+      capacity = tt;
       fault = c.in_err-number.ensures.fault ∙ ap (λ (o : ObjectValue). if can_add (graph_value o) then graph_fault.NoMemory else graph_fault.NoResources) (sym under);
       err = unchanged _ _ _ c.self.view_is c.args.graph _ (sym c.in-Some.ensures.value) _ _ c.in_err-number.ensures.err (c.get_mut.follows.holds new).0;
     })
@@ -51,7 +51,7 @@ invariant_of-self-2 c =
     (IsTable-added s.next s.charge s.entries.entries c.self.invariant c.args.graph old (record old { object = c.add_node.new.self }) found refl c.add_node.ensures.bytes
     (live_there _ _ _ _ c.self.view_is c.self.invariant c.args.graph old found c.requires.live) refl
     (kind_under _ _ _ c.self.view_is _ c.args.graph old found c.requires.graph) c.args.node
-    c.in_ok-number.ensures.ok c.in_ok-number.ensures.room
+    c.in_ok-number.ensures.ok c.in_ok-number.ensures.capacity
     (all_below _ _ _ _ c.self.view_is c.self.invariant (used_names c.args.node) c.requires.held))
 
 pub returns-clause-number : goal.returns-clause-number
@@ -66,6 +66,6 @@ returns-clause-ok c =
     ∙ shown_name _ _ _ c.self.view_is c.args.graph c.in-Some.entry.now (sym c.in-Some.ensures.value) (λ o. GraphObject (with_node (graph_value o) c.args.node)) c.add_node.new.self _
     c.get_mut.ensures.ordered refl c.in_ok-number.ensures.ok
 
-pub returns-clause-room : goal.returns-clause-room
-returns-clause-room c =
-    subst (λ (o : ObjectValue). IsTrue (can_add (graph_value o))) (sym (under_is _ _ _ c.self.view_is c.args.graph _ (sym c.in-Some.ensures.value))) c.in_ok-number.ensures.room
+pub returns-clause-capacity : goal.returns-clause-capacity
+returns-clause-capacity c =
+    subst (λ (o : ObjectValue). IsTrue (can_add (graph_value o))) (sym (under_is _ _ _ c.self.view_is c.args.graph _ (sym c.in-Some.ensures.value))) c.in_ok-number.ensures.capacity

@@ -12,8 +12,8 @@ set_valid-requires-clause-there c = image_there _ _ _ c.self.view_is c.args.cell
 pub set_valid-requires-clause-object : goal.set_valid-requires-clause-object
 set_valid-requires-clause-object c = subst IsObject (found_under _ _ _ c.self.view_is c.args.cell _ _ c.name.ensures.value c.slot.ensures.value _ (sym c.in-Some.ensures.value)) c.requires.object
 
-pub set_valid-requires-clause-room : goal.set_valid-requires-clause-room
-set_valid-requires-clause-room c = subst (λ (i : ImageValue). IsWithin c.args.valid i.width i.height) (image_is _ _ _ c.self.view_is c.args.cell _ _ c.name.ensures.value c.slot.ensures.value _ (sym c.in-Some.ensures.value)) c.requires.room
+pub set_valid-requires-clause-inside : goal.set_valid-requires-clause-inside
+set_valid-requires-clause-inside c = subst (λ (i : ImageValue). IsWithin c.args.valid i.width i.height) (image_is _ _ _ c.self.view_is c.args.cell _ _ c.name.ensures.value c.slot.ensures.value _ (sym c.in-Some.ensures.value)) c.requires.inside
 
 pub invariant_of-self : goal.invariant_of-self
 invariant_of-self c =
