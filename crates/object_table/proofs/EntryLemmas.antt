@@ -209,3 +209,6 @@ module _ (t : Context) (next : ℕ) (entries : List (ℕ × Entry)) (view : ◌�
 
   pub kind_under : (wanted : Kind) (name : ℕ) (old : Entry) → lookup (is_at (nat_cmp name)) entries ≡ Some old → IsUnder t.objects wanted name → object_kind old.object ≡ wanted
   kind_under wanted name old found h = grind (arith, held_under t next entries view name old found)
+
+-- what is held under a name or in a cell whose entry was looked up
+pub ruleset entry_steps = (held_is, held_under, none_held, under_is, nothing_under, kind_under, nothing_held, found_under, image_is, image_there)
