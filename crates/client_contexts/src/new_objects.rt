@@ -21,7 +21,7 @@ use pixel_pool::Pool;
 /// Checks that a client can hold one more object that is charged `bytes`. The caller's `bytes` are
 /// at most those of 16 images of the greatest size. `NoResources`: all names are used, 1,024
 /// objects are held, or the quota would be exceeded.
-pub fn look_for_room(table: &Table, limits: Limits, bytes: usize) -> Result<(), Refusal>
+pub fn require_capacity(table: &Table, limits: Limits, bytes: usize) -> Result<(), Refusal>
     requires { bytes ≤ GREATEST_SLOTS * GREATEST_BYTES }
     ensures { result ≡ (if has_capacity limits table.now bytes then Ok tt else Err NoResources) }
 {
@@ -36,12 +36,12 @@ pub fn look_for_room(table: &Table, limits: Limits, bytes: usize) -> Result<(), 
 /// Adds a new object that has no images and, if it is a graph, no nodes. The caller has checked the
 /// limits. The reply has the object's name.
 pub fn hold(table: &mut Table, limits: Limits, object: Object) -> Result<Reply, RequestFault>
-    requires room { IsTrue (has_capacity limits table.old (object_bytes object)) }
+    requires capacity { IsTrue (has_capacity limits table.old (object_bytes object)) }
     requires object { IsObject object }
     requires plain { nodes_in object ≡ [] }
     requires no_blocks { (format : Format) → object_blocks object format ≡ 0 }
     ensures comes { MayComeTo (create limits table.old object) table.old table.new result }
-    ensures kept { KeepsLimits limits table.old → KeepsLimits limits table.new }
+    ensures within_limits { KeepsLimits limits table.old → KeepsLimits limits table.new }
     ensures blocks { KeepsBlocks table.old.objects table.new.objects }
 {
     match table.insert(object) {
@@ -58,12 +58,12 @@ pub fn hold_images(
     limits: Limits,
     object: Object,
 ) -> Result<Reply, RequestFault>
-    requires room { IsTrue (has_capacity limits table.old (object_bytes object)) }
+    requires capacity { IsTrue (has_capacity limits table.old (object_bytes object)) }
     requires object { IsObject object }
     requires plain { nodes_in object ≡ [] }
     requires owns { LendsAtLeast pool.old (object_blocks object) }
     ensures comes { MayComeTo (create limits table.old object) table.old table.new result }
-    ensures kept { KeepsLimits limits table.old → KeepsLimits limits table.new }
+    ensures within_limits { KeepsLimits limits table.old → KeepsLimits limits table.new }
     ensures balances { (format : Format) →
         lent_of pool.new format + blocks_in table.old.objects format + object_blocks object format
         ≡ lent_of pool.old format + blocks_in table.new.objects format }
