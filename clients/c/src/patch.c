@@ -10,9 +10,9 @@
 /* DESCRIBED and WRITE_HEAD are the bytes before the samples in a reply and in a request. Samples
    are converted and sent PIECE bytes at a time, so that the server reads one piece while the next
    is converted. Buffers from LEAST_KEPT to GREATEST_KEPT bytes are kept. HUGE_PAGE is the size of
-   the processor's larger pages. */
+   the processor's larger pages. LEAD is explained at lead_of. */
 enum { DESCRIBED = 5, WRITE_HEAD = 10, PIECE = 1 << 17, LEAST_KEPT = 1 << 16,
-       GREATEST_KEPT = 1 << 26, HUGE_PAGE = 1 << 21 };
+       GREATEST_KEPT = 1 << 26, HUGE_PAGE = 1 << 21, LEAD = 16 };
 
 static vx_size samples_of(const struct _vx_image *image) {
     return (vx_size)image->width * image->height * sample_size(image->format);
@@ -421,6 +421,14 @@ static vx_imagepatch_addressing_t address_of(const struct map *map, vx_size size
                                         .stride_x_bits = (vx_uint16)(8 * size)};
 }
 
+/* How many bytes of a buffer are before the samples of a map. On the server a large picture begins
+   LEAD bytes after the start of a page, where malloc places it. The system copies faster from one
+   page to another if both copies begin at the same place in a page. */
+static size_t lead_of(struct buffer buffer, vx_enum usage) {
+    bool is_at_page = (uintptr_t)buffer.bytes % HUGE_PAGE == 0;
+    return usage != VX_READ_ONLY && is_at_page ? LEAD : 0;
+}
+
 /* Makes a map: in place for an image from a handle, else of a buffer with any samples. Returns NULL
    where there is no memory. */
 static struct map *make_map(vx_image image, const vx_rectangle_t *rect, vx_enum usage) {
@@ -431,12 +439,14 @@ static struct map *make_map(vx_image image, const vx_rectangle_t *rect, vx_enum 
     if (image->is_handle)
         return map;
     vx_size size = sample_size(image->format), row = size * (rect->end_x - rect->start_x);
-    map->samples = take_buffer(image->base.context, row * (rect->end_y - rect->start_y));
-    map->grid = (struct grid){map->samples.bytes, (ptrdiff_t)size, (ptrdiff_t)row};
-    if (map->samples.bytes != NULL)
-        return map;
-    free(map);
-    return NULL;
+    map->samples = take_buffer(image->base.context, LEAD + row * (rect->end_y - rect->start_y));
+    if (map->samples.bytes == NULL) {
+        free(map);
+        return NULL;
+    }
+    map->grid = (struct grid){map->samples.bytes + lead_of(map->samples, usage), (ptrdiff_t)size,
+                              (ptrdiff_t)row};
+    return map;
 }
 
 static void free_map(vx_context context, struct map *map) {

@@ -28,7 +28,7 @@
 //! - `matrix_rows`: sums of rows of samples times the coefficients of a matrix, by `pairs` of
 //!   coefficients
 //! - `scales`: numbers divided by a power of two, rounded toward zero and clamped
-//! - `bytes`, `shorts`, `choices`, `depth_lanes`: arithmetic in lanes
+//! - `shorts`: S16 numbers in lanes
 //!
 //! The table lists the kernels and their formulas: a and b are the input items, c is the old output
 //! item, and p narrows to the output's format by the policy. Times are in picoseconds per item, for
@@ -63,11 +63,8 @@ mod arithmetic;
 mod axpy;
 mod bits;
 mod blocks;
-mod bytes;
-mod choices;
 mod columns;
 mod compared;
-mod depth_lanes;
 mod depths;
 mod distances;
 mod extent;

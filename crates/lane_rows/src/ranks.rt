@@ -57,6 +57,7 @@ impl Choice for Least {
         a.min(b)
     }
 
+    #[tactic(auto, using(crate::proofs::ByteLaws::rank_lanes))]
     fn of_two_lanes(a: u8x32, b: u8x32) -> u8x32 {
         a.simd_min(b)
     }
@@ -81,6 +82,7 @@ impl Choice for Greatest {
         a.max(b)
     }
 
+    #[tactic(auto, using(crate::proofs::ByteLaws::rank_lanes))]
     fn of_two_lanes(a: u8x32, b: u8x32) -> u8x32 {
         a.simd_max(b)
     }
@@ -194,23 +196,9 @@ pub struct Median;
 impl OfNine<u8> for Median {
     ghost formula = { λ _. median };
 
+    #[tactic(auto, using(crate::proofs::MedianLaws::median_of_numbers))]
     fn item(&self, above: ThreeItems, here: ThreeItems, below: ThreeItems) -> u8 {
-        let left = (above.0, here.0, below.0);
-        let centre = (above.1, here.1, below.1);
-        let right = (above.2, here.2, below.2);
-        let low = (
-            chosen::<Least>(left),
-            chosen::<Least>(centre),
-            chosen::<Least>(right),
-        );
-        let between = (middle(left), middle(centre), middle(right));
-        let high = (
-            chosen::<Greatest>(left),
-            chosen::<Greatest>(centre),
-            chosen::<Greatest>(right),
-        );
-        let (lowest, highest) = (chosen::<Greatest>(low), chosen::<Least>(high));
-        middle((lowest, highest, middle(between)))
+        median_of(above, here, below)
     }
 
     fn lanes(&self, nine: &Nine<'_>, place: usize, out: &mut [u8]) {
@@ -219,6 +207,29 @@ impl OfNine<u8> for Median {
         let below = three_lanes(&nine.below, place);
         store_32_bytes(medians(above, here, below).to_array(), out);
     }
+}
+
+/// Returns the median of a window.
+fn median_of(above: ThreeItems, here: ThreeItems, below: ThreeItems) -> u8
+    ensures { result ≡ middle_of_nine min max above.0 above.1 above.2 here.0 here.1 here.2 below.0
+        below.1 below.2 }
+{
+    let left = (above.0, here.0, below.0);
+    let centre = (above.1, here.1, below.1);
+    let right = (above.2, here.2, below.2);
+    let low = (
+        chosen::<Least>(left),
+        chosen::<Least>(centre),
+        chosen::<Least>(right),
+    );
+    let between = (middle(left), middle(centre), middle(right));
+    let high = (
+        chosen::<Greatest>(left),
+        chosen::<Greatest>(centre),
+        chosen::<Greatest>(right),
+    );
+    let (lowest, highest) = (chosen::<Greatest>(low), chosen::<Least>(high));
+    middle((lowest, highest, middle(between)))
 }
 
 /// Returns the medians of the windows in 32 lanes.

@@ -7,11 +7,10 @@ ghost use Rattle.vx_base.specs.declared.format.Format.TheVariants.{U8, S16};
 ghost use Rattle.vx_base.specs.Pixelwise.{sum, difference};
 
 use crate::arithmetic::{Arithmetic, OfSamples};
-use crate::bytes::{byte_differences, byte_sums};
 use crate::item::Short;
 use crate::overflow::{Overflow, Saturated, Wrapped, with_overflow};
 use crate::rows::zip_rows;
-use crate::shorts::{narrowed, short_differences, short_sums};
+use crate::shorts::narrowed;
 use std::simd::prelude::*;
 use vx_base::{Policy, narrow_s16};
 
@@ -33,12 +32,17 @@ impl<P: Overflow> Arithmetic for Sum<P> {
         narrow_s16(i32::from(a) + i32::from(b), self.0.policy())
     }
 
+    #[tactic(auto, using(crate::proofs::ByteLaws::sum_lanes))]
     fn bytes(&self, a: u8x32, b: u8x32) -> u8x32 {
-        byte_sums(a, b, self.0.policy())
+        match self.0.policy() {
+            Policy::Wrap => a + b,
+            Policy::Saturate => a.saturating_add(b),
+        }
     }
 
+    #[tactic(auto, using(crate::proofs::ShortLanes::sum_lanes))]
     fn shorts(&self, a: i16x16, b: i16x16) -> i16x16 {
-        narrowed(short_sums(a, b), self.0.policy())
+        narrowed(a.cast::<i32>() + b.cast::<i32>(), self.0.policy())
     }
 }
 
@@ -60,12 +64,17 @@ impl<P: Overflow> Arithmetic for Difference<P> {
         narrow_s16(i32::from(a) - i32::from(b), self.0.policy())
     }
 
+    #[tactic(auto, using(crate::proofs::ByteLaws::difference_lanes))]
     fn bytes(&self, a: u8x32, b: u8x32) -> u8x32 {
-        byte_differences(a, b, self.0.policy())
+        match self.0.policy() {
+            Policy::Wrap => a - b,
+            Policy::Saturate => a.simd_max(b) - b,
+        }
     }
 
+    #[tactic(auto, using(crate::proofs::ShortLanes::difference_lanes))]
     fn shorts(&self, a: i16x16, b: i16x16) -> i16x16 {
-        narrowed(short_differences(a, b), self.0.policy())
+        narrowed(a.cast::<i32>() - b.cast::<i32>(), self.0.policy())
     }
 }
 

@@ -1,4 +1,4 @@
-//! Histograms of rows of bytes.
+//! Histograms of rows of bytes: plain loops, since `std::simd` can't add to counts at 32 indices.
 ghost use Rattle.std.specs.Prelude.{◌≡◌, ◌==◌, ◌+◌, ◌<◌, ◌^◌, ℕ, pos, if◌then◌else◌, map, length};
 ghost use Rattle.std.specs.Prelude.{slice_index, unsigned_abs};
 ghost use Rattle.std.specs.List.{All};

@@ -58,7 +58,7 @@ impl WrittenHeader {
 
 /// Writes bytes so that they end right before `end`, and returns where they begin.
 fn put_before(bytes: &mut [u8], end: usize, part: &[u8]) -> usize
-    requires room { length part.now ≤ end }
+    requires fits { length part.now ≤ end }
     requires within { end ≤ length bytes.old }
     ensures start { result + length part.now ≡ end }
     ensures written { drop result bytes.new ≡ part.now ++ drop end bytes.old }

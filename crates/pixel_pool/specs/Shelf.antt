@@ -40,8 +40,8 @@ module _ {T : Type 0} where
   -- a block's memory has at least its class's capacity, and the block is linked to the part of its
   -- class's stack below it
   pub record IsStacked (stacks : List Stack) (free : Slab (Free T)) (block : Free T) : Type 0 where
-    pub room : class_capacity block.class ≤ vec_capacity block.samples
-    pub room_known : block.room ≡ class_capacity block.class
+    pub capacity : class_capacity block.class ≤ vec_capacity block.samples
+    pub capacity_known : block.capacity ≡ class_capacity block.class
     pub within : block.under.len < (stack_at stacks block.class).len
     pub linked : IsStack free block.class block.under
 

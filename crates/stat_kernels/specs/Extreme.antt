@@ -1,20 +1,11 @@
 -- Extremes with their first pixels.
-use Rattle.std.specs.Prelude.{ℕ, ℤ, ◌+◌, ◌==◌, Bool, true, false, ◌≡◌, List, map, if◌then◌else◌, int_lt}
+use Rattle.std.specs.Prelude.{ℕ, ℤ, ◌+◌, ◌==◌, Bool, List, length, map, if◌then◌else◌, int_lt}
 use Rattle.std.specs.Ordering.{int_eq}
 use Rattle.std.specs.Int.{int_min, int_max}
 use Rattle.vx_base.specs.declared.extremes.Extremes.{Extremes}
-use Rattle.vx_base.specs.Statistics.{best_of, count_of, first_of}
+use Rattle.vx_base.specs.Statistics.{best_of, count_of, first_of, row_pixels}
 use Rattle.stat_kernels.specs.declared.extreme.Extreme.{Extreme}
 use Rattle.stat_kernels.specs.declared.extreme.Found.{Found}
-
--- `choose` picks, of two samples, the one beyond the other in the strict order `beyond`
-pub record IsDirection (choose : ℤ → ℤ → ℤ) (beyond : ℤ → ℤ → Bool) : Type 0 where
-  pub takes : (v z : ℤ) → beyond z v ≡ true → choose v z ≡ z
-  pub keeps : (v z : ℤ) → beyond z v ≡ false → choose v z ≡ v
-  pub irreflexive : (z : ℤ) → beyond z z ≡ false
-  pub total : (z v : ℤ) → beyond z v ≡ false → (z ≡ v → ⊥) → beyond v z ≡ true
-  pub associative : (v z w : ℤ) → choose (choose v z) w ≡ choose v (choose z w)
-  pub transitive : (w z v : ℤ) → beyond w z ≡ true → beyond z v ≡ true → beyond w v ≡ true
 
 -- the sample that `choose` picks from f at these pixels, the number of pixels with this sample, and
 -- the first such pixel
@@ -22,6 +13,10 @@ abbrev pub extreme_among : (ℤ → ℤ → ℤ) → (ℕ → ℕ → ℤ) → L
 extreme_among choose f ps =
     let zs = map (λ p. f p.0 p.1) ps in
     record { value = best_of choose zs; count = count_of (best_of choose zs) zs; at = first_of f (best_of choose zs) ps }
+
+-- the extreme z of the samples of row y from column x on
+abbrev pub row_extreme : (ℕ → ℕ → ℤ) → ℤ → List ℤ → ℕ → ℕ → Extreme
+row_extreme f z zs x y = record { value = z; count = count_of z zs; at = first_of f z (row_pixels x (length zs) y) }
 
 -- the least and the greatest value of f at these pixels
 abbrev pub found_in : (ℕ → ℕ → ℤ) → List (ℕ × ℕ) → Found

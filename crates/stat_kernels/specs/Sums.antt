@@ -1,22 +1,10 @@
 -- Sums of the samples to the left of a pixel and above it. OpenVX 1.3, "Integral Image".
 use Rattle.std.specs.Prelude.{ℕ, ℤ, pos, ◌≡◌, ◌+◌, ◌-◌, ◌%◌, ◌^◌, ◌<◌, ◌≤◌, ◌==◌, if◌then◌else◌, max, nat_le, unsigned_abs, Option, Some, None, List, length, map, slice_index, drop}
 use Rattle.std.specs.List.{sum_by}
-use Rattle.vx_base.specs.Rectangle.{Rectangle, has_pixel}
+use Rattle.vx_base.specs.Rectangle.{has_pixel}
 use Rattle.vx_base.specs.Image.{ImageValue, IsImage, pixel_at, run, zero_outside}
 use Rattle.vx_base.specs.Statistics.{samples_in, sum_to}
 use Rattle.image_core.specs.declared.band.Band.{Band}
-
--- the part of a rectangle to the left of column x and above row y
-abbrev pub corner : Rectangle → ℕ → ℕ → Rectangle
-corner r x y = record { x0 = r.x0; y0 = r.y0; x1 = x; y1 = y }
-
--- the sum of the valid samples to the left of column x and above row y
-abbrev pub sum_before : ImageValue → ℕ → ℕ → ℕ
-sum_before image x y = sum_by unsigned_abs (samples_in (corner image.valid x y) image)
-
--- item k of the list is the sum of the samples above row y in the valid columns 0 to k, modulo 2^32
-abbrev pub AreSums : ImageValue → ℕ → List ℕ → Type 0
-AreSums image y sums = (k : ℕ) → k < length sums → slice_index sums k ≡ sum_before image (image.valid.x0 + k + 1) y % 2 ^ 32
 
 -- the last row in the list, if there is one
 abbrev pub last_row : ℕ → (before : List ℕ) → Option (List ℕ)

@@ -1,7 +1,7 @@
 //! The least and the greatest of samples, with their first pixels.
 ghost use Rattle.std.specs.Prelude.{◌≡◌, ◌+◌, ◌<◌, ◌^◌, ◌++◌, [], ℕ, ℤ, Bool, List, map, length};
 ghost use Rattle.vx_base.specs.Image.{run};
-ghost use Rattle.vx_base.specs.Statistics.{row_pixels, best_of, count_of};
+ghost use Rattle.vx_base.specs.Statistics.{row_pixels, count_of};
 
 use lane_rows::{Compared, count_of, first_of, greatest_of, least_of};
 use vx_base::Extremes;
@@ -16,7 +16,7 @@ pub struct Extreme {
 }
 
 impl Extreme {
-    ghost use Rattle.stat_kernels.specs.Extreme.{extreme_among, IsDirection};
+    ghost use Rattle.stat_kernels.specs.Extreme.{merge, row_extreme, shift_down};
 
     /// Merges a row of later pixels into this extreme. `sample` is the row's own extreme.
     /// `is_beyond` says whether `sample` is below the least sample so far, or above the greatest.
@@ -31,13 +31,11 @@ impl Extreme {
         requires among { 0 < count_of (T.value sample) (map T.value row.now) }
         requires columns { x + length row.now < 2 ^ 16 }
         requires room { self.count + length row.now < 2 ^ 32 }
-        ensures { (choose : ℤ → ℤ → ℤ) (beyond : ℤ → ℤ → Bool) (f : ℕ → ℕ → ℤ)
-            (before : List (ℕ × ℕ)) →
-            IsDirection choose beyond → self ≡ extreme_among choose f before →
+        ensures { (beyond : ℤ → ℤ → Bool) (f : ℕ → ℕ → ℤ) →
             is_beyond ≡ beyond (T.value sample) self.value →
-            T.value sample ≡ best_of choose (map T.value row.now) →
             map T.value row.now ≡ run x (length row.now) (λ k. f k y) →
-            result ≡ extreme_among choose f (before ++ row_pixels x (length row.now) y) }
+            result ≡ merge beyond self
+            (row_extreme f (T.value sample) (map T.value row.now) x y) }
     {
         let value = sample.short();
         if self.count == 0 || is_beyond {
@@ -56,10 +54,6 @@ impl Extreme {
             self
         }
     }
-}
-
-impl Extreme {
-    ghost use Rattle.stat_kernels.specs.Extreme.{merge, shift_down};
 
     /// Merges the extreme of later pixels into this extreme. `is_beyond` says whether `other` is
     /// below the least sample so far, or above the greatest.
@@ -139,6 +133,7 @@ impl Found {
             greatest: self.greatest.include_row(is_above, high, x, y, row),
         }
     }
+
     /// Returns the least and the greatest of `extremes` as two parts.
     pub fn of(extremes: Extremes) -> Found
         ensures { result ≡ found_of extremes }

@@ -44,7 +44,7 @@ fn found_in(image: &Image<'_>, rows: Band) -> Found
         (rectangle_pixels (valid_in rows image.now).valid) }
 {
     let _limits = image.desc().height();
-    let part = Part::of(image).in_rows(rows);
+    let part = Part::of_rows(image, rows);
     let mut found = Found::nowhere();
     for y in part.top..part.bottom {
         found = with_row(found, image, part, y);

@@ -53,7 +53,7 @@ pub use picture::Picture;
 pub use policy::Policy;
 pub use rect::Rect;
 pub use reference::ObjRef;
-pub use samples::{Samples, prove_shorts};
+pub use samples::{Samples, prove_bytes, prove_shorts};
 pub use slots::{GREATEST_SLOTS, SlotCount};
 pub use threshold::{ThresholdKind, ThresholdRule};
 pub use virtual_image::VirtualImage;

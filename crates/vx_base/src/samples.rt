@@ -1,5 +1,5 @@
 //! Samples of whole images.
-ghost use Rattle.std.specs.Prelude.{◌≡◌, [], length, map, pos, replicate, IfOk, All};
+ghost use Rattle.std.specs.Prelude.{◌≡◌, ◌<◌, ◌^◌, [], length, map, pos, replicate, IfOk, All};
 ghost use Rattle.vx_base.specs.declared.format.Format.TheVariants.{U8, S16, U32};
 ghost use Rattle.vx_base.specs.Sample.{IsSample};
 ghost use Rattle.vx_base.specs.Picture.{values, samples_format};
@@ -115,8 +115,10 @@ fn take_all<T: Drop>(samples: &mut Vec<T>) -> Vec<T>
     mem::replace(samples, empty)
 }
 
-fn prove_bytes(samples: &[u8])
-    ensures { All (IsSample U8) (map pos samples.now) }
+/// Proves that each item is a byte, and so a U8 sample. At run time this does nothing.
+pub fn prove_bytes(samples: &[u8])
+    ensures bytes { All (λ byte. byte < 2 ^ 8) samples.now }
+    ensures samples { All (IsSample U8) (map pos samples.now) }
 {}
 
 fn prove_words(samples: &[u32])
