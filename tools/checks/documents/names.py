@@ -6,7 +6,8 @@ from typing import Iterator, Set, Tuple
 # Documents that describe the current code. `surface` checks the names that docs/DECISIONS.md calls
 # missing.
 DOCUMENTS = ["README.md", "CONTRIBUTING.md", "docs/DECISIONS.md", "docs/architecture.md",
-             "docs/limits.md", "docs/model.md", "docs/proved.md", "docs/roadmap.md"]
+             "docs/glossary.md", "docs/limits.md", "docs/model.md", "docs/proved.md",
+             "docs/roadmap.md"]
 # Names that others define: the toolchain, the languages, system tools.
 FOREIGN = {
     "rt", "rattle-kit-13b", "rattle-kit-13f", "ensures", "requires", "unfolding", "search", "grind",
