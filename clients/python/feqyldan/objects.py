@@ -130,7 +130,7 @@ class Named(Uncopied):
         return f"<{self._words}{self._values()}{', closed' if self.closed else ''}>"
 
     def _values(self) -> str:
-        """Returns the part of repr() after the words."""
+        """Returns the end of repr(): the object's values, after its kind and its name."""
         return ""
 
     @property

@@ -65,7 +65,7 @@ blocks_at slots rooms clients count = map (block_at slots rooms count) (range_wi
 
 -- ---- tasks
 
--- the source of the second input of the node at index `at` of the order
+-- where a step gets its second input: from a plane, or from the table of the node at index `at`
 abbrev pub source : List Reference → ℕ → Kind → Option Reference → SecondSource
 source cells at k None = Nothing
 source cells at kind.Image (Some c) = Plane (index_of cells c)
