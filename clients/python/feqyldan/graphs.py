@@ -263,7 +263,7 @@ class Graph(Named, Functions[Node]):
         Writes the graph and its objects to a JSON file, for Context.load_graph() and the command
         line. `inputs` are the images that get a picture before each run. The file includes the
         samples and the valid rectangles of all other images that nodes read and no node writes.
-        Without `inputs` there may be only one image that nodes read and no node writes.
+        Without `inputs` nodes may read only one image that no node writes.
         """
         from .graph_files import write_graph
         write_graph(self, path, inputs)

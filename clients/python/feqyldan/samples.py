@@ -56,7 +56,7 @@ class Format(IntEnum):
 
 
 def format_of(value: Any) -> Format:
-    """Returns the format with a number of `wire`."""
+    """Returns the format with this number. Raises TypeError or ValueError if there is none."""
     try:
         return Format(whole(value, "a format"))
     except (TypeError, ValueError) as error:

@@ -189,8 +189,8 @@ def is_object(out: Any) -> bool:
 
 
 def several(out: Any) -> Tuple[Any, ...]:
-    """Returns the objects of a sequence. Raises TypeError if it is none, ValueError if it is
-    empty."""
+    """Returns the objects of a sequence. Raises TypeError for another value, and
+    ValueError for an empty sequence."""
     try:
         things = tuple(out)
     except TypeError:

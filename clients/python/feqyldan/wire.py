@@ -209,8 +209,8 @@ RANGE = Kind.RANGE
 CREATES = (
     CREATE_IMAGE, CREATE_LUT, CREATE_THRESHOLD, CREATE_CONVOLUTION, CREATE_DISTRIBUTION,
     CREATE_MIN_MAX, CREATE_GRAPH, CREATE_VIRTUAL_IMAGE, CREATE_DELAY)
-# How many bytes of body a successful reply to each op has. Of samples, counts and texts it has none
-# here: their length depends on the object that is read.
+# The bytes of the body of a successful reply, by op. It is 0 here for reads of samples, counts and
+# texts, whose length depends on the object that is read.
 BODY_BYTES: dict[int, int] = {
     **dict.fromkeys(Op, 0), **dict.fromkeys(CREATES, 4), ADD_NODE: 4, QUERY_IMAGE: 13,
     READ_MIN_MAX: 20}

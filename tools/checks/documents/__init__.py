@@ -1,4 +1,5 @@
-"""Checks of the documents: the names that they use exist, and their style and that of comments."""
+"""Checks the names and links in documents, the names of definitions, and the style of documents and
+comments."""
 
 from typing import Iterator
 

@@ -1,7 +1,7 @@
 """The verdict on a graph, and its run. Nodes are linked by the cells that they read and write.
 
-Independent of clients. `nodes` are those of a graph in the order of adding. `things` has the
-contents of each of their cells; a virtual image has its declaration.
+Nothing here depends on clients. `nodes` are the nodes of a graph, in the order of adding. `things`
+has the contents of each cell of these nodes; those of a virtual image are its declaration.
 """
 
 from feqyldan.wire import (

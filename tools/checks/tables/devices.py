@@ -63,8 +63,8 @@ def check_sizes(program: Program, library: str, pairs: Pairs) -> None:
 
 
 def check_failing_reads(program: Program, library: str, pairs: Pairs) -> None:
-    """Fails each read. The replies to completely read frames are there. The last read finds the end
-    of the stream."""
+    """Fails each read in turn. The replies to all frames that were read completely must be there.
+    The last read finds the end of the stream."""
     stream, output = joined(pairs)
     number = 0
     for k, (request, _) in enumerate(pairs):
@@ -78,8 +78,8 @@ def check_failing_reads(program: Program, library: str, pairs: Pairs) -> None:
 
 
 def check_failing_writes(program: Program, library: str, pairs: Pairs) -> None:
-    """Fails each write. All earlier bytes are there, and nothing after the reply whose write
-    failed, the rest of which the program may still write at its end."""
+    """Fails each write in turn. All bytes before it must be there, and none after the reply whose
+    write failed. The program may still write the rest of that reply at its end."""
     stream, number = joined(pairs)[0], 0
     for k, (_, reply) in enumerate(pairs):
         before, most = number, joined(pairs[:k + 1])[1]

@@ -19,7 +19,8 @@ BYTES_HELD = 268_500_992
 # Default shares of the memory: for all servers, for the broker itself, and for the frames and
 # replies that it buffers.
 SERVERS_PART, OWN_PART, HELD_PART = 3 / 4, 1 / 4, 1 / 8
-# Python itself takes about 40 MB of address space, so the limit can't be much less.
+# The least limit on the broker's own memory, in bytes. Python itself takes about 40 MB of address
+# space.
 LEAST_OWN_MEMORY = 2**27
 # The pipes to and from a server, and those of its replacement while that one starts.
 FILES_OF_SERVER = 6

@@ -39,8 +39,9 @@ for _op in (wire.RELEASE_CONTEXT, wire.CREATE_IMAGE, wire.WRITE_IMAGE_PGM, wire.
 
 
 class Frames:
-    """Complete frames of one connection, with its client number filled in. `bytes` are the frames;
-    for each frame the client (u16) and the op (u8), as the connection sent them, are one number."""
+    """Complete frames of one connection, with its client number filled in: their bytes in `pieces`,
+    and their total `size`. `asked` has a number for each frame: the client (u16) and the op (u8)
+    that the connection sent. `long` is how many of the requests may take long."""
 
     __slots__ = ("pieces", "size", "asked", "long")
 
