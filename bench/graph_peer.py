@@ -80,7 +80,7 @@ def measure(a):
     cv2.minMaxLoc(a)
 
 
-# With OpenCV's rounding to nearest, this gives a quarter of a gradient, rounded down.
+# With OpenCV's rounding to nearest, these give a quarter of a gradient, rounded down.
 QUARTER, DOWN = 1 / 4, -3 / 8
 
 

@@ -41,13 +41,13 @@ PAUSE = 0.0005
 REST = 5
 # The most buffers for long replies that are kept for reuse.
 KEPT = 4
-# The size of a chunk, in bytes: one read fills at most a chunk.
+# The size of the buffer for short replies, in bytes.
 CHUNK = 1 << 16
 # The head of a reply: its length, client number, op and code.
 HEAD = struct.Struct(">IHBB")
 # Bytes of a reply before its samples: the head, a format, a width and a height.
 BEFORE_SAMPLES = HEAD.size + 5
-# The longest reply, in bytes, that is copied out of the chunk: a head and a name.
+# Bytes of a head and a name. A reply of at most this many bytes gets no buffer of its own.
 HEAD_AND_NAME = 12
 # A reply begins at this offset of its buffer, so that its samples, 13 bytes on, begin at a multiple
 # of 16.

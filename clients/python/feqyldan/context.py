@@ -300,8 +300,8 @@ class Context(Uncopied):
     def usage(self) -> Usage:
         """
         Returns how many objects this context has, and how many bytes of the quota its images take.
-        The package counts them itself. An object counts until it is closed or Python frees it, or
-        as long as a node of a graph uses it.
+        The package counts them itself. An object counts until it is closed or Python frees it, and
+        after that while a node of a graph uses it.
         """
         self._release_forgotten()
         return self._used.usage(self._server.quota)

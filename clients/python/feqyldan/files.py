@@ -98,7 +98,7 @@ def unread(path: str, reader: str) -> WrongPicture:
 
 
 def _narrowed(path: str, pixels: Any) -> Any:
-    """Converts samples of 16 bits or more to int16 if all are below 32768."""
+    """Converts samples of 16 bits or more to int16. Raises BadPicture if they don't fit."""
     numpy = numpy_module()
     if pixels.dtype.kind in "iu" and pixels.dtype.itemsize > 1:
         least, greatest = int(pixels.min()), int(pixels.max())

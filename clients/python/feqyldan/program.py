@@ -25,7 +25,7 @@ FASTER_FLAGS = set("abm avx avx2 bmi1 bmi2 f16c fma movbe xsave".split())
 def find() -> str:
     """Returns the path of the program: the value of FEQYLDAN_PROGRAM, else the program on PATH,
     else the one inside this package, else the one built in this checkout. Raises ProgramNotFound if
-    there is none."""
+    there is no such file."""
     told = os.environ.get(VARIABLE)
     if told:
         if not os.path.isfile(told):

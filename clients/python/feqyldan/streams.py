@@ -60,7 +60,7 @@ def stream(frames: Iterable[Frame], stations: Sequence[Station],
 
 
 def look_at_frames(frames: Any, camera: AnyImage) -> None:
-    """Raises TypeError for a path or for frames without elements, and BadPicture for a single
+    """Raises TypeError for a path and for a value that isn't iterable, and BadPicture for a single
     picture, whose rows would be used as frames."""
     if isinstance(frames, str) or not (hasattr(frames, "__iter__")
                                        or hasattr(frames, "__getitem__")):
@@ -219,8 +219,8 @@ def look_at_output(thing: Any) -> None:
 
 
 def look_at_nodes(graph: Graph, camera: AnyImage, out: Sequence[Any]) -> None:
-    """Raises ValueError if no node reads the camera, or an output is of no node: results would have
-    no meaning."""
+    """Raises ValueError if no node reads the camera, if an output is used by no node, or if no node
+    writes an output: results would have no meaning."""
     read, written = graph.reads | graph.aging, graph.writes
     if name_of(camera) not in read:
         raise ValueError(f"the frames of a stream go to {camera}, which no node of {graph} reads: "

@@ -35,7 +35,7 @@ def small_in_great(program: Program) -> str:
 
 
 def squat(server: Server, client: int, at_first: int) -> None:
-    """A client creates large images repeatedly, and small ones after each time, up to 1,024."""
+    """Creates large images for a client repeatedly, and small ones after each time, up to 1,024."""
     server.ask(wire.open_context(client))
     small = wire.create_image(client, wire.U32, 1, 1)
     held = 0

@@ -372,8 +372,8 @@ def gradient_y(nine):
 
 
 def windowed(value, second=None):
-    """Returns the formula of a 3x3 window function. It gives each pixel of out1 the value of its
-    window's nine samples, and of out2 a second value."""
+    """Returns the formula of a 3x3 window function. A pixel of out1 has the value of its window's
+    nine samples, and a pixel of out2 the second value."""
 
     def gives(node, things):
         values = {OUT1: value, OUT2: second}

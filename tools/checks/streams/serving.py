@@ -9,8 +9,8 @@ from checks import model
 
 # Seconds after which a program that doesn't answer is killed.
 PATIENCE = 120
-# The prefix of an entry that describes the end of the program. As the start of a frame its length
-# would be too large.
+# The prefix of an entry that describes the end of the program. No reply begins like this: its
+# length would be too large.
 ENDED = b"it ended with status"
 
 

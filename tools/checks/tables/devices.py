@@ -92,8 +92,8 @@ def check_failing_writes(program: Program, library: str, pairs: Pairs) -> None:
 
 def run_in_pieces(program: Program, library: str, stream: bytes,
                   **told: int) -> Tuple[int, bytes, bytes]:
-    """Returns the program's status, output and line with pieces of this size, or with a failure of
-    this call."""
+    """Runs the program in pieces of this size, or with a failure of this call. Returns its status,
+    output and line."""
     environment = {**os.environ, "LD_PRELOAD": library}
     environment.update({variable: str(number) for variable, number in told.items()})
     program.runs += 1

@@ -10,8 +10,8 @@ from ..service.visitors import HEAD, LEAST_FRAME
 
 LEAST_LENGTH, GREATEST_LENGTH = wire.LEAST_LENGTH, wire.GREATEST_LENGTH
 CLIENT = struct.Struct(">H")
-# Bytes that are read ahead of small frames, about as many as a pipe would hold. A longer frame
-# counts as long.
+# Bytes of small frames that are read ahead from a connection, about as many as a pipe holds. A
+# longer frame counts as long.
 AHEAD = 65_536
 # The most bytes of a long frame that are moved in one step, so that other connections get their
 # turn.

@@ -54,7 +54,7 @@ class Broker(Front):
         self.look_seconds = min(1.0, limits.patience / 4, limits.report)
         self.looked_at = self.now
         # The servers whose processes exist. Then the failures in a row, when the next server may be
-        # started, and the status of the last failure.
+        # started, and the exit status after the last failure.
         self.servers: List[Server] = []
         self.failures, self.starts_from, self.failure = 0, self.now, 0
         self.is_over = False

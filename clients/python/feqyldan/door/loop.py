@@ -119,7 +119,7 @@ class Door(Front):
         self.events.watch_end(sock.fileno(), partial(self.leave, server))
 
     def leave(self, server: Server, _mask: int) -> None:
-        """Handles the end of a connection: its server has the grace time to end."""
+        """Handles the end of a connection: its server has the seconds of --grace to end."""
         self.events.forget(server.sock.fileno())
         server.left_at = self.now
 
@@ -154,7 +154,7 @@ class Door(Front):
         os.kill(server.process, signal.SIGKILL)
 
     def end_left(self) -> None:
-        """Kills the servers that have used up the grace time after their connections ended."""
+        """Kills the servers that still run --grace seconds after their connections ended."""
         for server in self.servers.values():
             if server.left_at is not None and self.now > server.left_at + self.limits.grace:
                 server.left_at = None

@@ -57,7 +57,7 @@ class Admission:
         self.lines, self.descriptors = lines, descriptors
         self.processes: "Counter[Owner]" = Counter()
         self.users: "Counter[int]" = Counter()
-        # The processes whose turning away was reported; a line for each is written once a minute.
+        # The processes that were turned away since the last report. Only the first time is logged.
         self.told: Set[Owner] = set()
         self.turned_away = turned_away(events, descriptors)
 

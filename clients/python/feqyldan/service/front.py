@@ -70,8 +70,7 @@ class Front:
             self.status.look_at_clock(self.now)
 
     def report(self, connections: int) -> None:
-        """Reports what has happened since the last report. It is called once a minute by
-        default."""
+        """Reports what has happened since the last report, at most once a minute by default."""
         if self.now - self.reported_at < self.report_seconds:
             return
         counts = self.admission.counts

@@ -58,8 +58,8 @@ def number_in(path: str) -> Optional[int]:
 
 
 def raise_file_limit(whose: str, files: int) -> None:
-    """Raises the limit on open files, so that `files` more can be open besides the program's
-    own."""
+    """Raises the limit on open files, so that `files` more can be open besides the program's own.
+    Raises Unusable if the hard limit is lower."""
     wanted = files + OWN_FILES
     soft, hard = resource.getrlimit(resource.RLIMIT_NOFILE)
     if hard != resource.RLIM_INFINITY and hard < wanted:
