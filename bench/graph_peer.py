@@ -68,7 +68,7 @@ def run(calls, length=4):
 
 
 def looked_at(look):
-    """Computes the difference, statistics of it, and a threshold of it."""
+    """Computes the difference, statistics of the difference, and a threshold of it."""
     apart, out = arrays[:2]
     difference(first, apart)
     look(apart)

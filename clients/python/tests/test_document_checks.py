@@ -1,4 +1,5 @@
-"""tools/check_documents finds faults that are planted in the documents and in its list of names."""
+"""Tests that tools/check_documents finds faults that are planted in the documents and in its list
+of names."""
 
 import unittest
 

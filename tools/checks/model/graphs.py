@@ -45,7 +45,7 @@ def in_order(nodes):
 
 
 def filled(thing, node, first):
-    """Resolves the undeclared fields of an output from the node's in1, as far as that is
+    """Resolves the undeclared fields of an output from the node's in1, as far as in1 is
     resolved."""
     if not isinstance(thing, VirtualImage) or not is_open(thing):
         return thing

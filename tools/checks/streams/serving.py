@@ -30,7 +30,7 @@ def words_for(limits):
 
 @contextlib.contextmanager
 def running(command):
-    """A process of the program, which is killed if it doesn't end by itself."""
+    """Yields a process of the program. It is killed if it doesn't end by itself."""
     pipes = dict.fromkeys(("stdin", "stdout", "stderr"), subprocess.PIPE)
     process = subprocess.Popen(command, bufsize=0, **pipes)
     watch = threading.Timer(PATIENCE, process.kill)
