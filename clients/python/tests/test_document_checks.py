@@ -79,7 +79,7 @@ class TestLinks(unittest.TestCase):
 
 class TestMerges(unittest.TestCase):
     def test_an_unfinished_merge_is_found(self):
-        text = "".join(f"{word}\n" for word in ("a", "<" * 7 + " ours", "b", "=" * 7, ">" * 7 + " c"))
+        text = f"a\n{'<' * 7} ours\nb\n{'=' * 7}\n{'>' * 7} theirs\n"
         self.assertEqual(list(merges.marks(text)), [2, 5])
 
     def test_a_quotation_is_not(self):
