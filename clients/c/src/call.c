@@ -4,7 +4,8 @@
 #include <stdarg.h>
 #include <string.h>
 
-vx_uint32 scope_of(vx_reference about) {
+/* The name of the graph in which a call's virtual images have to be; 0 for none. */
+static vx_uint32 scope_of(vx_reference about) {
     if (about->type == VX_TYPE_NODE)
         return ((vx_node)about)->graph->base.name;
     return about->type == VX_TYPE_GRAPH ? about->name : 0;

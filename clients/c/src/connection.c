@@ -15,10 +15,10 @@
 /* Of LEAST_LENT bytes or more the pages are lent to the pipe; fewer are copied. */
 enum { HEAD = 7, REPLY_HEAD = 8, CODES = 14, LEAST_LENT = 1 << 16 };
 
-bool connection_open(struct connection *connection, char *why, size_t room) {
+bool connection_open(struct connection *connection, char *why, size_t size) {
     connection->in = connection->out = connection->pipe_reader = connection->errors = -1;
     connection->last = &connection->first;
-    return reach_server(connection, why, room);
+    return reach_server(connection, why, size);
 }
 
 void connection_close(struct connection *connection) {
@@ -250,14 +250,14 @@ bool connection_wait(struct connection *connection, struct request *request) {
     return request->is_done;
 }
 
-void connection_say_end(struct connection *connection, char *words, size_t room) {
+void connection_say_end(struct connection *connection, char *words, size_t size) {
     char said[256];
     if (connection->is_inherited) {
-        snprintf(words, room, "the server is the parent process's: make a context in this process");
+        snprintf(words, size, "the server is the parent process's: make a context in this process");
         return;
     }
     if (connection->has_timed_out) {
-        snprintf(words, room,
+        snprintf(words, size,
                  "the server didn't answer within the %g s that FEQYLDAN_TIMEOUT allows: allow "
                  "more, or see what keeps it busy",
                  connection->timeout / 1000.0);
@@ -269,5 +269,5 @@ void connection_say_end(struct connection *connection, char *words, size_t room)
     while (count > 0 && said[count - 1] == '\n')
         count--;
     said[count < 0 ? 0 : count] = '\0';
-    snprintf(words, room, "the server has ended%s%s", count > 0 ? ": " : "", said);
+    snprintf(words, size, "the server has ended%s%s", count > 0 ? ": " : "", said);
 }

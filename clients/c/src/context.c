@@ -100,8 +100,8 @@ static vx_status exchange(vx_context context, struct request *request, const uin
 }
 
 vx_status ask(vx_context context, enum op op, const uint8_t *body, size_t length, uint8_t *reply,
-              size_t room) {
-    struct request request = {.op = (uint8_t)op, .body = reply, .body_length = room};
+              size_t reply_length) {
+    struct request request = {.op = (uint8_t)op, .body = reply, .body_length = reply_length};
     return exchange(context, &request, body, length);
 }
 
@@ -154,16 +154,16 @@ static void make_base(vx_reference reference, vx_context context, vx_enum type, 
 }
 
 /* Connects to a server, which opens a context. Where that fails, writes why. */
-static bool open_server(vx_context context, char *why, size_t room) {
-    if (!connection_open(&context->connection, why, room))
+static bool open_server(vx_context context, char *why, size_t size) {
+    if (!connection_open(&context->connection, why, size))
         return false;
     end_look(context);
     vx_status status = ask(context, OPEN_CONTEXT, NULL, 0, NULL, 0);
     let_look(context);
     if (context->connection.has_ended)
-        connection_say_end(&context->connection, why, room);
+        connection_say_end(&context->connection, why, size);
     else
-        snprintf(why, room, "the server refused OpenContext: %s%s", name_of_status(status),
+        snprintf(why, size, "the server refused OpenContext: %s%s", name_of_status(status),
                  advice_on(OPEN_CONTEXT, status));
     return status == VX_SUCCESS;
 }
@@ -186,6 +186,7 @@ PUBLIC vx_context VX_API_CALL vxCreateContext(void) {
         free_context(context);
         return NULL;
     }
+    list_context(context);
     make_base(&context->base, context, VX_TYPE_CONTEXT, VX_SUCCESS);
     for (vx_status status = -1; status > VX_STATUS_MIN; status--)
         make_base(&context->errors[-status], context, VX_TYPE_ERROR, status);
@@ -194,12 +195,19 @@ PUBLIC vx_context VX_API_CALL vxCreateContext(void) {
 
 void leave_context(vx_context context) {
     leave_to_parent(&context->connection);
-    context->users = context->depth = 0;
-    context->is_in_callback = false;
+    context->is_in_callback =
+        context->is_in_callback && pthread_equal(context->caller, pthread_self());
+    context->users = context->depth = context->is_in_callback ? context->depth : 0;
+    /* A mutex that this thread locked before the fork can't be unlocked after it. */
     make_mutexes(context);
+    for (unsigned i = 0; i < context->depth; i++) {
+        pthread_mutex_lock(&context->calls);
+        pthread_mutex_lock(&context->objects);
+    }
 }
 
 void free_context(vx_context context) {
+    unlist_context(context);
     connection_close(&context->connection);
     while (context->first != NULL) {
         vx_reference object = context->first;

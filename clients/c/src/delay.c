@@ -82,7 +82,10 @@ PUBLIC vx_status VX_API_CALL vxAgeDelay(vx_delay delay) {
     vx_context context = enter(delay, VX_TYPE_DELAY);
     if (context == NULL)
         return VX_ERROR_INVALID_REFERENCE;
-    return leave(context, ask_named(context, AGE_DELAY, delay->base.name));
+    vx_status status = narrow_images(context);
+    if (status == VX_SUCCESS)
+        status = ask_named(context, AGE_DELAY, delay->base.name);
+    return leave(context, status);
 }
 
 static vx_status register_delay(vx_context context, vx_uint32 graph, vx_uint32 delay) {

@@ -73,6 +73,8 @@ static vx_status run_call(vx_context context, struct call *call) {
     if (status == VX_SUCCESS)
         status = send_images(&context->base, call);
     if (status == VX_SUCCESS)
+        status = narrow_images(context);
+    if (status == VX_SUCCESS)
         status = run_bytes(context, call, bytes);
     if (status == VX_SUCCESS)
         status = take_images(&context->base, call);

@@ -124,6 +124,10 @@ PUBLIC vx_status VX_API_CALL vxQueryImage(vx_image image, vx_enum attribute, voi
 
 vx_status query_valid(vx_image image, vx_rectangle_t *rect) {
     uint8_t body[5], reply[13];
+    if (image->is_widened) {
+        *rect = image->valid;
+        return VX_SUCCESS;
+    }
     put_image(body, image);
     vx_status status =
         ask(image->base.context, QUERY_IMAGE, body, sizeof body, reply, sizeof reply);
@@ -162,12 +166,31 @@ void note_outputs(const struct call *call) {
     }
 }
 
-vx_status set_valid(vx_image image, const vx_rectangle_t *rect) {
+static vx_status set_valid(vx_image image, const vx_rectangle_t *rect) {
     uint8_t body[13];
     uint8_t *at = put16(put16(put_image(body, image), rect->start_x), rect->start_y);
     put16(put16(at, rect->end_x), rect->end_y);
     note_computed(image);
+    image->is_widened = false;
     return ask(image->base.context, SET_VALID, body, sizeof body, NULL, 0);
+}
+
+void widen(vx_image image, const vx_rectangle_t *valid) {
+    image->is_widened = image->base.context->has_widened = true;
+    image->valid = *valid;
+}
+
+vx_status narrow_images(vx_context context) {
+    vx_status status = VX_SUCCESS;
+    if (!context->has_widened)
+        return status;
+    for (vx_reference object = context->first; object != NULL; object = object->next) {
+        bool is_widened = object->type == VX_TYPE_IMAGE && ((vx_image)object)->is_widened;
+        if (is_widened && status == VX_SUCCESS)
+            status = set_valid((vx_image)object, &((vx_image)object)->valid);
+    }
+    context->has_widened = status != VX_SUCCESS;
+    return status;
 }
 
 /* Whether a rectangle is the empty one, or one within an image. */

@@ -88,10 +88,10 @@ struct connection {
     size_t chunk_at, chunk_end;
 };
 
-bool connection_open(struct connection *connection, char *why, size_t room);
+bool connection_open(struct connection *connection, char *why, size_t size);
 void connection_close(struct connection *connection);
 /* Says in words why the connection has ended. */
-void connection_say_end(struct connection *connection, char *words, size_t room);
+void connection_say_end(struct connection *connection, char *words, size_t size);
 /* Sends a request's frame; false where the server has ended. */
 bool connection_send(struct connection *connection, struct request *request, const uint8_t *body,
                      size_t length);
@@ -106,7 +106,7 @@ bool connection_wait(struct connection *connection, struct request *request);
 
 /* ---- process.c: reaching a server ---- */
 
-bool reach_server(struct connection *connection, char *why, size_t room);
+bool reach_server(struct connection *connection, char *why, size_t size);
 void end_server(struct connection *connection);
 /* After a fork, in the child: leaves the server to the parent. */
 void leave_to_parent(struct connection *connection);
@@ -142,8 +142,10 @@ vx_status check(vx_context context, const void *reference, vx_enum type);
 /* Makes an object with one reference. Returns NULL where there is no memory. */
 void *make(vx_context context, vx_enum type, size_t size);
 void register_reference(vx_reference reference);
-/* From now on a child of this process leaves all contexts to it. */
+/* From now on a child of this process leaves all listed contexts to it. */
 void watch_forks_once(void);
+void list_context(vx_context context);
+void unlist_context(vx_context context);
 void unregister_reference(vx_reference reference);
 /* Adds or removes a reference of another object. */
 void hold(vx_reference reference);
@@ -166,7 +168,7 @@ bool is_copy(vx_enum usage, vx_enum memory);
 /* Memory for samples that are sent or read. */
 struct buffer {
     uint8_t *bytes;
-    size_t room;
+    size_t capacity;
 };
 
 struct _vx_context {
@@ -175,9 +177,11 @@ struct _vx_context {
     /* A thread with both locks changes objects and uses the connection. While it waits for the
        server it has only the first. A thread with only the second reads objects. */
     pthread_mutex_t calls, objects;
-    /* How many threads use the context, under the registry's lock; whether it was released. */
+    /* How many calls use the context, under the registry's lock; whether it was released; and the
+       process's next context. */
     unsigned users;
     bool is_closed;
+    vx_context next;
     /* Its objects, without itself and its error objects. */
     vx_reference first;
     struct _vx_reference errors[STATUSES + 1];
@@ -187,6 +191,8 @@ struct _vx_context {
     vx_uint32 extremes;
     vx_log_callback_f callback;
     bool is_logging, is_in_callback;
+    /* The thread that the callback runs in. */
+    pthread_t caller;
     /* How many calls are nested, since a log callback may make calls; and whether callbacks left
        objects unused. The outermost call destroys these when it leaves: the calls around a callback
        may still have them in hand. */
@@ -194,16 +200,19 @@ struct _vx_context {
     bool has_unused;
     /* Buffers for the next pictures. */
     struct buffer spares[SPARES];
+    /* Whether an image is widened. */
+    bool has_widened;
 };
 
 void free_context(vx_context context);
-/* After a fork, in the child: the context has no server, and no thread uses it. */
+/* After a fork, in the child: the context has no server. No thread uses it, unless its log callback
+   forked: then the call that the callback is in goes on. */
 void leave_context(vx_context context);
 /* Sets a border to the value of an attribute. */
 vx_status set_border(vx_border_t *border, const void *ptr, vx_size size);
-/* Sends a request and waits for its reply, which has a body of exactly room bytes. */
+/* Sends a request and waits for its reply, which has a body of exactly reply_length bytes. */
 vx_status ask(vx_context context, enum op op, const uint8_t *body, size_t length, uint8_t *reply,
-              size_t room);
+              size_t reply_length);
 vx_status ask_named(vx_context context, enum op op, vx_uint32 name);
 /* The same for a reply without a body. A refusal adds no log entry. */
 vx_status ask_quietly(vx_context context, enum op op, const uint8_t *body, size_t length);
@@ -268,6 +277,10 @@ struct _vx_image {
     vx_map_id next_map;
     /* Whether a node may have written it, so that its valid rectangle isn't known here. */
     bool is_computed;
+    /* Whether a write has made it wholly valid on the server; and the valid rectangle that it has
+       all the same. */
+    bool is_widened;
+    vx_rectangle_t valid;
     /* Whether it is an image from a handle, with the program's memory, or a uniform image. */
     bool is_handle, is_uniform;
     struct grid memory;
@@ -283,7 +296,12 @@ vx_status create_samples(vx_context context, vx_uint32 scope, const struct descr
 /* An image as described, or an error. */
 vx_reference create_image(vx_context context, struct _vx_image made);
 vx_status query_valid(vx_image image, vx_rectangle_t *rect);
-vx_status set_valid(vx_image image, const vx_rectangle_t *rect);
+/* Notes that a write has made an image wholly valid on the server. Its valid rectangle stays what
+   it was before. */
+void widen(vx_image image, const vx_rectangle_t *valid);
+/* Sets the valid rectangles of widened images on the server, which makes the samples outside them
+   0. This comes before a run, which uses valid rectangles, and before a delay ages. */
+vx_status narrow_images(vx_context context);
 /* Whether pixels may be outside an image's valid rectangle. */
 bool may_be_partial(const struct _vx_image *image);
 /* Marks the outputs of a call as written by a node. */
@@ -434,8 +452,6 @@ vx_status check_complete(vx_reference about, const struct call *call);
 /* Makes the thresholds, tables and other objects of a call on the server, and writes the bytes of
    the node. */
 vx_status encode_call(vx_reference about, struct call *call, uint8_t *bytes);
-/* The name of the graph in which a virtual image may be used; 0 for none. */
-vx_uint32 scope_of(vx_reference about);
 /* After a run: reads what MinMaxLoc found into the scalars and arrays of its call. */
 vx_status take_extremes(vx_context context, const struct call *call);
 
@@ -578,7 +594,7 @@ bool is_in_last_part(const struct _vx_node *node);
 /* ---- verdict.c ---- */
 
 /* Writes a node's number in order of addition, from 0, its function and its name. */
-void describe_node(vx_node node, char *words, size_t room);
+void describe_node(vx_node node, char *words, size_t size);
 /* Checks that no two nodes write the same scalar or array. The server doesn't know these. */
 vx_status check_writers(vx_graph graph);
 /* Whether a node reads an image that another node writes. */

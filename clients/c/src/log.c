@@ -5,7 +5,7 @@
 
 /* The object that an entry refers to, or where the program has released that, its graph or its
    context. */
-static vx_reference known(vx_reference reference) {
+static vx_reference entry_object(vx_reference reference) {
     if (!reference->is_live && reference->type == VX_TYPE_NODE &&
         ((vx_node)reference)->graph != NULL)
         reference = &((vx_node)reference)->graph->base;
@@ -20,7 +20,8 @@ static void tell_list(vx_reference reference, vx_status status, const char *word
     vsnprintf(message, sizeof message, words, list);
     /* Calls of the callback add no entries: else it might call itself without end. */
     context->is_in_callback = true;
-    context->callback(context, known(reference), status, message);
+    context->caller = pthread_self();
+    context->callback(context, entry_object(reference), status, message);
     context->is_in_callback = false;
 }
 

@@ -10,9 +10,9 @@
 /* DESCRIBED and WRITE_HEAD are the bytes before the samples in a reply and in a request. Samples
    are converted and sent PIECE bytes at a time, so that the server reads one piece while the next
    is converted. Buffers from LEAST_KEPT to GREATEST_KEPT bytes are kept. HUGE_PAGE is the size of
-   the processor's larger pages. */
+   the processor's larger pages. LEAD is explained at lead_of. */
 enum { DESCRIBED = 5, WRITE_HEAD = 10, PIECE = 1 << 17, LEAST_KEPT = 1 << 16,
-       GREATEST_KEPT = 1 << 26, HUGE_PAGE = 1 << 21 };
+       GREATEST_KEPT = 1 << 26, HUGE_PAGE = 1 << 21, LEAD = 16 };
 
 static vx_size samples_of(const struct _vx_image *image) {
     return (vx_size)image->width * image->height * sample_size(image->format);
@@ -28,9 +28,9 @@ static struct buffer make_buffer(size_t length) {
     void *bytes;
     if (huge == 0) {
         made.bytes = calloc(1, length);
-    } else if (posix_memalign(&bytes, HUGE_PAGE, made.room) == 0) {
+    } else if (posix_memalign(&bytes, HUGE_PAGE, made.capacity) == 0) {
         madvise(bytes, huge, MADV_HUGEPAGE);
-        made.bytes = memset(bytes, 0, made.room);
+        made.bytes = memset(bytes, 0, made.capacity);
     }
     return made;
 }
@@ -41,8 +41,8 @@ static struct buffer take_buffer(vx_context context, size_t length) {
     struct buffer *best = NULL;
     for (int i = 0; i < SPARES; i++) {
         struct buffer *spare = &context->spares[i];
-        if (length >= LEAST_KEPT && spare->room >= length &&
-            (best == NULL || spare->room < best->room))
+        if (length >= LEAST_KEPT && spare->capacity >= length &&
+            (best == NULL || spare->capacity < best->capacity))
             best = spare;
     }
     if (best == NULL)
@@ -54,8 +54,9 @@ static struct buffer take_buffer(vx_context context, size_t length) {
 
 /* Keeps the buffer if it is larger than one that is kept. */
 static void give_buffer(vx_context context, struct buffer given) {
-    for (int i = 0; i < SPARES && given.room >= LEAST_KEPT && given.room <= GREATEST_KEPT; i++)
-        if (context->spares[i].room < given.room) {
+    bool may_be_kept = given.capacity >= LEAST_KEPT && given.capacity <= GREATEST_KEPT;
+    for (int i = 0; i < SPARES && may_be_kept; i++)
+        if (context->spares[i].capacity < given.capacity) {
             struct buffer smaller = context->spares[i];
             context->spares[i] = given;
             given = smaller;
@@ -230,7 +231,7 @@ static vx_status write_image(vx_image image, struct source source) {
     return await_reply(context, &request, is_sent);
 }
 
-/* Writes a part of an image that becomes wholly valid. */
+/* Writes a part of an image, which the server then has as wholly valid. */
 static vx_status replace_part(vx_image image, const vx_rectangle_t *rect, struct grid from) {
     vx_size size = sample_size(image->format);
     bool is_all = is_whole(image, rect);
@@ -255,45 +256,22 @@ static vx_rectangle_t whole_of(const struct _vx_image *image) {
     return (vx_rectangle_t){0, 0, image->width, image->height};
 }
 
-/* The smallest rectangle that contains both, of which the first may be empty. */
-static vx_rectangle_t around(vx_rectangle_t first, const vx_rectangle_t *second) {
-    if (first.end_x == 0)
-        return *second;
-    if (second->start_x < first.start_x)
-        first.start_x = second->start_x;
-    if (second->start_y < first.start_y)
-        first.start_y = second->start_y;
-    if (second->end_x > first.end_x)
-        first.end_x = second->end_x;
-    if (second->end_y > first.end_y)
-        first.end_y = second->end_y;
-    return first;
-}
-
-/* Writes a part of an image, and extends its valid rectangle to contain the part. */
+/* Writes a part of an image. Its valid rectangle stays as it is, as the standard has it. */
 static vx_status write_part(vx_image image, const vx_rectangle_t *rect, struct grid from) {
     vx_rectangle_t valid = whole_of(image);
-    vx_status status = VX_SUCCESS;
-    if (!is_whole(image, rect) && may_be_partial(image))
-        status = query_valid(image, &valid);
+    vx_status status = may_be_partial(image) ? query_valid(image, &valid) : VX_SUCCESS;
     if (status == VX_SUCCESS)
         status = replace_part(image, rect, from);
-    valid = around(valid, rect);
     if (status == VX_SUCCESS && !is_whole(image, &valid))
-        status = set_valid(image, &valid);
+        widen(image, &valid);
     return status;
 }
 
 /* ---- Images from handles, and images of one value ---- */
 
 vx_status send_memory(vx_image image) {
-    vx_rectangle_t whole = whole_of(image), valid = whole;
-    vx_status status = may_be_partial(image) ? query_valid(image, &valid) : VX_SUCCESS;
-    if (status == VX_SUCCESS)
-        status = replace_part(image, &whole, image->memory);
-    if (status == VX_SUCCESS && !is_whole(image, &valid))
-        status = set_valid(image, &valid);
-    return status;
+    const vx_rectangle_t whole = whole_of(image);
+    return write_part(image, &whole, image->memory);
 }
 
 vx_status take_memory(vx_image image) {
@@ -443,6 +421,14 @@ static vx_imagepatch_addressing_t address_of(const struct map *map, vx_size size
                                         .stride_x_bits = (vx_uint16)(8 * size)};
 }
 
+/* How many bytes of a buffer are before the samples of a map. On the server a large picture begins
+   LEAD bytes after the start of a page, where malloc places it. The system copies faster from one
+   page to another if both copies begin at the same place in a page. */
+static size_t lead_of(struct buffer buffer, vx_enum usage) {
+    bool is_at_page = (uintptr_t)buffer.bytes % HUGE_PAGE == 0;
+    return usage != VX_READ_ONLY && is_at_page ? LEAD : 0;
+}
+
 /* Makes a map: in place for an image from a handle, else of a buffer with any samples. Returns NULL
    where there is no memory. */
 static struct map *make_map(vx_image image, const vx_rectangle_t *rect, vx_enum usage) {
@@ -453,12 +439,14 @@ static struct map *make_map(vx_image image, const vx_rectangle_t *rect, vx_enum 
     if (image->is_handle)
         return map;
     vx_size size = sample_size(image->format), row = size * (rect->end_x - rect->start_x);
-    map->samples = take_buffer(image->base.context, row * (rect->end_y - rect->start_y));
-    map->grid = (struct grid){map->samples.bytes, (ptrdiff_t)size, (ptrdiff_t)row};
-    if (map->samples.bytes != NULL)
-        return map;
-    free(map);
-    return NULL;
+    map->samples = take_buffer(image->base.context, LEAD + row * (rect->end_y - rect->start_y));
+    if (map->samples.bytes == NULL) {
+        free(map);
+        return NULL;
+    }
+    map->grid = (struct grid){map->samples.bytes + lead_of(map->samples, usage), (ptrdiff_t)size,
+                              (ptrdiff_t)row};
+    return map;
 }
 
 static void free_map(vx_context context, struct map *map) {

@@ -27,13 +27,13 @@ extern char **environ;
    of a user have 64 MiB together. GREATEST_TIMEOUT is in seconds. */
 enum { END_TIME = 1000, PIPE_BYTES = 1 << 19, GREATEST_TIMEOUT = 1000000 };
 
-static bool no_server(char *why, size_t room, const char *what, const char *path, int error) {
+static bool no_server(char *why, size_t size, const char *what, const char *path, int error) {
     const char *advice = "";
     if (error == ENOENT)
         advice = "; set FEQYLDAN_PROGRAM to a server, or FEQYLDAN_SOCKET to a socket";
     if (error == EAGAIN)
         advice = ": too many programs wait for it; allow more time by FEQYLDAN_TIMEOUT";
-    snprintf(why, room, "can't %s %s: %s%s", what, path, strerror(error), advice);
+    snprintf(why, size, "can't %s %s: %s%s", what, path, strerror(error), advice);
     return false;
 }
 
@@ -63,7 +63,7 @@ static double parse_number(const char *text, char **rest) {
 }
 
 /* Sets how long to wait for the server to accept or send a byte. */
-static bool set_timeout(struct connection *connection, char *why, size_t room) {
+static bool set_timeout(struct connection *connection, char *why, size_t size) {
     const char *said = setting("FEQYLDAN_TIMEOUT");
     connection->timeout = -1;
     if (said == NULL)
@@ -71,7 +71,7 @@ static bool set_timeout(struct connection *connection, char *why, size_t room) {
     char *rest;
     double seconds = parse_number(said, &rest);
     if (*rest != '\0' || !(seconds >= 0.001 && seconds <= GREATEST_TIMEOUT)) {
-        snprintf(why, room, "FEQYLDAN_TIMEOUT is %s, and has to be 0.001 to %d seconds", said,
+        snprintf(why, size, "FEQYLDAN_TIMEOUT is %s, and has to be 0.001 to %d seconds", said,
                  GREATEST_TIMEOUT);
         return false;
     }
@@ -89,14 +89,14 @@ static void limit_waits(struct connection *connection) {
     setsockopt(connection->in, SOL_SOCKET, SO_SNDTIMEO, &limit, sizeof limit);
 }
 
-static bool reach_socket(struct connection *connection, const char *path, char *why, size_t room) {
+static bool reach_socket(struct connection *connection, const char *path, char *why, size_t size) {
     struct sockaddr_un address = {.sun_family = AF_UNIX};
     if (strlen(path) >= sizeof address.sun_path)
-        return no_server(why, room, "connect to", path, ENAMETOOLONG);
+        return no_server(why, size, "connect to", path, ENAMETOOLONG);
     strcpy(address.sun_path, path);
     connection->in = socket(AF_UNIX, SOCK_STREAM | SOCK_CLOEXEC, 0);
     if (connection->in < 0)
-        return no_server(why, room, "connect to", path, errno);
+        return no_server(why, size, "connect to", path, errno);
     limit_waits(connection);
     while (connect(connection->in, (struct sockaddr *)&address, sizeof address) != 0) {
         if (errno == EINTR)
@@ -104,7 +104,7 @@ static bool reach_socket(struct connection *connection, const char *path, char *
         int error = errno;
         close(connection->in);
         connection->in = -1;
-        return no_server(why, room, "connect to", path, error);
+        return no_server(why, size, "connect to", path, error);
     }
     connection->out = connection->in;
     return true;
@@ -240,18 +240,18 @@ static int make_ends(int ends[5]) {
     return error;
 }
 
-static bool start(struct connection *connection, char *why, size_t room) {
+static bool start(struct connection *connection, char *why, size_t size) {
     int ends[5];
     const char *named = named_program();
     const char *program = named != NULL ? named : "feqyldan or vx_main";
     int error = make_ends(ends);
     if (error != 0)
-        return no_server(why, room, "start", program, error);
+        return no_server(why, size, "start", program, error);
     error = spawn_found((struct ends){ends[0], ends[3], ends[4]}, &connection->process);
     if (error != 0) {
         connection->process = 0;
         close_all(ends, 5);
-        return no_server(why, room, "start", program, error);
+        return no_server(why, size, "start", program, error);
     }
     close(ends[3]);
     /* This process keeps the reading end of the pipe too, so that a write to an ended server never
@@ -267,11 +267,11 @@ static bool start(struct connection *connection, char *why, size_t room) {
     return true;
 }
 
-bool reach_server(struct connection *connection, char *why, size_t room) {
+bool reach_server(struct connection *connection, char *why, size_t size) {
     const char *path = setting("FEQYLDAN_SOCKET");
-    if (!set_timeout(connection, why, room))
+    if (!set_timeout(connection, why, size))
         return false;
-    return path != NULL ? reach_socket(connection, path, why, room) : start(connection, why, room);
+    return path != NULL ? reach_socket(connection, path, why, size) : start(connection, why, size);
 }
 
 /* Reads until the server closes its output, or sends nothing for END_TIME. */

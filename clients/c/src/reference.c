@@ -10,6 +10,8 @@ enum { BUCKETS = 4096 };
 static struct {
     pthread_mutex_t mutex;
     vx_reference buckets[BUCKETS];
+    /* All contexts, also released ones that calls still use. */
+    vx_context contexts;
 } registry = {.mutex = PTHREAD_MUTEX_INITIALIZER};
 
 static vx_reference *bucket_of(const void *reference) {
@@ -54,10 +56,8 @@ static void unlock_registry(void) { pthread_mutex_unlock(&registry.mutex); }
 
 /* After a fork, in the child: the contexts and their servers stay the parent's. */
 static void leave_contexts(void) {
-    for (int i = 0; i < BUCKETS; i++)
-        for (vx_reference found = registry.buckets[i]; found != NULL; found = found->chain)
-            if (found->type == VX_TYPE_CONTEXT)
-                leave_context((vx_context)found);
+    for (vx_context context = registry.contexts; context != NULL; context = context->next)
+        leave_context(context);
     unlock_registry();
 }
 
@@ -66,6 +66,23 @@ static void watch_forks(void) { pthread_atfork(lock_registry, unlock_registry, l
 void watch_forks_once(void) {
     static pthread_once_t once = PTHREAD_ONCE_INIT;
     pthread_once(&once, watch_forks);
+}
+
+void list_context(vx_context context) {
+    lock_registry();
+    context->next = registry.contexts;
+    registry.contexts = context;
+    unlock_registry();
+}
+
+void unlist_context(vx_context context) {
+    lock_registry();
+    vx_context *place = &registry.contexts;
+    while (*place != NULL && *place != context)
+        place = &(*place)->next;
+    if (*place != NULL)
+        *place = context->next;
+    unlock_registry();
 }
 
 /* Returns the context of a live reference of a type, and counts a user of it. Returns NULL for

@@ -77,6 +77,12 @@ static vx_status move_handles(vx_graph graph,
     return status;
 }
 
+/* Brings the images that a run uses up to date on the server. */
+static vx_status send_inputs(vx_graph graph) {
+    vx_status status = move_handles(graph, send_images);
+    return status == VX_SUCCESS ? narrow_images(graph->base.context) : status;
+}
+
 vx_status ask_verdict(vx_graph graph, vx_uint32 name, enum op op) {
     uint8_t body[4];
     put32(body, name);
@@ -171,7 +177,7 @@ PUBLIC vx_status VX_API_CALL vxVerifyGraph(vx_graph graph) {
 static vx_status begin_parts(vx_graph graph) {
     vx_status status = graph->parts.count == 0 ? verify(graph) : VX_SUCCESS;
     if (status == VX_SUCCESS)
-        status = move_handles(graph, send_images);
+        status = send_inputs(graph);
     return status == VX_SUCCESS ? run_first_parts(graph) : status;
 }
 
@@ -184,7 +190,7 @@ static vx_status run_in_parts(vx_graph graph) {
 static vx_status run_whole(vx_graph graph) {
     vx_status status = send_nodes(graph);
     if (status == VX_SUCCESS)
-        status = move_handles(graph, send_images);
+        status = send_inputs(graph);
     if (status == VX_SUCCESS)
         status = ask_verdict(graph, graph->base.name, PROCESS_GRAPH);
     if (status == VX_SUCCESS)
@@ -227,7 +233,7 @@ static vx_status schedule_parts(vx_graph graph) {
 static vx_status schedule_whole(vx_graph graph) {
     vx_status status = graph->is_verified ? send_nodes(graph) : verify(graph);
     if (status == VX_SUCCESS)
-        status = move_handles(graph, send_images);
+        status = send_inputs(graph);
     if (status != VX_SUCCESS)
         return status;
     begin_run(graph);

@@ -10,20 +10,20 @@ static vx_reference about_of(vx_node node) {
     return node->base.type == VX_TYPE_NODE ? &node->base : &node->base.context->base;
 }
 
-void describe_node(vx_node node, char *words, size_t room) {
+void describe_node(vx_node node, char *words, size_t size) {
     const char *name = definition_of(node->call.function)->node_name;
     unsigned number = 0;
     if (node->base.type != VX_TYPE_NODE) {
-        snprintf(words, room, "%s", definition_of(node->call.function)->immediate_name);
+        snprintf(words, size, "%s", definition_of(node->call.function)->immediate_name);
         return;
     }
     for (vx_node other = node->graph == NULL ? node : node->graph->first; other != node;
          other = other->next_node)
         number++;
     if (node->base.label[0] == '\0')
-        snprintf(words, room, "node %u (%s)", number, name);
+        snprintf(words, size, "node %u (%s)", number, name);
     else
-        snprintf(words, room, "node %u (%s, \"%s\")", number, name, node->base.label);
+        snprintf(words, size, "node %u (%s, \"%s\")", number, name, node->base.label);
 }
 
 static const char *format_name(vx_df_image format) {
@@ -247,15 +247,15 @@ static void tell_node(vx_node node, vx_status status, const char *words) {
 }
 
 /* Lists the images of a node: parameter, format and size. */
-static void list_images(const struct _vx_node *node, char *words, size_t room) {
+static void list_images(const struct _vx_node *node, char *words, size_t size) {
     const struct definition *definition = definition_of(node->call.function);
     size_t length = 0;
     words[0] = '\0';
     for (vx_uint32 i = 0; i < definition->count; i++) {
         const struct formal *formal = &definition->formals[i];
         vx_image image = formal->place <= OUT2 ? image_at(node, formal->place) : NULL;
-        if (image != NULL && length < room)
-            length += (size_t)snprintf(words + length, room - length, "%s%s is %s, %u x %u",
+        if (image != NULL && length < size)
+            length += (size_t)snprintf(words + length, size - length, "%s%s is %s, %u x %u",
                                        length == 0 ? "" : "; ", formal->name,
                                        format_name(image->found.format), image->found.width,
                                        image->found.height);

@@ -1,7 +1,9 @@
-/* Log callbacks that release, remove and unmap what the call at fault has in hand. The sanitizer of
-   addresses tells of memory that is used after it was freed. */
+/* Log callbacks that release, remove and unmap what the call at fault has in hand, and that fork.
+   The sanitizer of addresses tells of memory that is used after it was freed, or that is lost. */
 #define _XOPEN_SOURCE 700
 #include "server.h"
+
+#include <unistd.h>
 
 enum { SIDE = 4, COUNT = SIDE * SIDE, NODES = 3 };
 
@@ -17,6 +19,12 @@ static int entries;
 /* What the callback does. */
 static enum { RELEASE_NODES, REMOVE_NODES, RELEASE_ALL, CLOSE, DEEDS } deed;
 
+/* Whether the callback forks before or after that. The call at fault then ends in both
+   processes. */
+static enum { NO_FORK, FORK_BEFORE, FORK_AFTER, FORKS } forking;
+/* The child that the callback made; 0 in the child itself. */
+static pid_t child;
+
 static void release_all(void) {
     vxReleaseGraph(&graph);
     vxReleaseDelay(&delay);
@@ -25,12 +33,18 @@ static void release_all(void) {
     vxReleaseImage(&wide);
 }
 
+static void fork_if(int is_now) {
+    child = is_now ? fork() : child;
+    CHECK(child >= 0);
+}
+
 static void on_entry(vx_context of, vx_reference ref, vx_status status, const vx_char string[]) {
     (void)ref;
     CHECK(of != NULL && status != VX_SUCCESS && string[0] != '\0');
     /* The calls of a callback add no entry, and those after it find nothing to do. */
     if (entries++ > 0)
         return;
+    fork_if(forking == FORK_BEFORE);
     if (map != 0)
         vxUnmapImagePatch(images[0], map);
     for (int i = 0; i < NODES && deed != RELEASE_NODES; i++)
@@ -41,6 +55,7 @@ static void on_entry(vx_context of, vx_reference ref, vx_status status, const vx
         release_all();
     if (deed == CLOSE)
         EXPECT(VX_SUCCESS, vxReleaseContext(&context));
+    fork_if(forking == FORK_AFTER);
 }
 
 /* A context with a graph that is a chain of nodes. It is refused if its last image is too wide. */
@@ -64,9 +79,14 @@ static void open_context(int is_refused) {
 }
 
 static void close_context(void) {
+    int status;
     CHECK(entries > 0);
     if (context != NULL)
         EXPECT(VX_SUCCESS, vxReleaseContext(&context));
+    if (forking != NO_FORK && child == 0)
+        exit(0);
+    if (forking != NO_FORK)
+        CHECK(waitpid(child, &status, 0) == child && WIFEXITED(status) && WEXITSTATUS(status) == 0);
 }
 
 /* Calls that are refused: by the server, or by the library. */
@@ -121,9 +141,10 @@ static void end_calls(void) {
 }
 
 int main(void) {
-    for (deed = RELEASE_NODES; deed < DEEDS; deed++) {
-        refuse_calls();
-        end_calls();
-    }
+    for (forking = NO_FORK; forking < FORKS; forking++)
+        for (deed = RELEASE_NODES; deed < DEEDS; deed++) {
+            refuse_calls();
+            end_calls();
+        }
     return 0;
 }

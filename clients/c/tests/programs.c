@@ -283,8 +283,8 @@ static vx_enum state_of(vx_graph graph) {
     return state;
 }
 
-/* A graph that changes while it is scheduled: the run is of the nodes that it had, and the graph has
-   to be verified again. The node that is added writes an image from a handle. */
+/* A graph that changes while it is scheduled: the run is of the nodes that it had, and the graph
+   has to be verified again. The node that is added writes an image from a handle. */
 static void change_while_scheduled(vx_context context) {
     vx_uint8 own[COUNT] = {77};
     void *memory = own;

@@ -184,49 +184,112 @@ static void use_uniform_images(void) {
     ERROR_CHECK_STATUS(vxReleaseImage(&other));
 }
 
-/* What of an image is valid stays so when a part of it is written, and no pixel written is lost. */
-static void keep_valid_rectangles(void) {
+static void expect_valid(vx_image image, vx_rectangle_t expected) {
     vx_rectangle_t valid;
-    vx_image in = vxCreateImage(context, WIDTH, HEIGHT, VX_DF_IMAGE_U8);
-    vx_image out = vxCreateImage(context, WIDTH, HEIGHT, VX_DF_IMAGE_U8);
-    vx_uint8 pixels[WIDTH * HEIGHT];
-    const vx_rectangle_t inner = {5, 5, 6, 6}, corner = {0, 0, 2, 1};
-    const vx_imagepatch_addressing_t addr = by_rows(WIDTH, HEIGHT, 1);
-    memset(pixels, 9, sizeof pixels);
-    ERROR_CHECK_STATUS(vxuBox3x3(context, in, out));
-    ERROR_CHECK_STATUS(vxCopyImagePatch(out, &inner, 0, &addr, pixels, VX_WRITE_ONLY,
-                                        VX_MEMORY_TYPE_HOST));
-    ERROR_CHECK_STATUS(vxGetValidRegionImage(out, &valid));
-    CHECK(valid.start_x == 1 && valid.start_y == 1 && valid.end_x == WIDTH - 1 &&
-          valid.end_y == HEIGHT - 1);
+    ERROR_CHECK_STATUS(vxGetValidRegionImage(image, &valid));
+    CHECK(memcmp(&valid, &expected, sizeof valid) == 0);
+}
+
+/* How many valid pixels of an image have a value. */
+static vx_uint32 count_of(vx_image image, vx_uint8 value) {
     vx_distribution counts = vxCreateDistribution(context, 256, 0, 256);
     vx_uint32 *found;
     vx_map_id map;
-    ERROR_CHECK_STATUS(vxuHistogram(context, out, counts));
+    ERROR_CHECK_STATUS(vxuHistogram(context, image, counts));
     ERROR_CHECK_STATUS(vxMapDistribution(counts, &map, (void **)&found, VX_READ_ONLY,
                                          VX_MEMORY_TYPE_HOST, 0));
-    CHECK(found[0] == (WIDTH - 2) * (HEIGHT - 2) - 1 && found[9] == 1);
+    vx_uint32 count = found[value];
     ERROR_CHECK_STATUS(vxUnmapDistribution(counts, map));
     EXPECT(VX_ERROR_INVALID_PARAMETERS, vxUnmapDistribution(counts, map));
     EXPECT(VX_ERROR_NOT_SUPPORTED, vxMapDistribution(counts, &map, (void **)&found, VX_WRITE_ONLY,
                                                      VX_MEMORY_TYPE_HOST, 0));
-    ERROR_CHECK_STATUS(vxCopyImagePatch(out, &corner, 0, &addr, pixels, VX_WRITE_ONLY,
-                                        VX_MEMORY_TYPE_HOST));
-    ERROR_CHECK_STATUS(vxGetValidRegionImage(out, &valid));
-    CHECK(valid.start_x == 0 && valid.start_y == 0 && valid.end_x == WIDTH - 1);
-    CHECK(pixel_of(out, 1, 0) == 9 && pixel_of(out, 5, 5) == 9);
-    ERROR_CHECK_STATUS(copy_whole(out, WIDTH, HEIGHT, 1, pixels, VX_WRITE_ONLY));
-    ERROR_CHECK_STATUS(vxGetValidRegionImage(out, &valid));
-    CHECK(valid.end_x == WIDTH && valid.end_y == HEIGHT && pixel_of(out, WIDTH - 1, 0) == 9);
-    const vx_rectangle_t empty = {0, 0, 0, 0};
-    ERROR_CHECK_STATUS(vxSetImageValidRectangle(out, &empty));
-    ERROR_CHECK_STATUS(vxCopyImagePatch(out, &inner, 0, &addr, pixels, VX_WRITE_ONLY,
-                                        VX_MEMORY_TYPE_HOST));
-    ERROR_CHECK_STATUS(vxGetValidRegionImage(out, &valid));
-    CHECK(memcmp(&valid, &inner, sizeof valid) == 0);
     ERROR_CHECK_STATUS(vxReleaseDistribution(&counts));
+    return count;
+}
+
+static const vx_rectangle_t inner = {1, 1, WIDTH - 1, HEIGHT - 1};
+static const vx_rectangle_t everything = {0, 0, WIDTH, HEIGHT};
+
+/* An image with its inner pixels valid, all of them 0. */
+static vx_image computed_image(void) {
+    vx_image in = vxCreateImage(context, WIDTH, HEIGHT, VX_DF_IMAGE_U8);
+    vx_image out = vxCreateImage(context, WIDTH, HEIGHT, VX_DF_IMAGE_U8);
+    ERROR_CHECK_STATUS(vxuBox3x3(context, in, out));
     ERROR_CHECK_STATUS(vxReleaseImage(&in));
+    expect_valid(out, inner);
+    return out;
+}
+
+/* No write changes what is valid. Pixels written outside it are lost in the next run, unless the
+   program makes them valid before. */
+static void keep_valid_rectangles(void) {
+    const vx_rectangle_t pixel = {5, 5, 6, 6}, corner = {0, 0, 2, 1}, empty = {0, 0, 0, 0};
+    const vx_imagepatch_addressing_t addr = by_rows(WIDTH, HEIGHT, 1);
+    vx_uint8 pixels[WIDTH * HEIGHT];
+    vx_image image = computed_image();
+    memset(pixels, 9, sizeof pixels);
+    ERROR_CHECK_STATUS(vxCopyImagePatch(image, &pixel, 0, &addr, pixels, VX_WRITE_ONLY,
+                                        VX_MEMORY_TYPE_HOST));
+    expect_valid(image, inner);
+    CHECK(count_of(image, 0) == (WIDTH - 2) * (HEIGHT - 2) - 1 && count_of(image, 9) == 1);
+    ERROR_CHECK_STATUS(vxCopyImagePatch(image, &corner, 0, &addr, pixels, VX_WRITE_ONLY,
+                                        VX_MEMORY_TYPE_HOST));
+    expect_valid(image, inner);
+    CHECK(pixel_of(image, 1, 0) == 9 && pixel_of(image, 5, 5) == 9);
+    CHECK(count_of(image, 9) == 1 && pixel_of(image, 1, 0) == 0 && pixel_of(image, 5, 5) == 9);
+    ERROR_CHECK_STATUS(copy_whole(image, WIDTH, HEIGHT, 1, pixels, VX_WRITE_ONLY));
+    expect_valid(image, inner);
+    ERROR_CHECK_STATUS(vxSetImageValidRectangle(image, NULL));
+    expect_valid(image, everything);
+    CHECK(count_of(image, 9) == WIDTH * HEIGHT);
+    ERROR_CHECK_STATUS(vxSetImageValidRectangle(image, &empty));
+    ERROR_CHECK_STATUS(copy_whole(image, WIDTH, HEIGHT, 1, pixels, VX_WRITE_ONLY));
+    expect_valid(image, empty);
+    CHECK(count_of(image, 9) == 0);
+    ERROR_CHECK_STATUS(vxReleaseImage(&image));
+}
+
+/* One value for all pixels leaves what is valid too; and so do runs of graphs. */
+static void keep_valid_rectangles_of_one_value(void) {
+    const vx_pixel_value_t value = {.U8 = 7};
+    vx_image image = computed_image();
+    vx_image out = vxCreateImage(context, WIDTH, HEIGHT, VX_DF_IMAGE_U8);
+    vx_graph graph = vxCreateGraph(context);
+    ERROR_CHECK_STATUS(STATUS(vxNotNode(graph, image, out)));
+    ERROR_CHECK_STATUS(vxSetImagePixelValues(image, &value));
+    expect_valid(image, inner);
+    CHECK(pixel_of(image, 0, 0) == 7 && pixel_of(image, 1, 1) == 7);
+    ERROR_CHECK_STATUS(vxProcessGraph(graph));
+    expect_valid(image, inner);
+    expect_valid(out, inner);
+    CHECK(pixel_of(image, 0, 0) == 0 && pixel_of(out, 0, 0) == 0 && pixel_of(out, 1, 1) == 248);
+    ERROR_CHECK_STATUS(vxSetImagePixelValues(image, &value));
+    ERROR_CHECK_STATUS(vxSetImageValidRectangle(image, &everything));
+    ERROR_CHECK_STATUS(vxScheduleGraph(graph));
+    ERROR_CHECK_STATUS(vxWaitGraph(graph));
+    expect_valid(out, everything);
+    CHECK(pixel_of(out, 0, 0) == 248);
+    ERROR_CHECK_STATUS(vxReleaseGraph(&graph));
+    ERROR_CHECK_STATUS(vxReleaseImage(&image));
     ERROR_CHECK_STATUS(vxReleaseImage(&out));
+}
+
+/* A valid rectangle stays an image's own while its delay ages. */
+static void keep_valid_rectangles_of_slots(void) {
+    const vx_pixel_value_t value = {.U8 = 7};
+    vx_image exemplar = computed_image();
+    vx_delay delay = vxCreateDelay(context, (vx_reference)exemplar, 2);
+    vx_image newest = (vx_image)vxGetReferenceFromDelay(delay, 0);
+    vx_image older = (vx_image)vxGetReferenceFromDelay(delay, -1);
+    ERROR_CHECK_STATUS(vxSetImageValidRectangle(newest, &inner));
+    ERROR_CHECK_STATUS(vxSetImagePixelValues(newest, &value));
+    expect_valid(newest, inner);
+    ERROR_CHECK_STATUS(vxAgeDelay(delay));
+    expect_valid(newest, everything);
+    expect_valid(older, inner);
+    CHECK(count_of(older, 7) == (WIDTH - 2) * (HEIGHT - 2));
+    ERROR_CHECK_STATUS(vxReleaseDelay(&delay));
+    ERROR_CHECK_STATUS(vxReleaseImage(&exemplar));
 }
 
 static void use_tables(void) {
@@ -320,6 +383,8 @@ int main(void) {
     use_handles();
     use_uniform_images();
     keep_valid_rectangles();
+    keep_valid_rectangles_of_one_value();
+    keep_valid_rectangles_of_slots();
     use_tables();
     use_arrays();
     ask_context();

@@ -600,8 +600,10 @@ class Connection:
     # ---- what is read
 
     def _poll_with(self, wake: Optional[int]) -> select.poll:
-        """Returns a poll object for a reply, for `wake`, and for the server to take unsent
-        bytes."""
+        """
+        Returns a poll object for the descriptors to wait for: the reader, the writer while a part
+        of a request is unsent, and `wake`.
+        """
         if wake is None:
             return self._either if self._unsent else self._readable
         poll = select.poll()

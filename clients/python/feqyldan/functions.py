@@ -343,8 +343,8 @@ class Functions(Generic[Given]):
 
     @function(wire.HISTOGRAM, "Histogram")
     def histogram(self, input: Operand, distribution: Distribution) -> Given:
-        """Counts the valid samples of a U8 image into the bins of a distribution. All counts begin
-        at 0."""
+        """Counts the valid samples of a U8 image in the bins of a distribution. The counts begin
+        at 0 in each run."""
         return self._do("histogram", input, None, distribution)
 
     @function(wire.INTEGRAL, "IntegralImage")

@@ -1,12 +1,12 @@
 -- What windows read along rows.
-use Rattle.std.proofs.Common.{◌≡◌, ℕ, ℤ, pos, ◌+◌, ◌-◌, ◌<◌, ◌≤◌, ◌+ℤ◌, ◌-ℤ◌, ◌<ℤ◌, ◌≤ℤ◌, ◌&&◌, Bool, true, false, cond, List, ◌++◌, length, map, replicate, min, max, take, get_or, refl, ap, ◌∙◌, sym, arith, zero-add, Option, Some, None, int_lt, int_le, unsigned_abs}
+use Rattle.std.proofs.Common.{◌≡◌, ℕ, ℤ, pos, ◌+◌, ◌-◌, ◌<◌, ◌≤◌, ◌-ℤ◌, ◌<ℤ◌, ◌≤ℤ◌, ◌&&◌, Bool, true, false, cond, List, ◌++◌, length, map, replicate, min, max, take, get_or, refl, ap, ◌∙◌, sym, arith, zero-add, Option, Some, None, int_lt, int_le, unsigned_abs}
 use Rattle.std.proofs.lemmas.Int.{ints, by_lt_z}
 use Rattle.std.proofs.lemmas.List.{take-map, take-replicate}
 use Rattle.std.proofs.Math.ListN.{get_or-map}
 use Rattle.vx_base.specs.declared.border.Border.{Border}
 use Rattle.vx_base.specs.declared.border.Border.TheVariants.{Undefined, Constant, Replicate}
 use Rattle.vx_base.specs.Rectangle.{Rectangle}
-use Rattle.vx_base.specs.Image.{ImageValue, run, pixel_at}
+use Rattle.vx_base.specs.Image.{ImageValue, IsImage, run, pixel_at}
 use Rattle.vx_base.specs.Window.{clamp_coordinate, border_sample, sample_or_border}
 use Rattle.vx_base.proofs.TableLaws.{run-append, run-same, run-constant, get_or-run}
 use Rattle.vx_base.proofs.WindowLaws.{run_shifted}
@@ -30,9 +30,6 @@ not_at_most a b h = grind (arith, ints)
 
 nearest_below : (low high : ℕ) (v : ℤ) → low < high → v <ℤ pos low → clamp_coordinate low high v ≡ low
 nearest_below low high v some h = grind (arith, ints)
-
-nearest_inside : (low high : ℕ) (v : ℤ) → pos low ≤ℤ v → v <ℤ pos high → clamp_coordinate low high v ≡ unsigned_abs v
-nearest_inside low high v a b = grind (arith, ints)
 
 nearest_tested : (low high : ℕ) (v : ℤ) → (int_le (pos low) v && int_lt v (pos high)) ≡ true → clamp_coordinate low high v ≡ unsigned_abs v
 nearest_tested low high v h = grind (arith, ints)
@@ -62,54 +59,43 @@ seen_inside image border x line a b = rw (not_below x (pos image.valid.x0) a, be
 pub seen_right : (image : ImageValue) (border : Border) (x : ℤ) (line : ℕ) → pos image.valid.x0 ≤ℤ x → pos image.valid.x1 ≤ℤ x → seen_along image border line x ≡ border_value border (pixel_at image (image.valid.x1 - 1) line)
 seen_right image border x line a b = rw (not_below x (pos image.valid.x0) a, not_below x (pos image.valid.x1) b) refl
 
+-- the row that is seen, from a test of it
+pub row_is : (image : ImageValue) (border : Border) (y z : ℤ) (found o : Option ℕ) → y ≡ z → found ≡ row_seen image.valid border y → found ≡ o → row_seen image.valid border z ≡ o
+row_is image border y z found o same is at = ap (row_seen image.valid border) (sym same) ∙ sym is ∙ at
+
 -- ---- rows
 
--- a row that is seen in row y under Replicate is the nearest
-line_near : (valid : Rectangle) (y : ℤ) (line : ℕ) → row_seen valid Replicate y ≡ Some line → clamp_coordinate valid.y0 valid.y1 y ≡ line
-line_near valid y line e = known (int_le (pos valid.y0) y && int_lt y (pos valid.y1)) refl e
-  where
-    known : (b : Bool) → (int_le (pos valid.y0) y && int_lt y (pos valid.y1)) ≡ b → cond b (Some (unsigned_abs y)) (Some (clamp_coordinate valid.y0 valid.y1 y)) ≡ Some line → clamp_coordinate valid.y0 valid.y1 y ≡ line
-    known true inside e = cc (nearest_tested valid.y0 valid.y1 y inside)
-    known false outside e = cc
+-- in a row that takes the samples of a valid row: its sample in the valid columns, elsewhere the border's for the nearest of them
+line_at : (image : ImageValue) (border : Border) (x y : ℤ) (line : ℕ) (b c : Bool) → (int_le (pos image.valid.y0) y && int_lt y (pos image.valid.y1)) ≡ b → (int_le (pos image.valid.x0) x && int_lt x (pos image.valid.x1)) ≡ c
+    → cond b (Some (unsigned_abs y)) (border_row image.valid border y) ≡ Some line → cond (c && b) (pixel_at image (unsigned_abs x) (unsigned_abs y)) (border_sample image border x y)
+    ≡ cond c (pixel_at image (unsigned_abs x) line) (border_value border (pixel_at image (clamp_coordinate image.valid.x0 image.valid.x1 x) line))
+line_at image border x y line true true rows columns e = let same : unsigned_abs y ≡ line = cc in ap (pixel_at image (unsigned_abs x)) same
+line_at image Undefined x y line true false rows columns e = refl
+line_at image (Constant value) x y line true false rows columns e = refl
+line_at image Replicate x y line true false rows columns e = cc (nearest_tested image.valid.y0 image.valid.y1 y rows)
+line_at image Undefined x y line false c rows columns e = cc
+line_at image (Constant value) x y line false c rows columns e = cc
+line_at image Replicate x y line false true rows columns e = cc (nearest_tested image.valid.x0 image.valid.x1 x columns)
+line_at image Replicate x y line false false rows columns e = cc
 
--- the border's sample in a row that takes the samples of a valid row
-elsewhere_line : (image : ImageValue) (border : Border) (x y : ℤ) (line edge : ℕ) → row_seen image.valid border y ≡ Some line → clamp_coordinate image.valid.x0 image.valid.x1 x ≡ edge → border_sample image border x y ≡ border_value border (pixel_at image edge line)
-elsewhere_line image Undefined x y line edge e near = refl
-elsewhere_line image (Constant value) x y line edge e near = refl
-elsewhere_line image Replicate x y line edge e near = ap (λ n. pixel_at image n (clamp_coordinate image.valid.y0 image.valid.y1 y)) near ∙ ap (pixel_at image edge) (line_near image.valid y line e)
-
--- outside the valid columns
-look_elsewhere : (image : ImageValue) (border : Border) (x y : ℤ) (line edge : ℕ) → row_seen image.valid border y ≡ Some line → clamp_coordinate image.valid.x0 image.valid.x1 x ≡ edge → (int_le (pos image.valid.x0) x && int_lt x (pos image.valid.x1)) ≡ false → sample_or_border image border x y ≡ border_value border (pixel_at image edge line)
-look_elsewhere image border x y line edge e near out = rw out (elsewhere_line image border x y line edge e near)
-
--- in the columns
-inner_row : (image : ImageValue) (border : Border) (x y : ℤ) (line : ℕ) (b : Bool) → cond b (Some (unsigned_abs y)) (border_row image.valid border y) ≡ Some line → row_seen image.valid border y ≡ Some line → clamp_coordinate image.valid.x0 image.valid.x1 x ≡ unsigned_abs x → cond b (pixel_at image (unsigned_abs x) (unsigned_abs y)) (border_sample image border x y) ≡ pixel_at image (unsigned_abs x) line
-inner_row image border x y line true e seen near = let same : unsigned_abs y ≡ line = cc in ap (pixel_at image (unsigned_abs x)) same
-inner_row image Undefined x y line false e seen near = cc
-inner_row image (Constant value) x y line false e seen near = cc
-inner_row image Replicate x y line false e seen near = elsewhere_line image Replicate x y line (unsigned_abs x) seen near
+look_line : (image : ImageValue) (border : Border) (x y : ℤ) (line : ℕ) (c : Bool) → row_seen image.valid border y ≡ Some line → (int_le (pos image.valid.x0) x && int_lt x (pos image.valid.x1)) ≡ c
+    → sample_or_border image border x y ≡ cond c (pixel_at image (unsigned_abs x) line) (border_value border (pixel_at image (clamp_coordinate image.valid.x0 image.valid.x1 x) line))
+look_line image border x y line c e columns =
+    line_at image border x y line _ _ refl refl e ∙ ap (λ t. cond t (pixel_at image (unsigned_abs x) line) (border_value border (pixel_at image (clamp_coordinate image.valid.x0 image.valid.x1 x) line))) columns
 
 pub look_inside : (image : ImageValue) (border : Border) (x y : ℤ) (line : ℕ) → row_seen image.valid border y ≡ Some line → pos image.valid.x0 ≤ℤ x → x <ℤ pos image.valid.x1 → sample_or_border image border x y ≡ pixel_at image (unsigned_abs x) line
-look_inside image border x y line e a b =
-    rw (at_most (pos image.valid.x0) x a, below x (pos image.valid.x1) b)
-    (inner_row image border x y line (int_le (pos image.valid.y0) y && int_lt y (pos image.valid.y1)) e e (nearest_inside image.valid.x0 image.valid.x1 x a b))
+look_inside image border x y line e a b = look_line image border x y line true e (cc (at_most (pos image.valid.x0) x a, below x (pos image.valid.x1) b))
 
 -- a window reads in row y what it reads along the valid row that the border takes for it
 pub look_along : (image : ImageValue) (border : Border) (x y : ℤ) (line : ℕ) → image.valid.x0 < image.valid.x1 → row_seen image.valid border y ≡ Some line → sample_or_border image border x y ≡ seen_along image border line x
-look_along image border x y line some e = by_lt_z x (pos image.valid.x0) left (λ a. by_lt_z x (pos image.valid.x1) (λ b. between a b) (λ b. right a b))
+look_along image border x y line some e = by_lt_z x (pos image.valid.x0)
+    (λ h. look_line image border x y line false e (cc (not_at_most (pos image.valid.x0) x h)) ∙ edge (nearest_below image.valid.x0 image.valid.x1 x some h) ∙ sym (seen_left image border x line h))
+    (λ a. by_lt_z x (pos image.valid.x1)
+    (λ b. look_inside image border x y line e a b ∙ sym (seen_inside image border x line a b))
+    (λ b. look_line image border x y line false e (cc (at_most (pos image.valid.x0) x a, not_below x (pos image.valid.x1) b)) ∙ edge (nearest_above image.valid.x0 image.valid.x1 x some b) ∙ sym (seen_right image border x line a b)))
   where
-    left : x <ℤ pos image.valid.x0 → sample_or_border image border x y ≡ seen_along image border line x
-    left h =
-        look_elsewhere image border x y line image.valid.x0 e (nearest_below image.valid.x0 image.valid.x1 x some h) (cc (not_at_most (pos image.valid.x0) x h))
-        ∙ sym (seen_left image border x line h)
-
-    between : pos image.valid.x0 ≤ℤ x → x <ℤ pos image.valid.x1 → sample_or_border image border x y ≡ seen_along image border line x
-    between a b = look_inside image border x y line e a b ∙ sym (seen_inside image border x line a b)
-
-    right : pos image.valid.x0 ≤ℤ x → pos image.valid.x1 ≤ℤ x → sample_or_border image border x y ≡ seen_along image border line x
-    right a b =
-        look_elsewhere image border x y line (image.valid.x1 - 1) e (nearest_above image.valid.x0 image.valid.x1 x some b) (cc (at_most (pos image.valid.x0) x a, not_below x (pos image.valid.x1) b))
-        ∙ sym (seen_right image border x line a b)
+    edge : {n m : ℕ} → n ≡ m → border_value border (pixel_at image n line) ≡ border_value border (pixel_at image m line)
+    edge same = ap (λ n. border_value border (pixel_at image n line)) same
 
 -- where the border takes no valid row
 off_row : (image : ImageValue) (border : Border) (x y : ℤ) (b c : Bool) → cond b (Some (unsigned_abs y)) (border_row image.valid border y) ≡ None → cond (c && b) (pixel_at image (unsigned_abs x) (unsigned_abs y)) (border_sample image border x y) ≡ border_value border (pos 0)
@@ -154,10 +140,20 @@ seen_in_three image border line start radius n b m first left right samples some
     after : (c : ℕ) → start + b + m ≤ c → c < start + b + m + (n - (b + m)) → g c ≡ pos right
     after c h k = seen_right image border (pos c -ℤ pos radius) line (omega (arith, ints)) (omega (arith, ints)) ∙ sym is_right
 
+-- the valid columns, from a rectangle that is lent
+pub record EdgesAre (image : ImageValue) (r : Rectangle) : Type 0 where
+  pub first : r.x0 ≡ image.valid.x0
+  pub end : r.x1 ≡ image.valid.x1
+  pub room : image.valid.x1 ≤ image.width
+
+pub edges_are : (image : ImageValue) (r : Rectangle) → IsImage image → r ≡ image.valid → EdgesAre image r
+edges_are image r is same = record { first = ap (λ (r : Rectangle). r.x0) same; end = ap (λ (r : Rectangle). r.x1) same; room = is.room.columns }
+
 -- a sample of a row
-pub item_of_row : (row : List ℕ) (g : ℕ → ℤ) (w i : ℕ) → map pos row ≡ run 0 w g → length row ≡ w → i < w → pos (get_or row i 0) ≡ g i
-item_of_row row g w i same long below =
-    sym (get_or-map pos row i 0) ∙ ap (λ l. get_or l i (pos 0)) same ∙ get_or-run g 0 w i (pos 0) below ∙ ap g (zero-add i)
+pub item_is : (image : ImageValue) (line : ℕ) (row : List ℕ) (k x : ℕ) → map pos row ≡ run 0 image.width (λ x. pixel_at image x line) → k ≡ x → x < image.width → pos (get_or row k 0) ≡ pixel_at image x line
+item_is image line row k x same at below =
+    ap (λ i. pos (get_or row i 0)) at ∙ sym (get_or-map pos row x 0) ∙ ap (λ l. get_or l x (pos 0)) same
+    ∙ get_or-run (λ x. pixel_at image x line) 0 image.width x (pos 0) below ∙ ap (λ i. pixel_at image i line) (zero-add x)
 
 -- ---- rows that are read in place
 
@@ -174,46 +170,3 @@ pub seen_nowhere : (image : ImageValue) (border : Border) (x count : ℕ) (y : �
 seen_nowhere image border x count y all off same room =
     rw (← take-map pos count all, same, take-replicate count (length all) (border_value border (pos 0)) room, ← run-constant (border_value border (pos 0)) x count)
     (run-same (λ _. border_value border (pos 0)) (λ c. sample_or_border image border (pos c) y) x count (λ k a b. sym (look_off image border (pos k) y off)))
-
--- ---- outside the valid columns the border depends on the nearest one
-
-elsewhere_again : (border : Border) (z : ℤ) → border_value border (border_value border z) ≡ border_value border z
-elsewhere_again Undefined z = refl
-elsewhere_again (Constant value) z = refl
-elsewhere_again Replicate z = refl
-
--- column x outside the valid ones; column e is the nearest of them
-look_from_edge : (image : ImageValue) (border : Border) (x y : ℤ) (e : ℕ) (seen : Option ℕ) → row_seen image.valid border y ≡ seen → image.valid.x0 < image.valid.x1
-    → ((line : ℕ) → seen_along image border line x ≡ border_value border (pixel_at image e line)) → image.valid.x0 ≤ e → e < image.valid.x1 → sample_or_border image border x y ≡ border_value border (sample_or_border image border (pos e) y)
-look_from_edge image border x y e (Some line) is some along left right =
-    rw (look_along image border x y line some is, along line, look_inside image border (pos e) y line is (omega (arith, ints)) (omega (arith, ints))) refl
-look_from_edge image border x y e None is some along left right =
-    rw (look_off image border x y is, look_off image border (pos e) y is) (sym (elsewhere_again border (pos 0)))
-
-pub look_left : (image : ImageValue) (border : Border) (x y : ℤ) → image.valid.x0 < image.valid.x1 → x <ℤ pos image.valid.x0 → sample_or_border image border x y ≡ border_value border (sample_or_border image border (pos image.valid.x0) y)
-look_left image border x y some h =
-    look_from_edge image border x y image.valid.x0 (row_seen image.valid border y) refl some (λ line. seen_left image border x line h) (omega arith) some
-
-pub look_right : (image : ImageValue) (border : Border) (x y : ℤ) → image.valid.x0 < image.valid.x1 → pos image.valid.x1 ≤ℤ x → sample_or_border image border x y ≡ border_value border (sample_or_border image border (pos (image.valid.x1 - 1)) y)
-look_right image border x y some h =
-    look_from_edge image border x y (image.valid.x1 - 1) (row_seen image.valid border y) refl some (λ line. seen_right image border x line (omega (arith, ints)) h) (omega arith) (omega arith)
-
--- ---- the neighbours of a column
-
--- the left neighbour of the first valid column, and of another one
-pub left_of_first : (image : ImageValue) (border : Border) (x line : ℕ) (v : ℕ) → x ≡ image.valid.x0 → pos v ≡ pixel_at image x line → border_value border (pos v) ≡ seen_along image border line (pos x -ℤ pos 1)
-left_of_first image border x line v first is =
-    ap (border_value border) (is ∙ ap (λ k. pixel_at image k line) first) ∙ sym (seen_left image border (pos x -ℤ pos 1) line (omega (arith, ints)))
-
-pub left_of_other : (image : ImageValue) (border : Border) (x line k v : ℕ) → image.valid.x0 < x → x < image.valid.x1 → k ≡ x - 1 → pos v ≡ pixel_at image k line → pos v ≡ seen_along image border line (pos x -ℤ pos 1)
-left_of_other image border x line k v after before here is =
-    is ∙ ap (λ j. pixel_at image j line) (let e : k ≡ unsigned_abs (pos x -ℤ pos 1) = omega (arith, ints) in e) ∙ sym (seen_inside image border (pos x -ℤ pos 1) line (omega (arith, ints)) (omega (arith, ints)))
-
--- the right neighbour of the last valid column, and of another one
-pub right_of_last : (image : ImageValue) (border : Border) (x line : ℕ) (v : ℕ) → image.valid.x0 ≤ x → x + 1 ≡ image.valid.x1 → pos v ≡ pixel_at image x line → border_value border (pos v) ≡ seen_along image border line (pos x +ℤ pos 1)
-right_of_last image border x line v inside last is =
-    ap (border_value border) (is ∙ ap (λ k. pixel_at image k line) (let e : x ≡ image.valid.x1 - 1 = omega arith in e)) ∙ sym (seen_right image border (pos x +ℤ pos 1) line (omega (arith, ints)) (omega (arith, ints)))
-
-pub right_of_other : (image : ImageValue) (border : Border) (x line k v : ℕ) → image.valid.x0 ≤ x → x + 1 < image.valid.x1 → k ≡ x + 1 → pos v ≡ pixel_at image k line → pos v ≡ seen_along image border line (pos x +ℤ pos 1)
-right_of_other image border x line k v after before here is =
-    is ∙ ap (λ j. pixel_at image j line) (let e : k ≡ unsigned_abs (pos x +ℤ pos 1) = omega (arith, ints) in e) ∙ sym (seen_inside image border (pos x +ℤ pos 1) line (omega (arith, ints)) (omega (arith, ints)))

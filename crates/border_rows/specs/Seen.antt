@@ -12,18 +12,20 @@ border_value Undefined edge = pos 0
 border_value (Constant value) edge = pos value
 border_value Replicate edge = edge
 
--- the valid row that a window reads in place of row y outside the valid rectangle, if the border takes one
+-- the valid row that a window reads instead of row y, which is outside the valid rectangle; None
+-- unless the border is Replicate
 abbrev pub border_row : Rectangle → Border → ℤ → Option ℕ
 border_row valid Undefined y = None
 border_row valid (Constant value) y = None
 border_row valid Replicate y = Some (clamp_coordinate valid.y0 valid.y1 y)
 
--- the valid row that a window reads in row y, if there is one: row y itself, or the border's
+-- the valid row that a window reads for row y: row y itself if it is valid, else the border's row,
+-- if there is one
 abbrev pub row_seen : Rectangle → Border → ℤ → Option ℕ
 row_seen valid border y =
     if int_le (pos valid.y0) y && int_lt y (pos valid.y1) then Some (unsigned_abs y) else border_row valid border y
 
--- what a window reads in column x of a row that takes the samples of valid row `line`
+-- the sample that a window reads in column x of a row for which it reads the valid row `line`
 abbrev pub seen_along : ImageValue → Border → ℕ → ℤ → ℤ
 seen_along image border line x =
     if int_lt x (pos image.valid.x0) then border_value border (pixel_at image image.valid.x0 line)

@@ -2,12 +2,12 @@
 ghost use Rattle.std.specs.Prelude.{◌≡◌, ◌+◌, ◌-◌, ◌<◌, ◌≤◌, ◌++◌, pos, ◌+ℤ◌, ◌-ℤ◌, IfSome, length};
 ghost use Rattle.std.specs.Prelude.{map, replicate};
 ghost use Rattle.vx_base.specs.declared.format.Format.TheVariants.{U8};
-ghost use Rattle.vx_base.specs.Image.{run, pixel_at};
+ghost use Rattle.vx_base.specs.Image.{IsImage, run, pixel_at};
 ghost use Rattle.vx_base.specs.Window.{sample_or_border};
 ghost use Rattle.border_rows.specs.Seen.{border_value, row_seen, seen_along};
 
 use image_core::{Image, Number, set_all};
-use vx_base::{Border, Rect};
+use vx_base::Border;
 
 /// A number type into which rows are loaded: `u8` or `i16`.
 pub trait Loaded: Number {
@@ -39,14 +39,15 @@ pub fn border_value(border: Border, edge: u8) -> u8
     }
 }
 
-/// The valid row that a window reads in row `y`: row `y` itself, or the border's. `None` if the
-/// border takes no row of the image.
-fn row_seen(valid: Rect, border: Border, y: i32) -> Option<u16>
-    requires { valid.y0 < valid.y1 }
-    ensures value { result ≡ row_seen valid border y }
-    ensures valid { IfSome result (λ line. line < valid.y1) }
+/// Returns the valid row that a window reads for row `y`: row `y` itself if it is valid, else the
+/// border's row. `None` if the border takes no row of the image.
+fn row_seen(image: &Image<'_>, border: Border, y: i32) -> Option<u16>
+    requires { image.now.valid.y0 < image.now.valid.y1 }
+    ensures value { result ≡ row_seen image.now.valid border y }
+    ensures valid { IfSome result (λ line. line < image.now.valid.y1) }
+    ensures image { IsImage image.now }
 {
-    let (first, end) = (valid.y0(), valid.y1());
+    let (first, end) = (image.valid().y0(), image.valid().y1());
     if i32::from(first) <= y && y < i32::from(end) {
         return Some(y as u16);
     }
@@ -67,7 +68,7 @@ fn load_samples<T: Loaded>(samples: &[u8], out: &mut [T])
     }
 }
 
-/// Writes `left` `before` times, then the samples, then `right` up to the end.
+/// Writes `left` to the first `before` items, then the samples, then `right` to all later items.
 fn load_between<T: Loaded>(left: u8, before: usize, samples: &[u8], right: u8, out: &mut [T])
     requires { before + length samples.now ≤ length out.old }
     ensures { map T.value out.new ≡ replicate before (pos left)
@@ -81,7 +82,8 @@ fn load_between<T: Loaded>(left: u8, before: usize, samples: &[u8], right: u8, o
     set_all(back, T::loaded(right));
 }
 
-/// Writes what a window reads along a valid row, as `load_row` does.
+/// Writes the samples that a window reads along the valid row `line`, from column `start - radius`
+/// on.
 fn load_line<T: Loaded>(
     image: &Image<'_>,
     start: u16,
@@ -112,8 +114,8 @@ fn load_line<T: Loaded>(
     load_between(left, before, samples, right, out);
 }
 
-/// Writes what a window reads in row `y` of a U8 image, from column `start - radius` on. The image
-/// has a valid pixel.
+/// Writes the samples that a window reads in row `y` of a U8 image, from column `start - radius`
+/// on. The image has a valid pixel.
 pub fn load_row<T: Loaded>(
     image: &Image<'_>,
     start: u16,
@@ -128,15 +130,15 @@ pub fn load_row<T: Loaded>(
     ensures { map T.value out.new ≡ run start (length out.old)
         (λ c. sample_or_border image.now border (pos c -ℤ pos radius) y) }
 {
-    match row_seen(image.valid(), border, y) {
+    match row_seen(image, border, y) {
         Some(line) => load_line(image, start, radius, line, border, out),
         None => set_all(out, T::loaded(border_value(border, 0))),
     }
 }
 
-/// Returns what a window reads in row `y` of a U8 image at `count` valid columns from column `x`
-/// on: the image's own samples without a copy, or `off_rows` if the border takes no row of the
-/// image. Each sample of `off_rows` is the border's.
+/// Returns the samples that a window reads in row `y` of a U8 image, at `count` valid columns from
+/// column `x` on. They are the image's own samples, without a copy, or part of `off_rows` if the
+/// border takes no row of the image. Each sample of `off_rows` has the border's value.
 pub fn row_in_place<'a>(
     image: &'a Image<'_>,
     x: u16,
@@ -155,42 +157,31 @@ pub fn row_in_place<'a>(
         ≡ run x count (λ c. sample_or_border image.now border (pos c) y) }
     ensures len { length result.now ≡ count }
 {
-    match row_seen(image.valid(), border, y) {
+    match row_seen(image, border, y) {
         Some(line) => image.part_of_row::<u8>(x, line, count),
         None => &off_rows[..count],
     }
 }
 
-/// The sample to the left of a valid column of a valid row, border included.
-fn left_of(image: &Image<'_>, x: u16, line: u16, border: Border) -> u8
+/// Returns what a window reads along a valid row in the column to the left of column `x`.
+fn sample_before(image: &Image<'_>, x: u16, line: u16, border: Border) -> u8
     requires format { image.now.format ≡ U8 }
     requires line { line < image.now.valid.y1 }
-    requires columns { (image.now.valid.x0 ≤ x) × (x < image.now.valid.x1) }
+    requires columns { image.now.valid.x0 < image.now.valid.x1 }
     ensures { pos result ≡ seen_along image.now border line (pos x -ℤ pos 1) }
 {
     let (valid, row) = (image.valid(), image.row::<u8>(line));
-    if x == valid.x0() {
-        return border_value(border, row[usize::from(x)]);
+    if x <= valid.x0() {
+        border_value(border, row[usize::from(valid.x0())])
+    } else if x <= valid.x1() {
+        row[usize::from(x) - 1]
+    } else {
+        border_value(border, row[usize::from(valid.x1()) - 1])
     }
-    row[usize::from(x) - 1]
 }
 
-/// The sample to the right of a valid column of a valid row, border included.
-fn right_of(image: &Image<'_>, x: u16, line: u16, border: Border) -> u8
-    requires format { image.now.format ≡ U8 }
-    requires line { line < image.now.valid.y1 }
-    requires columns { (image.now.valid.x0 ≤ x) × (x < image.now.valid.x1) }
-    ensures { pos result ≡ seen_along image.now border line (pos x +ℤ pos 1) }
-{
-    let (valid, row) = (image.valid(), image.row::<u8>(line));
-    if x + 1 == valid.x1() {
-        return border_value(border, row[usize::from(x)]);
-    }
-    row[usize::from(x) + 1]
-}
-
-/// Returns what a window reads in row `y` of a U8 image at the column to the left of a valid one,
-/// at that column, and at the column to its right.
+/// Returns three samples that a window reads in row `y` of a U8 image: at the columns `x - 1`, `x`
+/// and `x + 1`. Column `x` is valid.
 pub fn seen_around(image: &Image<'_>, x: u16, y: i32, border: Border) -> (u8, u8, u8)
     requires format { image.now.format ≡ U8 }
     requires rows { image.now.valid.y0 < image.now.valid.y1 }
@@ -199,11 +190,11 @@ pub fn seen_around(image: &Image<'_>, x: u16, y: i32, border: Border) -> (u8, u8
     ensures middle { pos result.1 ≡ sample_or_border image.now border (pos x) y }
     ensures right { pos result.2 ≡ sample_or_border image.now border (pos x +ℤ pos 1) y }
 {
-    match row_seen(image.valid(), border, y) {
+    match row_seen(image, border, y) {
         Some(line) => (
-            left_of(image, x, line, border),
-            image.row::<u8>(line)[usize::from(x)],
-            right_of(image, x, line, border),
+            sample_before(image, x, line, border),
+            sample_before(image, x + 1, line, border),
+            sample_before(image, x + 2, line, border),
         ),
         None => {
             let off = border_value(border, 0);

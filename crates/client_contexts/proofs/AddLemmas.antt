@@ -1,8 +1,8 @@
 -- Nodes that are added to a graph.
 use Rattle.std.proofs.Common.{◌≡◌, ℕ, true, false, IsTrue, List, [], ◌∷◌, ◌++◌, Option, Some, None, Ok, IfSome, refl, All, is_some, is_none, if◌then◌else◌, inl, inr, arith}
 use Rattle.client_contexts.proofs.Common.{cases_Bool, option_and_then, All-nil, All-cons, All-append, All-map, Kind, Node, Reference, reference_to, GraphValue, with_node, operands, ObjectValue, GraphObject, OfOperands, of_operands, Context, object_named, with_objects, with_graph, in_slot, NamedObject, object_held, IsUnder, graph_under, graph_of_kind, LimitsValue, operands_refusal, KeepsLimits, holds_operand, OperandsStand, MayComeTo}
-use Rattle.client_model.specs.Graphs.{add_node}
-use Rattle.client_contexts.specs.Steps.{SaysWhy}
+use Rattle.client_model.specs.Graphs.{add_node, add_to}
+use Rattle.client_contexts.specs.Steps.{SaysWhy, graph_fault as fault_of}
 use Rattle.vx_base.specs.declared.kind.Kind.TheVariants as kind
 use Rattle.vx_base.specs.Graph.{can_add}
 use Rattle.vx_base.specs.Node.{optional_cells, inputs, outputs}
@@ -10,10 +10,8 @@ use Rattle.graph_verify.specs.declared.fault.GraphFault.{GraphFault}
 use Rattle.graph_verify.specs.declared.fault.GraphFault.TheVariants as graph_fault
 use Rattle.object_table.specs.Uses.{used_names}
 use Rattle.client_model.specs.declared.reply.Reply.TheVariants as reply
-use Rattle.client_model.specs.Graphs.{add_to}
 use Rattle.client_model.proofs.HoldLaws.{stands_parts}
 use Rattle.client_model.proofs.NamedLaws.{held_if_live}
-use Rattle.client_contexts.specs.Steps.{graph_fault as fault_of}
 
 -- the name of each operand that can be used is held
 pub names_held : (objects : List NamedObject) (graph : ℕ) (n : Node) → OperandsStand objects graph n → All (λ name. IsTrue (is_some (object_held objects name))) (used_names n)
@@ -54,14 +52,14 @@ module _ (limits : LimitsValue) (c : Context) (name : ℕ) (h : KeepsLimits limi
     -- a node within the limits is added
     pub node_added : (number : ℕ) (new : Context) → can_add graph_now ≡ true → number ≡ graph_now.next → new ≡ with_objects c (with_graph c.objects name (with_node graph_now n))
         → MayComeTo (add_node c name n) c new (Ok (reply.Node number))
-    node_added number new room numbered changed =
+    node_added number new capacity numbered changed =
         record {
-          done = rw (added_or_full, room, numbered, changed);
+          done = rw (added_or_full, capacity, numbered, changed);
           refused = tt;
-          kept = tt;
+          unchanged = tt;
         }
 
     -- or it is refused, unless there is no memory
     pub node_refused : (why : GraphFault) → why ≡ (if can_add graph_now then graph_fault.NoMemory else graph_fault.NoResources) → SaysWhy (add_node c name n) (fault_of why)
     node_refused why fault =
-        elim (cases_Bool (can_add graph_now)) [ inl room ↦ rw (fault, room) tt | inr full ↦ rw (fault, full, added_or_full, full) ]
+        elim (cases_Bool (can_add graph_now)) [ inl free ↦ rw (fault, free) tt | inr full ↦ rw (fault, full, added_or_full, full) ]

@@ -2,7 +2,7 @@
 use Rattle.std.proofs.Common.{◌≡◌, Bool, true, false, List, IfSome, Option, Some, None, refl, sym, ap, ◌∙◌, All, unwrap_or, ◌||◌, if◌then◌else◌, option_to_list, Err, Ok}
 use Rattle.client_contexts.proofs.Common.{list_any, option_map, option_and_then, list_any-append, Kind, Node, Reference, parameters, operands, with_kind, second_kind, ObjectValue, object_kind, Operands, is_virtual, verdict_on, NamedObject, object_at, Refusal, Empty, Context, with_objects, reply_unless, operands_refusal, immediate, operand_held, OfOperands, of_operands, IsFound, all_operands}
 use Rattle.graph_verify.specs.declared.verdict.Verdict.{Verdict}
-use Rattle.client_model.specs.declared.refusal.Refusal.TheVariants.{Rejected}
+use Rattle.client_model.specs.declared.refusal.Refusal.TheVariants.{Rejected, OptimizedAway}
 use Rattle.std.specs.Option.{option_or}
 use Rattle.std.proofs.lemmas.Bool.{or_parts}
 use Rattle.vx_base.specs.declared.kind.Kind.TheVariants as kind
@@ -12,7 +12,6 @@ use Rattle.vx_base.proofs.NodeLaws.{same_kind_equal}
 use Rattle.graph_verify.specs.Operand.{operand_of, operands_of, written_operands, other_operands}
 use Rattle.graph_run.specs.Graph.{is_virtual_object}
 use Rattle.object_table.specs.NamedObject.{with_written}
-use Rattle.client_model.specs.declared.refusal.Refusal.TheVariants.{OptimizedAway}
 use Rattle.client_model.specs.Operands.{stands_for}
 use Rattle.client_model.specs.Immediate.{operand_in, operand_if, operands_in, is_some_virtual, node_refusal}
 use Rattle.graph_verify.specs.declared.operand.Operand.TheVariants.{Missing}

@@ -78,11 +78,11 @@ module _ {S E : Type 0} (fills : S → S → Format → List ℤ → Result ⊤ 
   pub write_applies : lookup (is_at (nat_cmp client)) after ≡ Some n
       → ((other : ℕ) → is_at (nat_cmp client) other ≡ false → lookup (is_at (nat_cmp other)) after ≡ lookup (is_at (nat_cmp other)) before) → n.verified ≡ o.verified
       → OnOk result ((p : PictureValue) × IsRead fills d old new p (Ok tt) × (write_image o.context cell p ≡ Ok (Empty, Some n.context)))
-      → OnOk result ((p : PictureValue) × IsRead fills d old new p (Ok tt) × Applies client (WriteImage cell p) world later (Ok Empty) × AppliesToKept client (WriteImage cell p) world later (Ok Empty))
+      → OnOk result (WritesReadPicture fills d old new client cell world later)
   write_applies is others same done = go result done
     where
       go : (r : Result ⊤ (WriteFault E)) → OnOk r ((p : PictureValue) × IsRead fills d old new p (Ok tt) × (write_image o.context cell p ≡ Ok (Empty, Some n.context)))
-          → OnOk r ((p : PictureValue) × IsRead fills d old new p (Ok tt) × Applies client (WriteImage cell p) world later (Ok Empty) × AppliesToKept client (WriteImage cell p) world later (Ok Empty))
+          → OnOk r (WritesReadPicture fills d old new client cell world later)
       go (Err e) none = tt
       go (Ok x) (p, read, written) =
           let request : Request = WriteImage cell p in

@@ -6,12 +6,11 @@ use Rattle.buffer_plan.specs.Plan.{IsPlan}
 use Rattle.graph_run.specs.Schedule.{IsSchedule}
 use Rattle.graph_run.proofs.ScheduleStays.{schedule_stays}
 use Rattle.graph_verify.proofs.MemberLemmas.{AllIn-permutation_back}
-use Rattle.client_model.specs.States.{changes_nodes}
+use Rattle.client_model.specs.States.{changes_nodes, Stays}
 use Rattle.client_model.specs.declared.request.Request.TheVariants.{ReleaseContext}
 use Rattle.client_model.specs.Context.{State}
 use Rattle.client_model.specs.Request.{IsRequest}
 use Rattle.client_model.specs.Answer.{answer_to}
-use Rattle.client_model.specs.States.{Stays}
 use Rattle.client_model.proofs.StateLaws.{Leaves}
 use Rattle.client_laws.proofs.StayLaws.{after_one, named_skeletons_stay, nodes_stay, ready_after_one, verdict_stays_held}
 use Rattle.client_laws.proofs.StepLaws.{answer_leaves}

@@ -1,4 +1,4 @@
--- Images that are found and changed; the limits are still kept.
+-- Images that are found and changed; the context stays within its limits.
 use Rattle.std.proofs.Common.{◌≡◌, ℕ, Option, Some, None, IfOk, IfSome, subst, unwrap_or}
 use Rattle.client_contexts.proofs.Common.{option_map, option_and_then, U8, Kind, Reference, Rectangle, ImageValue, new_image, description_of, with_valid, ObjectValue, ImageObject, IsObject, object_kind, Context, with_objects, in_slot, object_held, with_object, object_under, HoldsImage, Empty, LimitsValue, reply_unless, valid_refusal, KeepsLimits, IsImageOf}
 use Rattle.vx_base.specs.declared.kind.Kind.TheVariants as kind

@@ -85,8 +85,8 @@ module _ (limits : LimitsValue) (c : Context) (name : ℕ) where
 
   pub fails_to_run : (fault : RequestFault) (result : Result Reply RequestFault) → MayComeTo (verify_graph limits c name) c c (Err fault) → result ≡ Err fault
       → MayComeTo (process_graph limits c name) c c result
-  fails_to_run (Refused refusal) result comes is = rw is record { done = tt; refused = refuses_run refusal comes.refused; kept = refl }
-  fails_to_run NoMemory result comes is = rw is record { done = tt; refused = tt; kept = refl }
+  fails_to_run (Refused refusal) result comes is = rw is record { done = tt; refused = refuses_run refusal comes.refused; unchanged = refl }
+  fails_to_run NoMemory result comes is = rw is record { done = tt; refused = tt; unchanged = refl }
 
   -- a graph that is verified is there, and nothing refuses it
   passed : (done : Reply × Option Context) → verify_graph limits c name ≡ Ok done

@@ -1,8 +1,7 @@
 -- Pictures that are written to images: the refusals, the new context, and the limits that it keeps.
 use Rattle.std.proofs.Common.{◌≡◌, ◌∙◌, List, [], Option, Some, None, ℤ, Result, Ok, Err, refl, sym, ap, subst, arith, eq-eqb}
 use Rattle.client_contexts.proofs.Common.{IsStrictlyIncreasing, Reference, Description, ImageValue, image_over, description_of, ObjectValue, ImageObject, Rectangle, whole_rectangle, KeepsBlocks, Context, with_objects, with_object, image_value, HoldsImage, image_held, names_of, Refusal, Empty, LimitsValue, write_image, reply_unless, KeepsLimits, IsImageOf, IsImageFor, refusal_for}
-use Rattle.vx_base.specs.Picture.{PictureValue, IsPicture}
-use Rattle.vx_base.specs.Picture.{picture_image}
+use Rattle.vx_base.specs.Picture.{PictureValue, IsPicture, picture_image}
 use Rattle.object_table.specs.Object.{with_samples}
 use Rattle.object_table.specs.Table.{cell_object}
 use Rattle.buffer_plan.proofs.PlanLemmas.{same_format-refl}

@@ -1,5 +1,5 @@
 -- Pictures whose samples are read from a source and written to an image.
-use Rattle.std.specs.Prelude.{ℕ, ℤ, ◌≡◌, ◌⊎◌, ⊤, List, length, Some, Result, Err}
+use Rattle.std.specs.Prelude.{ℕ, ℤ, ◌≡◌, ◌⊎◌, ⊤, List, length, Some, Result, Ok, Err}
 use Rattle.vx_base.specs.Reference.{Reference}
 use Rattle.vx_base.specs.Description.{Description, sample_count}
 use Rattle.vx_base.specs.Picture.{PictureValue}
@@ -16,7 +16,7 @@ use Rattle.client_contexts.specs.declared.source.WriteFault.{WriteFault}
 use Rattle.client_contexts.specs.declared.source.WriteFault.TheVariants.{Refused, Source}
 use Rattle.client_contexts.specs.Lookup.{refusal_for}
 use Rattle.client_contexts.specs.World.{World}
-use Rattle.client_contexts.specs.Applies.{IsAnswered}
+use Rattle.client_contexts.specs.Applies.{Applies, AppliesToKept, IsAnswered}
 
 -- `fills` is the effect of a call of fill, as a relation of the source before and after, the format
 -- of the samples, the samples after, and the result
@@ -27,6 +27,12 @@ module _ {S E : Type 0} (fills : S → S → Format → List ℤ → Result ⊤ 
     pub described : p.description ≡ d
     pub size : length p.samples ≡ sample_count d
     pub came : fills old new d.format p.samples result
+
+  -- a picture that the source gave is written to a client's image, as WriteImage does
+  abbrev pub WritesReadPicture : ℕ → Reference → World → World → Type 0
+  WritesReadPicture client cell before after =
+      (p : PictureValue) × IsRead p (Ok tt)
+      × Applies client (WriteImage cell p) before after (Ok reply.Empty) × AppliesToKept client (WriteImage cell p) before after (Ok reply.Empty)
 
   -- the reason why a picture isn't written: there is no memory or the picture is refused, and
   -- nothing was read; or the source failed

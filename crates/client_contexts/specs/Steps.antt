@@ -45,7 +45,7 @@ Keeps old new = (limits : LimitsValue) → KeepsLimits limits old → KeepsLimit
 pub record ComesTo (outcome : Outcome) (old new : Context) (result : Result Reply Refusal) : Type 0 where
   pub done : IfOk result (λ reply. outcome ≡ Ok (reply, Some new))
   pub refused : IfErr result (λ refusal. outcome ≡ Err refusal)
-  pub kept : OnErr result (new ≡ old)
+  pub unchanged : OnErr result (new ≡ old)
 
 -- the fault is this outcome's refusal, or there is no memory
 abbrev pub SaysWhy : Outcome → RequestFault → Type 0
@@ -56,7 +56,7 @@ SaysWhy outcome NoMemory = ⊤
 pub record MayComeTo (outcome : Outcome) (old new : Context) (result : Result Reply RequestFault) : Type 0 where
   pub done : IfOk result (λ reply. outcome ≡ Ok (reply, Some new))
   pub refused : IfErr result (SaysWhy outcome)
-  pub kept : OnErr result (new ≡ old)
+  pub unchanged : OnErr result (new ≡ old)
 
 -- the result for the client: a refusal becomes a reply with the refusal's code
 abbrev pub client_result : Result Reply RequestFault → Result Reply memory.NoMemory

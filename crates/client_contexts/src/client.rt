@@ -107,11 +107,11 @@ impl Client {
         request: &Request,
     ) -> Result<Reply, RequestFault>
         requires other { request.now ≢ ReleaseContext }
-        requires keeps { KeepsLimits limits self.old.context }
+        requires within_limits { KeepsLimits limits self.old.context }
         requires owns { LendsAtLeast pool.old (blocks_in self.old.context.objects) }
         ensures comes { MayComeTo (outcome_of limits self.old.context request.now)
             self.old.context self.new.context result }
-        ensures kept { KeepsLimits limits self.new.context }
+        ensures within_limits { KeepsLimits limits self.new.context }
         ensures balances { Balances pool.old pool.new
             self.old.context.objects self.new.context.objects }
         ensures takes { IfErr result (λ fault. WantsMemory fault (TakesMemory request.now)) }
@@ -158,7 +158,7 @@ impl Client {
         ensures err { IfErr result (SaysWhyUnwritten F.fills desc source.old source.new
             (IsRefusedFor self.old.context reference desc)) }
         ensures same { OnErr result (self.new ≡ self.old) }
-        ensures kept { Keeps self.old.context self.new.context }
+        ensures within_limits { Keeps self.old.context self.new.context }
         ensures balances { Balances pool.old pool.new
             self.old.context.objects self.new.context.objects }
         ensures verified { self.new.verified ≡ self.old.verified }
@@ -178,7 +178,7 @@ impl Client {
         requires { IsContext self.old.context }
         ensures comes { MayComeTo (write_text self.old.context reference text.now)
             self.old.context self.new.context result }
-        ensures kept { Keeps self.old.context self.new.context }
+        ensures within_limits { Keeps self.old.context self.new.context }
         ensures balances { Balances pool.old pool.new
             self.old.context.objects self.new.context.objects }
         ensures verified { self.new.verified ≡ self.old.verified }
@@ -226,10 +226,10 @@ fn answer(
 ) -> Result<Reply, RequestFault>
     requires other { request.now ≢ ReleaseContext }
     requires no_graph { runs_graph request.now ≡ false }
-    requires keeps { KeepsLimits limits table.old }
+    requires within_limits { KeepsLimits limits table.old }
     requires owns { LendsAtLeast pool.old (blocks_in table.old.objects) }
     ensures comes { MayComeTo (outcome_of limits table.old request.now) table.old table.new result }
-    ensures kept { KeepsLimits limits table.new }
+    ensures within_limits { KeepsLimits limits table.new }
     ensures balances { Balances pool.old pool.new table.old.objects table.new.objects }
     ensures takes { IfErr result (λ fault. WantsMemory fault (TakesMemory request.now)) }
 {

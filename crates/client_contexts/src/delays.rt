@@ -9,7 +9,7 @@ ghost use Rattle.client_contexts.specs.Steps.{ComesTo, MayComeTo, IsContext, Kee
 
 use crate::fault::RequestFault;
 use crate::lookup::{find_image, find_named};
-use crate::room::{hold_images, look_for_room};
+use crate::new_objects::{hold_images, require_capacity};
 use client_model::{Limits, Refusal, Reply};
 use object_table::{Content, Delay, Object, Table};
 use pixel_pool::Pool;
@@ -26,11 +26,11 @@ pub fn create_delay(
 ) -> Result<Reply, RequestFault>
     ensures comes { MayComeTo (create_delay limits table.old exemplar slots)
         table.old table.new result }
-    ensures kept { KeepsLimits limits table.old → KeepsLimits limits table.new }
+    ensures within_limits { KeepsLimits limits table.old → KeepsLimits limits table.new }
     ensures balances { Balances pool.old pool.new table.old.objects table.new.objects }
 {
     let desc = find_image(table, exemplar)?.desc();
-    look_for_room(table, limits, usize::from(slots.get()) * desc.byte_count())?;
+    require_capacity(table, limits, usize::from(slots.get()) * desc.byte_count())?;
     let delay = Delay::new(table.allocator(), pool, desc, slots)?;
     hold_images(table, pool, limits, Object::new(Content::Delay(delay)))
 }
@@ -39,7 +39,7 @@ pub fn create_delay(
 pub fn age_delay(table: &mut Table, name: u32) -> Result<Reply, Refusal>
     requires { IsContext table.old }
     ensures comes { ComesTo (age_delay table.old name) table.old table.new result }
-    ensures kept { Keeps table.old table.new }
+    ensures within_limits { Keeps table.old table.new }
     ensures blocks { KeepsBlocks table.old.objects table.new.objects }
 {
     find_named(table, name, Kind::Delay)?;
@@ -52,7 +52,7 @@ pub fn register_auto_aging(table: &mut Table, graph: u32, delay: u32) -> Result<
     requires { IsContext table.old }
     ensures comes { MayComeTo (register_auto_aging table.old graph delay)
         table.old table.new result }
-    ensures kept { Keeps table.old table.new }
+    ensures within_limits { Keeps table.old table.new }
     ensures blocks { KeepsBlocks table.old.objects table.new.objects }
 {
     find_graph_and_delay(table, graph, delay)?;

@@ -14,7 +14,7 @@ ghost use Rattle.client_contexts.specs.Steps.{ComesTo, MayComeTo, WantsMemory, I
 use crate::fault::RequestFault;
 use crate::kept::KeptGraph;
 use crate::lookup::{find_graph_for, find_named};
-use crate::room::{hold, look_for_room};
+use crate::new_objects::{hold, require_capacity};
 use buffer_plan::Plan;
 use client_model::{Limits, Refusal, Reply};
 use graph_run::{Workspace, run_scheduled, schedule_of, verify_in};
@@ -29,10 +29,10 @@ use vx_base::{Kind, NodeSpec, PartialDesc, VirtualImage};
 pub fn create_graph(table: &mut Table, limits: Limits) -> Result<Reply, RequestFault>
     ensures comes { MayComeTo (create limits table.old (GraphObject new_graph))
         table.old table.new result }
-    ensures kept { KeepsLimits limits table.old → KeepsLimits limits table.new }
+    ensures within_limits { KeepsLimits limits table.old → KeepsLimits limits table.new }
     ensures blocks { KeepsBlocks table.old.objects table.new.objects }
 {
-    look_for_room(table, limits, 0)?;
+    require_capacity(table, limits, 0)?;
     let graph = Graph::new(table.allocator());
     hold(table, limits, Object::new(Content::Graph(graph)))
 }
@@ -47,11 +47,11 @@ pub fn create_virtual_image(
 ) -> Result<Reply, RequestFault>
     ensures comes { MayComeTo (create_virtual_image limits table.old graph declared)
         table.old table.new result }
-    ensures kept { KeepsLimits limits table.old → KeepsLimits limits table.new }
+    ensures within_limits { KeepsLimits limits table.old → KeepsLimits limits table.new }
     ensures blocks { KeepsBlocks table.old.objects table.new.objects }
 {
     find_named(table, graph, Kind::Graph)?;
-    look_for_room(table, limits, 0)?;
+    require_capacity(table, limits, 0)?;
     declared.prove_sides();
     let image = VirtualImage { graph, declared };
     hold(table, limits, Object::new(Content::Virtual(image)))
@@ -61,7 +61,7 @@ pub fn create_virtual_image(
 pub fn add_node(table: &mut Table, graph: u32, node: NodeSpec) -> Result<Reply, RequestFault>
     requires { IsContext table.old }
     ensures comes { MayComeTo (add_node table.old graph node) table.old table.new result }
-    ensures kept { Keeps table.old table.new }
+    ensures within_limits { Keeps table.old table.new }
     ensures blocks { KeepsBlocks table.old.objects table.new.objects }
 {
     find_graph_for(table, graph, &node.node())?;
@@ -78,7 +78,7 @@ pub fn remove_node(
     requires context { IsContext table.old }
     requires owns { LendsAtLeast pool.old (blocks_in table.old.objects) }
     ensures comes { ComesTo (remove_node table.old graph number) table.old table.new result }
-    ensures kept { Keeps table.old table.new }
+    ensures within_limits { Keeps table.old table.new }
     ensures balances { Balances pool.old pool.new table.old.objects table.new.objects }
 {
     find_named(table, graph, Kind::Graph)?;

@@ -17,7 +17,7 @@ ghost use Rattle.client_contexts.specs.Steps.{ComesTo, MayComeTo, IsContext, Kee
 
 use crate::fault::RequestFault;
 use crate::lookup::{find, find_image};
-use crate::room::{hold_images, look_for_room};
+use crate::new_objects::{hold_images, require_capacity};
 use client_model::{Described, Limits, Refusal, Reply, Text};
 use object_table::{Content, Object, Stored, Table};
 use pixel_pool::Pool;
@@ -32,10 +32,10 @@ pub fn create_image(
     desc: Desc,
 ) -> Result<Reply, RequestFault>
     ensures comes { MayComeTo (create_image limits table.old desc) table.old table.new result }
-    ensures kept { KeepsLimits limits table.old → KeepsLimits limits table.new }
+    ensures within_limits { KeepsLimits limits table.old → KeepsLimits limits table.new }
     ensures balances { Balances pool.old pool.new table.old.objects table.new.objects }
 {
-    look_for_room(table, limits, desc.byte_count())?;
+    require_capacity(table, limits, desc.byte_count())?;
     let image = Stored::new(pool, desc)?;
     hold_images(table, pool, limits, Object::new(Content::Image(image)))
 }
@@ -115,7 +115,7 @@ pub fn write_image(
     requires { IsContext table.old }
     ensures comes { ComesTo (write_image table.old reference picture.now)
         table.old table.new result }
-    ensures kept { Keeps table.old table.new }
+    ensures within_limits { Keeps table.old table.new }
     ensures blocks { KeepsBlocks table.old.objects table.new.objects }
 {
     find_image_for(table, reference, picture.desc())?;
@@ -177,7 +177,7 @@ fn valid_refusal(image: Desc, valid: Rect) -> Option<Refusal>
 pub fn set_valid(table: &mut Table, reference: ObjRef, valid: Rect) -> Result<Reply, Refusal>
     requires { IsContext table.old }
     ensures comes { ComesTo (set_valid table.old reference valid) table.old table.new result }
-    ensures kept { Keeps table.old table.new }
+    ensures within_limits { Keeps table.old table.new }
     ensures blocks { KeepsBlocks table.old.objects table.new.objects }
 {
     let desc = find_image(table, reference)?.desc();

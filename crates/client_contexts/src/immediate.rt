@@ -14,7 +14,7 @@ use vx_base::NodeSpec;
 pub fn run_at_once(table: &mut Table, node: NodeSpec) -> Result<Reply, Refusal>
     requires { IsContext table.old }
     ensures comes { ComesTo (immediate table.old node) table.old table.new result }
-    ensures kept { Keeps table.old table.new }
+    ensures within_limits { Keeps table.old table.new }
     ensures blocks { KeepsBlocks table.old.objects table.new.objects }
 {
     let node = node.node();

@@ -41,7 +41,7 @@ pub fn write_from<F: FillsSamples>(
     ensures err { IfErr result (SaysWhyUnwritten F.fills desc source.old source.new
         (IsRefusedFor table.old reference desc)) }
     ensures same { OnErr result (table.new ≡ table.old) }
-    ensures kept { Keeps table.old table.new }
+    ensures within_limits { Keeps table.old table.new }
     ensures balances { Balances pool.old pool.new table.old.objects table.new.objects }
 {
     find_image_for(table, reference, desc)?;
@@ -68,7 +68,7 @@ pub fn write_text(
 ) -> Result<Reply, RequestFault>
     requires { IsContext table.old }
     ensures comes { MayComeTo (write_text table.old reference text.now) table.old table.new result }
-    ensures kept { Keeps table.old table.new }
+    ensures within_limits { Keeps table.old table.new }
     ensures balances { Balances pool.old pool.new table.old.objects table.new.objects }
 {
     find_image(table, reference)?;
@@ -138,7 +138,7 @@ fn give_text(
     requires told { description_in text.now ≡ Ok desc }
     requires described { Describes desc block.old }
     ensures comes { MayComeTo (write_text table.old reference text.now) table.old table.new result }
-    ensures kept { Keeps table.old table.new }
+    ensures within_limits { Keeps table.old table.new }
     ensures blocks { KeepsBlocks table.old.objects table.new.objects }
     ensures format { samples_format block.new ≡ samples_format block.old }
 {
@@ -158,7 +158,7 @@ fn exchange(table: &mut Table, reference: ObjRef, desc: Desc, block: &mut Block)
         (record { description = desc; samples = values block.old })
         ≡ Ok (Empty, Some table.new) }
     ensures picture { IsPicture (record { description = desc; samples = values block.old }) }
-    ensures kept { Keeps table.old table.new }
+    ensures within_limits { Keeps table.old table.new }
     ensures blocks { KeepsBlocks table.old.objects table.new.objects }
     ensures format { samples_format block.new ≡ samples_format block.old }
 {

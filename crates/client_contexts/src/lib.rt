@@ -19,7 +19,7 @@
 //!
 //! - `memory`, `fault`: the faults of requests
 //! - `lookup`: finds objects by reference, by name, and by the operands of a node
-//! - `room`: limits on new objects, and their insertion
+//! - `new_objects`: limits on new objects, and their insertion
 //! - `images`: creates, queries, writes and reads images, and sets valid rectangles
 //! - `objects`: releases objects of any kind
 //! - `tables`: creates lookup tables, thresholds and convolutions
@@ -49,7 +49,7 @@ pub mod laws;
 mod lookup;
 mod memory;
 mod objects;
-mod room;
+mod new_objects;
 mod runtime;
 mod source;
 mod statistics;

@@ -13,7 +13,7 @@ pub fn release(table: &mut Table, pool: &mut Pool, name: u32) -> Result<Reply, R
     requires context { IsContext table.old }
     requires owns { LendsAtLeast pool.old (blocks_in table.old.objects) }
     ensures comes { ComesTo (release table.old name) table.old table.new result }
-    ensures kept { Keeps table.old table.new }
+    ensures within_limits { Keeps table.old table.new }
     ensures balances { Balances pool.old pool.new table.old.objects table.new.objects }
 {
     match table.release(name, pool) {

@@ -6,16 +6,16 @@ ghost use Rattle.std.specs.Option.{option_map};
 ghost use Rattle.std.specs.Ordering.{nat_cmp};
 ghost use Rattle.vx_base.specs.declared.format.Format.TheVariants.{U8 as FormatU8};
 ghost use Rattle.vx_base.specs.Image.{IsImage};
-ghost use Rattle.vx_base.specs.Picture.{PictureValue, picture_of};
+ghost use Rattle.vx_base.specs.Picture.{picture_of};
 ghost use Rattle.pgm_images.specs.Writing.{pgm_text};
 ghost use Rattle.client_model.specs.declared.request.Request.TheVariants.{ReleaseContext};
-ghost use Rattle.client_model.specs.declared.request.Request.TheVariants.{WriteImage, ReadImage};
+ghost use Rattle.client_model.specs.declared.request.Request.TheVariants.{ReadImage};
 ghost use Rattle.client_model.specs.declared.request.Request.TheVariants.{WriteImagePgm};
 ghost use Rattle.client_model.specs.declared.request.Request.TheVariants.{ReadImagePgm};
 ghost use Rattle.client_model.specs.declared.reply.Reply.TheVariants as replies;
 ghost use Rattle.client_contexts.specs.Applies.{Applies, AppliesToKept, IsAnswered};
 ghost use Rattle.client_contexts.specs.Blocks.{clients_blocks};
-ghost use Rattle.client_contexts.specs.Incoming.{IsRead, SaysWhyUnwritten, IsRefused};
+ghost use Rattle.client_contexts.specs.Incoming.{WritesReadPicture, SaysWhyUnwritten, IsRefused};
 ghost use Rattle.client_contexts.specs.Kept.{IsKept};
 ghost use Rattle.client_contexts.specs.World.{state_of, verified_of};
 ghost use Rattle.object_table.specs.Context.{Context};
@@ -204,10 +204,8 @@ impl Runtime {
         source: &mut F,
     ) -> Result<(), WriteFault<F::Fault>>
         requires { F.can_fill source.old }
-        ensures written { OnOk result ((p : PictureValue) ×
-            IsRead F.fills desc source.old source.new p (Ok tt) ×
-            Applies client (WriteImage reference p) self.old self.new (Ok replies.Empty) ×
-            AppliesToKept client (WriteImage reference p) self.old self.new (Ok replies.Empty)) }
+        ensures written { OnOk result (WritesReadPicture F.fills desc source.old source.new
+            client reference self.old self.new) }
         ensures err { IfErr result (SaysWhyUnwritten F.fills desc source.old source.new
             (IsRefused client reference desc self.old)) }
         ensures same { OnErr result (self.new ≡ self.old) }
@@ -226,10 +224,8 @@ impl Runtime {
         source: &mut F,
     ) -> Result<(), WriteFault<F::Fault>>
         requires { F.can_fill source.old }
-        ensures written { OnOk result ((p : PictureValue) ×
-            IsRead F.fills desc source.old source.new p (Ok tt) ×
-            Applies client (WriteImage reference p) self.old self.new (Ok replies.Empty) ×
-            AppliesToKept client (WriteImage reference p) self.old self.new (Ok replies.Empty)) }
+        ensures written { OnOk result (WritesReadPicture F.fills desc source.old source.new
+            client reference self.old self.new) }
         ensures err { IfErr result (SaysWhyUnwritten F.fills desc source.old source.new
             (IsRefused client reference desc self.old)) }
         ensures same { OnErr result (self.new ≡ self.old) }

@@ -9,7 +9,7 @@ ghost use Rattle.client_contexts.specs.Steps.{ComesTo, MayComeTo};
 
 use crate::fault::RequestFault;
 use crate::lookup::find_named;
-use crate::room::{hold, look_for_room};
+use crate::new_objects::{hold, require_capacity};
 use client_model::{Counts, Limits, Refusal, Reply};
 use object_table::{Content, Distribution, Object, Table};
 use std::alloc::Global;
@@ -23,10 +23,10 @@ pub fn create_distribution(
 ) -> Result<Reply, RequestFault>
     ensures comes { MayComeTo (create limits table.old (DistributionObject (new_distribution bins)))
         table.old table.new result }
-    ensures kept { KeepsLimits limits table.old → KeepsLimits limits table.new }
+    ensures within_limits { KeepsLimits limits table.old → KeepsLimits limits table.new }
     ensures blocks { KeepsBlocks table.old.objects table.new.objects }
 {
-    look_for_room(table, limits, 0)?;
+    require_capacity(table, limits, 0)?;
     let distribution = Distribution::new(table.allocator(), bins)?;
     hold(
         table,
@@ -53,10 +53,10 @@ pub fn read_distribution(table: &Table, alloc: Global, name: u32) -> Result<Repl
 pub fn create_min_max(table: &mut Table, limits: Limits) -> Result<Reply, RequestFault>
     ensures comes { MayComeTo (create limits table.old (ExtremesObject no_extremes))
         table.old table.new result }
-    ensures kept { KeepsLimits limits table.old → KeepsLimits limits table.new }
+    ensures within_limits { KeepsLimits limits table.old → KeepsLimits limits table.new }
     ensures blocks { KeepsBlocks table.old.objects table.new.objects }
 {
-    look_for_room(table, limits, 0)?;
+    require_capacity(table, limits, 0)?;
     let extremes = Extremes {
         min: 0,
         max: 0,

@@ -6,7 +6,7 @@ ghost use Rattle.object_table.specs.Blocks.{KeepsBlocks};
 ghost use Rattle.client_contexts.specs.Steps.{MayComeTo};
 
 use crate::fault::RequestFault;
-use crate::room::{hold, look_for_room};
+use crate::new_objects::{hold, require_capacity};
 use client_model::{Limits, Reply};
 use object_table::{Content, Object, Table};
 use vx_base::{Convolution, Lut, ThresholdRule};
@@ -15,10 +15,10 @@ use vx_base::{Convolution, Lut, ThresholdRule};
 pub fn create_lut(table: &mut Table, limits: Limits, lut: &Lut) -> Result<Reply, RequestFault>
     ensures comes { MayComeTo (create limits table.old (LutObject lut.now))
         table.old table.new result }
-    ensures kept { KeepsLimits limits table.old → KeepsLimits limits table.new }
+    ensures within_limits { KeepsLimits limits table.old → KeepsLimits limits table.new }
     ensures blocks { KeepsBlocks table.old.objects table.new.objects }
 {
-    look_for_room(table, limits, 0)?;
+    require_capacity(table, limits, 0)?;
     let copy = lut.copy(table.allocator())?;
     hold(table, limits, Object::new(Content::Lut(copy)))
 }
@@ -31,10 +31,10 @@ pub fn create_threshold(
 ) -> Result<Reply, RequestFault>
     ensures comes { MayComeTo (create limits table.old (ThresholdObject threshold))
         table.old table.new result }
-    ensures kept { KeepsLimits limits table.old → KeepsLimits limits table.new }
+    ensures within_limits { KeepsLimits limits table.old → KeepsLimits limits table.new }
     ensures blocks { KeepsBlocks table.old.objects table.new.objects }
 {
-    look_for_room(table, limits, 0)?;
+    require_capacity(table, limits, 0)?;
     let _format = threshold.format();
     hold(table, limits, Object::new(Content::Threshold(threshold)))
 }
@@ -47,10 +47,10 @@ pub fn create_convolution(
 ) -> Result<Reply, RequestFault>
     ensures comes { MayComeTo (create limits table.old (ConvolutionObject convolution.now))
         table.old table.new result }
-    ensures kept { KeepsLimits limits table.old → KeepsLimits limits table.new }
+    ensures within_limits { KeepsLimits limits table.old → KeepsLimits limits table.new }
     ensures blocks { KeepsBlocks table.old.objects table.new.objects }
 {
-    look_for_room(table, limits, 0)?;
+    require_capacity(table, limits, 0)?;
     convolution.prove_convolution();
     hold(
         table,

@@ -32,7 +32,7 @@ pub use Rattle.graph_verify.proofs.VerdictLemmas.{CanRun, can_run}
 pub use Rattle.graph_verify.specs.Cycle.{has_cycle}
 pub use Rattle.graph_verify.specs.Links.{feeds, is_written, reads, writes}
 pub use Rattle.graph_verify.specs.Members.{AllIn, In}
-pub use Rattle.graph_verify.specs.Operand.{is_image, is_virtual, operand_format, operand_kind, operand_of, operands_of, virtual_bytes}
+pub use Rattle.graph_verify.specs.Operand.{is_image, is_virtual, operand_format, operand_kind, operand_of, operands_of, resolved_bytes}
 pub use Rattle.graph_verify.specs.PartialDescriptions.{as_known, operand_partial_desc, partial_descs, resolved_operand, written_partial_desc}
 pub use Rattle.graph_verify.specs.Rounds.{rounds}
 pub use Rattle.graph_verify.specs.Verdict.{adds_to_virtual, first_fault, has_unwritten_input, is_unwritten_image, node_fault, reads_unwritten, verdict, virtual_outputs, work_bytes}

@@ -1,12 +1,12 @@
 -- The order in which the nodes of a graph were added makes no difference to whether it runs, nor to what it leaves.
 use Rattle.std.proofs.Common.{◌≡◌, ℕ, ◌≤◌, Bool, false, List, [], ◌∷◌, length, Some, None, Ok, inl, inr, refl, sym, ap, ◌∙◌, arith, ◌&&◌, ◌||◌, not, sum_by}
-use Rattle.client_laws.proofs.Common.{list_any, filter, IsPermutation, option_or, fun_ext, Node, Reference, GraphValue, nodes_of, inputs, outputs, aged_under, Context, with_objects, Operand, has_cycle, writes, feeds, In, AllIn, is_virtual, operands_of, virtual_bytes, operand_partial_desc, written_partial_desc, as_known, resolved_operand, rounds, node_fault, reads_unwritten, adds_to_virtual, has_unwritten_input, first_fault, virtual_outputs, work_bytes, verdict, has_cycle-from_cycle, AllIn-permutation_back, CanRun, can_run, run_of_graph, operand_held, no_delay, no_fault, each_alone, Empty, ProcessGraph, LimitsValue, reply_and_state, answer_to, graph_named, graph_verdict, process_found, KeepsLimits, pairs_of}
+use Rattle.client_laws.proofs.Common.{list_any, filter, IsPermutation, option_or, fun_ext, Node, Reference, GraphValue, nodes_of, inputs, outputs, aged_under, Context, with_objects, Operand, has_cycle, writes, feeds, In, AllIn, is_virtual, operands_of, resolved_bytes, operand_partial_desc, written_partial_desc, as_known, resolved_operand, rounds, node_fault, reads_unwritten, adds_to_virtual, has_unwritten_input, first_fault, virtual_outputs, work_bytes, verdict, has_cycle-from_cycle, AllIn-permutation_back, CanRun, can_run, run_of_graph, operand_held, no_delay, no_fault, each_alone, Empty, ProcessGraph, LimitsValue, reply_and_state, answer_to, graph_named, graph_verdict, process_found, KeepsLimits, pairs_of}
 use Rattle.std.proofs.lemmas.Bool.{false_from_ne_true}
 use Rattle.std.proofs.lemmas.List.Sorted.{length_permutation, list_any-IsPermutation, sum_by-IsPermutation}
 use Rattle.graph_verify.proofs.CycleLemmas.{cycle_from-has_cycle}
 use Rattle.graph_verify.proofs.LinkLemmas.{one_writer, two_writers-permutation}
 use Rattle.graph_verify.proofs.MemberLemmas.{AllIn-permutation}
-use Rattle.graph_verify.proofs.VerdictLemmas.{by_fault, there_is_room}
+use Rattle.graph_verify.proofs.VerdictLemmas.{by_fault, small_enough}
 use Rattle.graph_run.proofs.AddingLaws.{cell_rounds, same_graph}
 use Rattle.graph_verify.proofs.VerifyLemmas.{sum_of_outputs}
 use Rattle.client_laws.proofs.RunLaws.{graph_stood, outcome_is, done_is}
@@ -56,21 +56,21 @@ module _ (work : ℕ) (is : Reference → Operand) (nodes others : List Node) (s
       ap (λ known. first_fault known others) (sym same_known)
       ∙ no_first_fault (resolved_operand is nodes) others (λ n i. no_fault n (resolved_operand is nodes) (each_alone work is nodes runs n (from n i)))
 
-  room : work_bytes is others ≤ work
-  room =
-      let bytes : Reference → ℕ = λ c. virtual_bytes (resolved_operand is nodes c) in
+  small : work_bytes is others ≤ work
+  small =
+      let bytes : Reference → ℕ = λ c. resolved_bytes (resolved_operand is nodes c) in
       let by_node : Node → ℕ = λ n. sum_by bytes (filter (λ c. is_virtual (is c)) (outputs n)) in
       let as_many : work_bytes is others ≡ work_bytes is nodes =
-      ap (λ (known : Reference → Operand). sum_by (λ c. virtual_bytes (known c)) (virtual_outputs is others)) (sym same_known)
+      ap (λ (known : Reference → Operand). sum_by (λ c. resolved_bytes (known c)) (virtual_outputs is others)) (sym same_known)
       ∙ sum_of_outputs is bytes others
       ∙ sum_by-IsPermutation by_node nodes others same
       ∙ sym (sum_of_outputs is bytes nodes) in
-      omega (arith, as_many, can.room)
+      omega (arith, as_many, can.small)
 
   pub others_run : verdict work is others ≡ None
   others_run =
       by_fault work is others (two_writers-permutation nodes others same can.one_writer) no_cycle (sym no_unwritten_input) None (sym none_at_fault)
-      ∙ there_is_room work is others room
+      ∙ small_enough work is others small
 
 -- ---- graphs
 

@@ -2,10 +2,9 @@
 -- and as it ends, virtual images are forgotten.
 use Rattle.std.proofs.Common.{◌≡◌, inl, inr, ℕ, true, false, cond, IsTrue, List, [], ◌∷◌, ◌++◌, length, map, get_or, Option, Some, None, IfSome, refl, sym, ap, subst, ◌∙◌, All, not, ◌||◌, is_some, is_none, unwrap_or, arith}
 use Rattle.client_laws.proofs.Common.{list_any, IsStrictlyIncreasing, option_map, option_and_then, not-false, All-head, All-tail, Kind, Node, Reference, parameters, nodes_of, optional_cells, inputs, operands, ObjectValue, IsObject, object_kind, in_slot, aged_under, NamedObject, object_held, object_at, Context, with_objects, Operand, Missing, writes, is_written, operand_of, operand_kind, operand_format, operands_of, partial_descs, as_known, resolved_operand, node_fault, is_unwritten_image, reads_unwritten, adds_to_virtual, first_fault, can_run, rounds_of_nodes, is_virtual_object, objects_at_end, run_of_graph, Rejected, Empty, LimitsValue, graph_verdict, process_found, operand_held, operand_in, is_kind, stands_for, KeepsLimits, kind_held, holds_operand, names_of, held_kind, is_taken, kinds_taken, OperandsStand, stands_parts, CanRunOn, of_operands, labels-begun, label_of}
-use Rattle.std.proofs.lemmas.List.Elements.{All-nil, All-cons}
-use Rattle.client_model.proofs.OutcomeLaws.{Keeps}
+use Rattle.std.proofs.lemmas.List.Elements.{All-nil, All-cons, All-map}
+use Rattle.client_model.proofs.OutcomeLaws.{Keeps, unless_keeps}
 use Rattle.std.proofs.lemmas.Bool.{and_cases, both_ways, cond_both, or_parts}
-use Rattle.std.proofs.lemmas.List.Elements.{All-map}
 use Rattle.std.proofs.lemmas.List.Folds.{list_any_at}
 use Rattle.vx_base.specs.declared.kind.Kind.TheVariants as kind
 use Rattle.vx_base.specs.declared.numbered.Numbered.{Numbered}
@@ -21,7 +20,6 @@ use Rattle.client_model.proofs.HoldLaws.{each_fails}
 use Rattle.client_model.proofs.StateLaws.{alike_leaves}
 use Rattle.graph_verify.proofs.SuitLemmas.{Suits, no_fault_suits}
 use Rattle.client_model.proofs.NodeStepLaws.{CanGive, CanGiveTo, neither, second_there, not_rejected}
-use Rattle.client_model.proofs.OutcomeLaws.{unless_keeps}
 use Rattle.client_model.proofs.DelayStepLaws.{aged_under_last}
 use Rattle.client_model.proofs.GraphStepLaws.{of_graph}
 use Rattle.client_laws.proofs.RoundLaws.{rounds_last}

@@ -5,9 +5,8 @@ use Rattle.vx_base.specs.Image.{new_image}
 use Rattle.vx_base.specs.Graph.{new_graph}
 use Rattle.vx_base.specs.Object.{ImageObject, LutObject, ThresholdObject, ConvolutionObject, DistributionObject, ExtremesObject, new_distribution, no_extremes}
 use Rattle.client_model.specs.declared.request.Request.TheVariants.{OpenContext, CreateImage, QueryImage, WriteImage, ReadImage, ReadImagePgm, SetValid, Release, CreateLut, CreateThreshold, CreateConvolution, CreateDistribution, ReadDistribution, CreateMinMax, ReadMinMax, CreateGraph, CreateVirtualImage, RemoveNode, CreateDelay, AgeDelay, RegisterAutoAging}
-use Rattle.client_model.proofs.StateLaws.{same_leaves}
+use Rattle.client_model.proofs.StateLaws.{same_leaves, new_context_keeps}
 use Rattle.vx_base.proofs.ImageLaws.{new_image_is}
-use Rattle.client_model.proofs.StateLaws.{new_context_keeps}
 use Rattle.client_model.proofs.OutcomeLaws.{StateKeeps, KeepsBut, create_keeps, same_keeps}
 use Rattle.client_model.proofs.ImageStepLaws.{write_image_keeps, write_text_keeps, set_valid_keeps}
 use Rattle.std.proofs.lemmas.List.{length-replicate}

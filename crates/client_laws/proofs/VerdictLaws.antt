@@ -1,6 +1,6 @@
 -- A verdict, and how a graph runs, depend on what the cells that its nodes name are, and on nothing else.
 use Rattle.std.proofs.Common.{◌≡◌, ℕ, zero, suc, inl, inr, true, List, [], ◌∷◌, length, Some, refl, sym, ap, subst, ◌∙◌, arith, All, Bool, ◌&&◌, sum_by, unwrap_or, not, ◌||◌}
-use Rattle.client_laws.proofs.Common.{filter, flat_map, option_map, option_or, or_right, All-tail, All-weaker, Kind, Node, Reference, parameters, inputs, outputs, operands, PartialDescription, NamedObject, object_at, Operand, Missing, Verified, reads, writes, is_written, In, AllIn, operand_of, is_virtual, virtual_bytes, operand_partial_desc, written_partial_desc, partial_descs, as_known, resolved_operand, rounds, reads_unwritten, adds_to_virtual, has_unwritten_input, first_fault, virtual_outputs, work_bytes, verdict, node_fault, is_unwritten_image, In-left, In-right, In-append, AllIn-permutation_back, names_cell, StandsFor, operand_held, IsReady, All-from_In, In-from_All, named_by_input, named_by_output}
+use Rattle.client_laws.proofs.Common.{filter, flat_map, option_map, option_or, or_right, All-tail, All-weaker, Kind, Node, Reference, parameters, inputs, outputs, operands, PartialDescription, NamedObject, object_at, Operand, Missing, Verified, reads, writes, is_written, In, AllIn, operand_of, is_virtual, resolved_bytes, operand_partial_desc, written_partial_desc, partial_descs, as_known, resolved_operand, rounds, reads_unwritten, adds_to_virtual, has_unwritten_input, first_fault, virtual_outputs, work_bytes, verdict, node_fault, is_unwritten_image, In-left, In-right, In-append, AllIn-permutation_back, names_cell, StandsFor, operand_held, IsReady, All-from_In, In-from_All, named_by_input, named_by_output}
 use Rattle.graph_verify.specs.declared.operand.Operand.TheVariants.{Image}
 use Rattle.std.proofs.lemmas.List.Elements.{All-filter}
 use Rattle.std.proofs.lemmas.List.Sums.{sum_by-cons}
@@ -93,11 +93,11 @@ module _ (nodes : List Node) where
     -- as many bytes are worked on
     work_alike : work_bytes one nodes ≡ work_bytes other nodes
     work_alike =
-        let bytes : (Reference → Operand) → Reference → ℕ = λ is cell. virtual_bytes (resolved_operand is nodes cell) in
+        let bytes : (Reference → Operand) → Reference → ℕ = λ is cell. resolved_bytes (resolved_operand is nodes cell) in
         let wanted = virtual_outputs other nodes in
         ap (sum_by (bytes one)) (virtual_alike nodes (λ n i. i))
         ∙ sum_alike (bytes one) (bytes other) wanted
-        (All-weaker IsNamed (λ cell. bytes one cell ≡ bytes other cell) (λ cell named. ap virtual_bytes (resolved_alike cell named)) wanted
+        (All-weaker IsNamed (λ cell. bytes one cell ≡ bytes other cell) (λ cell named. ap resolved_bytes (resolved_alike cell named)) wanted
         (All-filter (λ cell. is_virtual (other cell)) IsNamed (flat_map outputs nodes) (written_named nodes (λ n i. i))))
 
     pub verdict_alike : (work : ℕ) → verdict work one nodes ≡ verdict work other nodes

@@ -2,12 +2,11 @@
 use Rattle.std.proofs.Common.{◌≡◌, ℕ, false, IfOk, IsTrue, List, [], ◌∷◌, length, map, get_or, replicate, refl, sym, ap, ◌∙◌, arith, Option, Some, None, IfSome, Result, Ok, Err, rules, All, length-take, length-drop, length-append}
 use Rattle.client_model.proofs.Common.{option_map, option_and_then, length-map, All-tail, All-cons, All-append, Reference, reference_to, Description, ImageValue, IsImage, description_of, ObjectValue, GraphObject, IsObject, in_slot, NamedObject, object_held, Context, object_named, with_objects, with_graph, Refusal, LimitsValue, image_of, KeepsLimits, lasting_part, lasting_named, Lasts, object_held_has, cond_both, GraphValue, IsGraph}
 use Rattle.vx_base.specs.declared.format.Format.TheVariants.{U8}
-use Rattle.vx_base.specs.Object.{DelayObject}
+use Rattle.vx_base.specs.Object.{DelayObject, IsDelay}
 use Rattle.std.proofs.lemmas.List.{get_or-map}
 use Rattle.std.proofs.lemmas.List.Elements.{All-take, All-drop}
 use Rattle.vx_base.specs.Image.{new_image, image_over}
 use Rattle.vx_base.specs.Graph.{is_registered}
-use Rattle.vx_base.specs.Object.{IsDelay}
 use Rattle.vx_base.specs.Rectangle.{empty_rectangle}
 use Rattle.vx_base.specs.Slots.{is_slot_count}
 use Rattle.object_table.specs.Delay.{new_delay, aged_images}

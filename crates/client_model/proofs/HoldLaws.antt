@@ -2,9 +2,8 @@
 use Rattle.std.proofs.Common.{◌≡◌, ◌⊎◌, inl, inr, ℕ, arith, Bool, true, false, IsTrue, List, [], ◌∷◌, ◌++◌, get_or, Option, Some, refl, sym, ap, subst, ◌∙◌, rules, All, is_none, ◌==◌, ◌&&◌, not, find, filter, unwrap_or, eq-eqb, eqb-true}
 use Rattle.client_model.proofs.Common.{IsStrictlyIncreasing, option_map, option_and_then, and_parts, or_cases, All-nil, All-cons, All-append, All-filter, All-map, All-tail, All-weaker, find-append, Function, Kind, Node, Numbered, Reference, parameters, operands, ObjectValue, GraphObject, object_kind, in_slot, NamedObject, object_held, object_at, skeleton, names_it, uses, is_used, is_held, still_held, nodes_in, is_kind, holds_nothing, kind_held, holds_operand, NodesStand, names_of, All-from_map, held_by_name}
 use Rattle.std.specs.List.{list_any}
-use Rattle.std.proofs.lemmas.Bool.{or_right}
+use Rattle.std.proofs.lemmas.Bool.{or_right, and_from, and_right, both_ways, not_from_false, or_left, or_parts}
 use Rattle.object_table.specs.Delay.{slot_kind}
-use Rattle.std.proofs.lemmas.Bool.{and_from, and_right, both_ways, not_from_false, or_left, or_parts}
 use Rattle.std.proofs.lemmas.List.Elements.{filter_passes}
 use Rattle.std.proofs.lemmas.List.Folds.{list_any_at, list_any_none}
 use Rattle.std.proofs.lemmas.Map.Views.{any-filter_same}

@@ -2,9 +2,9 @@
 use Rattle.std.proofs.Common.{◌≡◌, ℕ, Bool, true, false, IsTrue, List, get_or, [], map, Option, Some, None, IfSome, if◌then◌else◌, refl, sym, ap, subst, ◌∙◌, arith, All, is_some, is_none}
 use Rattle.client_model.proofs.Common.{option_map, option_and_then, not-false, and_parts, IfSome_then, All-nil, All-cons, All-append, Function, Kind, Node, Reference, Description, parameters, IsImage, description_of, IsNode, operands, second_kind, ObjectValue, ImageObject, ExtremesObject, IsObject, object_kind, NamedObject, object_at, skeleton, Context, with_objects, Operand, Image, operand_of, operand_format, operand_kind, Empty, LimitsValue, holds_nothing, is_kind, kind_of, stands_for, operands_refusal, KeepsLimits, kind_held, held_is, lasting_part, lasting_named, IsReplacement, images-last, Suits, passed, kind-operand}
 use Rattle.std.specs.Option.{option_or}
-use Rattle.client_model.specs.declared.refusal.Refusal.TheVariants.{Rejected}
-use Rattle.client_model.specs.Operands.{is_unknown, is_of_other_kind}
-use Rattle.graph_run.proofs.LastingLemmas.{skeletons-last}
+use Rattle.client_model.specs.declared.refusal.Refusal.TheVariants.{Rejected, OptimizedAway}
+use Rattle.client_model.specs.Operands.{is_unknown, is_of_other_kind, is_beyond}
+use Rattle.graph_run.proofs.LastingLemmas.{skeletons-last, cell-lasts}
 use Rattle.vx_base.specs.declared.format.Format.{Format}
 use Rattle.vx_base.specs.declared.kind.Kind.TheVariants as kind
 use Rattle.vx_base.specs.Description.{same_size}
@@ -20,11 +20,8 @@ use Rattle.object_table.specs.NamedObject.{with_written}
 use Rattle.object_table.proofs.SkeletonLaws.{option_map-told}
 use Rattle.graph_verify.specs.declared.verdict.Verdict.{Verdict}
 use Rattle.graph_verify.specs.Verdict.{verdict_on}
-use Rattle.client_model.specs.declared.refusal.Refusal.TheVariants.{OptimizedAway}
-use Rattle.client_model.specs.Operands.{is_beyond}
 use Rattle.client_model.specs.Immediate.{operand_in, operand_if, operands_in, is_some_virtual, away_refusal, node_refusal, immediate}
 use Rattle.graph_run.proofs.CellLemmas.{Lasts-with_written}
-use Rattle.graph_run.proofs.LastingLemmas.{cell-lasts}
 use Rattle.client_model.proofs.NamedLaws.{held_kind, kind_if_live}
 use Rattle.client_model.proofs.HoldLaws.{each_fails}
 use Rattle.client_model.proofs.StateLaws.{alike_leaves}

@@ -2,14 +2,13 @@
 use Rattle.std.proofs.Common.{◌≡◌, ℕ, ◌+◌, ◌<◌, ◌≤◌, Bool, true, false, IsTrue, List, [], ◌∷◌, ◌++◌, length, map, Some, if◌then◌else◌, refl, sym, ap, subst, ◌∙◌, arith, All, ◌&&◌, ◌||◌, not, nat_lt, nat_le, sum, filter}
 use Rattle.client_model.proofs.Common.{IsStrictlyIncreasing, option_map, and_parts, or_cases, length-map, All-nil, All-push, All-filter, All-weaker, All-map, All-tail, find-append, list_any-append, IfSome_then, Reference, ObjectValue, IsObject, NamedObject, object_held, with_object, Context, with_objects, uses, is_used, is_held, still_held, skeleton, nodes_in, names_of, named_has, held_by_name, All-from_map, lasting_named, Lasts, IsReplacement, LimitsValue, NodesStand, KeepsLimits}
 use Rattle.vx_base.specs.Object.{object_bytes}
-use Rattle.object_table.specs.Context.{with_new}
+use Rattle.object_table.specs.Context.{with_new, new_context, charge_of, can_insert}
 use Rattle.client_model.specs.Context.{has_capacity}
 use Rattle.std.specs.List.{flat_map}
 use Rattle.std.proofs.lemmas.List.{length_push}
 use Rattle.std.proofs.lemmas.List.Filters.{length-filter_both, sum_by-filter_both}
 use Rattle.std.proofs.lemmas.List.Folds.{flat_map-map}
 use Rattle.std.proofs.lemmas.List.Sums.{sum-map, sum_by_push}
-use Rattle.object_table.specs.Context.{new_context, charge_of, can_insert}
 use Rattle.object_table.specs.Uses.{used_names, name_count}
 use Rattle.object_table.proofs.GraphLemmas.{is_used_there}
 use Rattle.object_table.proofs.SkeletonLaws.{map-told, bytes-skeleton}

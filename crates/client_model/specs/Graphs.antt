@@ -8,10 +8,9 @@ use Rattle.vx_base.specs.Graph.{GraphValue, nodes_of, can_add, with_node, has_no
 use Rattle.vx_base.specs.Node.{operands}
 use Rattle.vx_base.specs.Object.{ObjectValue, GraphObject, VirtualObject}
 use Rattle.vx_base.specs.PartialDescription.{PartialDescription}
-use Rattle.object_table.specs.Ageing.{aged_under}
+use Rattle.object_table.specs.Ageing.{aged_under, aged_under}
 use Rattle.object_table.specs.NamedObject.{NamedObject}
 use Rattle.vx_base.specs.Reference.{reference_to}
-use Rattle.object_table.specs.Ageing.{aged_under}
 use Rattle.object_table.specs.Context.{Context, object_named, with_objects, with_graph}
 use Rattle.object_table.specs.Holds.{still_held}
 use Rattle.graph_verify.specs.declared.verdict.Verdict.{Verdict}

@@ -1,11 +1,10 @@
 //! Requests of clients.
-ghost use Rattle.std.specs.Prelude.{◌<◌, ◌^◌, All};
 ghost use Rattle.client_model.specs.Request.{IsRequest};
 
 use crate::text::Text;
 use vx_base::{
     Bins, Convolution, Desc, Lut, NodeSpec, ObjRef, PartialDesc, Picture, Rect, SlotCount,
-    ThresholdRule,
+    ThresholdRule, prove_bytes,
 };
 
 /// A client's request.
@@ -142,7 +141,3 @@ impl Request {
         }
     }
 }
-
-fn prove_bytes(bytes: &[u8])
-    ensures { All (λ byte. byte < 2 ^ 8) bytes.now }
-{}

@@ -1,4 +1,4 @@
--- Images that move from a table to planes while a graph runs, and back.
+-- Images that move from a table to planes for a run of a graph, and then back.
 use Rattle.std.specs.Prelude.{◌≡◌, ⊤, List, [], ◌∷◌, map}
 use Rattle.vx_base.specs.Reference.{Reference}
 use Rattle.vx_base.specs.Image.{ImageValue, image_over, description_of}
@@ -43,7 +43,7 @@ plane_objects [] planes = []
 plane_objects (c ∷ cells) [] = []
 plane_objects (c ∷ cells) (p ∷ planes) = (c, ImageObject (block_image p)) ∷ plane_objects cells planes
 
--- there is a plane for each reference, with the description and format of its image
+-- there is a plane for each reference, with the description and format of the reference's image
 abbrev pub AreFor : List NamedObject → List Reference → List PlaneValue → Type 0
 AreFor objects [] planes = ⊤
 AreFor objects (c ∷ cells) [] = ⊥

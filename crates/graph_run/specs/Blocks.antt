@@ -34,7 +34,8 @@ room_count rooms format = sum_by (λ r. one_of r.0 format) rooms
 abbrev pub band_samples : ℕ → ℕ → Description → ℕ
 band_samples size rows desc = min desc.height (size + rows + rows) * desc.width
 
--- the greatest number of samples that an image in a slot needs; the first of the images has index k
+-- the greatest number of samples that any image of the list in a slot needs; the first image of the
+-- list has index k
 abbrev pub samples_from : ℕ → List ℕ → ℕ → List VirtualOutput → List ℕ → ℕ → ℕ
 samples_from size halos k [] slots place = 0
 samples_from size halos k (o ∷ outs) [] place = 0
@@ -46,7 +47,7 @@ abbrev pub band_plan : ℕ → List ℕ → List VirtualOutput → List ℕ → 
 band_plan size halos outs slots p =
     record p { slot_samples = λ format k. samples_from size halos 0 outs slots (slot_place p format k) }
 
--- the list of the task that runs a step; empty without a step
+-- a step as a list of one task; empty if there is no step
 abbrev pub step_tasks : Option Step → List Task
 step_tasks None = []
 step_tasks (Some s) = Write s ∷ []

@@ -1,4 +1,4 @@
--- The objects that a run reads as tables, and those that it writes as tallies.
+-- The objects that a run reads as tables, and the objects that it writes as tallies.
 use Rattle.std.specs.Prelude.{◌≡◌, ⊤, Bool, true, false, List, [], ◌∷◌, length, All, IfSome, unwrap_or}
 use Rattle.vx_base.specs.declared.kind.Kind.{Kind}
 use Rattle.vx_base.specs.declared.kind.Kind.TheVariants as kind
@@ -27,13 +27,14 @@ is_lent other = false
 abbrev pub IsLent : Kind → Type 0
 IsLent k = is_lent k ≡ true
 
--- the second inputs of the nodes that aren't images can be read as tables
+-- the second input of each node can be read as a table, unless it is an image
 abbrev pub LendTables : List NamedObject → List Node → Type 0
 LendTables objects nodes = All (λ n. IfSome (node_table objects n) (λ object. IsLent (object_kind object))) nodes
 
 -- ---- tallies
 
--- the node's output can take its tally, by the kind of the output
+-- an output of this kind can take its tally: its reference names an object of this kind, a
+-- distribution or extremes. Nothing is required of an image.
 abbrev pub KeepsTally : List NamedObject → Kind → Reference → Type 0
 KeepsTally objects kind.Image cell = ⊤
 KeepsTally objects kind.Distribution cell = HoldsKind objects (cell, kind.Distribution)

@@ -9,7 +9,7 @@ use Rattle.vx_base.specs.Function.{parameters}
 use Rattle.vx_base.specs.Node.{optional_cells, second_kind}
 use Rattle.graph_verify.specs.declared.verified.Verified.{Verified}
 
--- the reference of an operand, if that is given and an image
+-- the reference of an operand, as a list; empty unless the operand is given and an image
 abbrev pub image_given : Kind → Option Reference → List Reference
 image_given kind.Image cell = optional_cells cell
 image_given other cell = []
@@ -24,11 +24,11 @@ node_images n =
 abbrev pub images_named : List Node → List Reference
 images_named nodes = flat_map node_images nodes
 
--- the list with this reference appended, unless it has it
+-- the list with this reference appended, unless the list has it already
 abbrev pub with_cell : List Reference → Reference → List Reference
 with_cell cells c = if list_any (λ d. same_reference d c) cells then cells else cells ++ c ∷ []
 
--- the list with each of these references appended, unless it has it
+-- the list with each of these references appended, unless the list has it already
 abbrev pub with_cells : List Reference → List Reference → List Reference
 with_cells cells [] = cells
 with_cells cells (c ∷ more) = with_cells (with_cell cells c) more
@@ -41,7 +41,7 @@ virtual_cells v = map (λ o. o.cell) v.virtual_outputs
 abbrev pub cells_of : Verified → List Reference
 cells_of v = with_cells (virtual_cells v) (images_named v.steps)
 
--- the index of a reference
+-- the first index of a reference, or the length of the list if the reference isn't in it
 abbrev pub index_of : List Reference → Reference → ℕ
 index_of [] c = 0
 index_of (d ∷ cells) c = if same_reference d c then 0 else index_of cells c + 1

@@ -11,7 +11,8 @@ use Rattle.graph_verify.specs.declared.operand.Operand.{Operand}
 use Rattle.graph_verify.specs.declared.operand.Operand.TheVariants.{Image}
 use Rattle.graph_verify.specs.Links.{is_written}
 
--- one round: all nodes write at the same time, from the objects before the round; accumulating nodes add to the objects at the start
+-- one round: all nodes write at the same time, from the objects before the round; accumulating
+-- nodes add to the objects at the start of the run
 abbrev pub round_of_nodes : List Node → List NamedObject → List NamedObject → List NamedObject
 round_of_nodes nodes start objects = with_written objects (flat_map (λ n. written_from (object_at start) n (object_at objects)) nodes)
 
@@ -25,7 +26,7 @@ abbrev pub object_at_start : ObjectValue → Operand → ObjectValue
 object_at_start (VirtualObject image) (Image d) = ImageObject (new_image d.width d.height d.format)
 object_at_start object operand = object
 
--- an object at the start of a run
+-- an object as it is at the start of a run
 abbrev pub named_at_start : (Reference → Operand) → List Node → NamedObject → NamedObject
 named_at_start is nodes o =
     let cell : Reference = record { name = o.name; slot = None } in

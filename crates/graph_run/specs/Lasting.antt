@@ -10,11 +10,12 @@ use Rattle.object_table.specs.Uses.{nodes_in}
 abbrev pub lasting_part : ObjectValue → ObjectValue × List Node
 lasting_part object = (skeleton object, nodes_in object)
 
--- the part of a named object that writes don't change, with its name and whether that is live
+-- the part of a named object that writes don't change, with the object's name and whether this name
+-- is live
 abbrev pub lasting_named : NamedObject → NamedObject × List Node
 lasting_named o = (record o { object = skeleton o.object }, nodes_in o.object)
 
--- the new objects are valid, and their lasting parts are as before
+-- the new objects are well-formed, and their lasting parts are as before
 pub record Lasts (old new : List NamedObject) : Type 0 where
   pub objects : All (λ o. IsObject o.object) new
   pub lasting : map lasting_named new ≡ map lasting_named old

@@ -35,11 +35,12 @@ pub record CellsStand (is : Reference → Operand) (nodes : List Node) (objects 
   pub found : (n : Node) (cell : Reference) → In n nodes → names_cell n cell ≡ true → HoldsOperand objects cell (is cell)
   pub kinds : (n : Node) (cell : Reference) → In n nodes → writes n cell ≡ true → StandsFor (is cell) (parameters n.function).output
 
--- the operand that a reference in a node of a graph names; Missing if it names no object
+-- the operand that a reference in a node of a graph names; Missing if the reference names no object
 abbrev pub operand_held : List NamedObject → Reference → Operand
 operand_held objects cell = unwrap_or (option_map operand_of (object_at objects cell)) Missing
 
--- the graph is verified and can run: nothing refuses it, and each reference names an object of the kind that the function has there
+-- the graph is verified and can run: its verdict is None, and each reference names an object of the
+-- kind that the node's function expects there
 pub record IsReady (objects : List NamedObject) (nodes : List Node) (v : Verified) : Type 0 where
   pub verified : IsVerified (operand_held objects) nodes v
   pub runs : (work : ℕ) × (verdict work (operand_held objects) nodes ≡ None)

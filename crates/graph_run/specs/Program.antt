@@ -33,7 +33,8 @@ use Rattle.graph_run.specs.Tasks.{SlotsHold, block_at, graph_cells, graph_tasks}
 
 -- ---- tables
 
--- the second input, if it is a table, a threshold or a matrix; images are planes
+-- the second input, if it is a table, a threshold or a matrix; None for an image, which is read
+-- from a plane
 abbrev pub table_by : Kind → Option ObjectValue → Option ObjectValue
 table_by kind.Image object = None
 table_by other object = object
@@ -48,11 +49,12 @@ tables_of objects nodes k = slice_index_or (map (node_table objects) nodes) k No
 
 -- ---- radii
 
--- a node's radius: the number of input rows above and below an output row that it reads; None if it reads all
+-- a node's radius: the number of input rows that it reads above an output row, and as many below;
+-- None if it reads all rows
 abbrev pub node_radius : List NamedObject → Node → Option ℕ
 node_radius objects n = step_radius n.function (matrix_in (option_and_then (object_at objects) n.in2))
 
--- a node's radius in images of at most this height, which is the height if the node reads all rows
+-- a node's radius in images of at most this height; the height itself if the node reads all rows
 abbrev pub radius_of : List NamedObject → ℕ → Node → ℕ
 radius_of objects high n = unwrap_or (node_radius objects n) high
 
@@ -66,7 +68,8 @@ AreNear objects high radius nodes = (n : Node) → In n nodes → Covers (node_r
 abbrev pub client_cells : List Node → List VirtualOutput → List Reference
 client_cells steps outs = drop (length outs) (graph_cells steps outs)
 
--- the planes of a graph: first those of its virtual images, then those of the clients' images
+-- the planes of a graph: first the planes of its virtual images, then the planes of the clients'
+-- images
 abbrev pub planes_of : List NamedObject → List Node → List VirtualOutput → List PlaneValue → List PlaneValue
 planes_of objects steps outs virtuals = virtuals ++ image_planes objects (client_cells steps outs)
 
@@ -74,7 +77,8 @@ planes_of objects steps outs virtuals = virtuals ++ image_planes objects (client
 abbrev pub virtual_description : List VirtualOutput → ℕ → Description
 virtual_description outs k = slice_index_or (map (λ o. o.desc) outs) k no_plane.desc
 
--- the blocks of virtual images before a run: that of a slot belongs to the last image in it
+-- the blocks of the virtual images before a run: the last image in each slot has the slot's block,
+-- the others have empty blocks
 abbrev pub first_blocks : List ℕ → (ℕ → Format × ℕ) → List (Format × ℕ)
 first_blocks slots rooms = map (block_at slots rooms 0) (range_with_len 0 (length slots))
 
@@ -86,18 +90,18 @@ tally_by kind.Image object = []
 tally_by kind.Distribution object = tally.Histogram (new_distribution (distribution_value object).bins) ∷ []
 tally_by other object = tally.Extremes no_extremes ∷ []
 
--- the empty tally of a node
+-- the empty tally of a node, as a list; an empty list if the node writes an image
 abbrev pub node_tallies : List NamedObject → Node → List Tally
 node_tallies objects n = tally_by (parameters n.function).output (cell_object objects (unwrap_or n.out1 n.in1))
 
--- the empty tallies of nodes, in their order
+-- the empty tallies of nodes, in the order of the nodes
 abbrev pub tallies_of : List NamedObject → List Node → List Tally
 tallies_of objects nodes = flat_map (node_tallies objects) nodes
 
 -- ---- programs
 
--- a step that reads its output writes each row once, to a block of all rows: its output has no halo and takes no block, or there is one
--- band
+-- a step that reads its output writes each row once, to a block of all rows: either its output has
+-- no halo and takes no block, or there is only one band
 abbrev pub AddOnce : ℕ → ℕ → List ℕ → List Task → Type 0
 AddOnce high size halos tasks =
     (s : Step) → IsStepOf s tasks → reads_output s.node.function ≡ true → ((halo halos s.output ≡ 0) × (s.takes ≡ None)) ⊎ (high ≤ size)

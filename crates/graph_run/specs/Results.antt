@@ -31,7 +31,8 @@ first_objects objects nodes = map (named_at_start (resolved_operand (operand_hel
 abbrev pub last_objects : List NamedObject → List Node → List NamedObject
 last_objects objects nodes = rounds_of_nodes nodes (length nodes) (first_objects objects nodes)
 
--- the images that these references name, and then others
+-- the images that these references name, at the references' indices; the images of `others` at all
+-- later indices
 abbrev pub images_in : List NamedObject → List Reference → (ℕ → ImageValue) → ℕ → ImageValue
 images_in objects cells others k = if nat_lt k (length cells) then image_held objects (slice_index_or cells k (reference_to 0)) else others k
 
@@ -42,7 +43,8 @@ abbrev pub tally_object : Tally → ObjectValue
 tally_object (tally.Histogram d) = DistributionObject d
 tally_object (tally.Extremes e) = ExtremesObject e
 
--- the reference of a node's tally, if its output isn't an image
+-- the reference to which a node's tally is written, as a list; empty if the node's output is an
+-- image
 abbrev pub tally_cell : Kind → Node → List Reference
 tally_cell kind.Image n = []
 tally_cell other n = unwrap_or n.out1 n.in1 ∷ []
@@ -59,7 +61,8 @@ tally_objects (c ∷ cells) (t ∷ tallies) = (c, tally_object t) ∷ tally_obje
 
 -- ---- runs
 
--- the results of a run of tasks: each plane that keeps its block has the image of every solution, and the tallies are those of such images
+-- the results of a run of tasks, compared with any solution: each plane that keeps its block has
+-- the solution's image, and each tally is the tally of the solution's image
 pub record Leaves (tables : ℕ → Option ObjectValue) (tasks : List Task) (planes : List PlaneValue) (tallies : List Tally) (after : List PlaneValue) (counted : List Tally) : Type 0 where
   pub images : (whole : ℕ → ImageValue) → SolvesSteps tables (length planes) tasks (block_images planes) whole
       → (c : ℕ) → KeepsBlock (length planes) tasks c → block_image (plane after c) ≡ whole c

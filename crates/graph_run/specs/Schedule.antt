@@ -16,7 +16,7 @@ use Rattle.graph_run.specs.Results.{tally_cells}
 use Rattle.graph_run.specs.Slots.{place_of, planned_capacities}
 use Rattle.graph_run.specs.Tasks.{graph_cells, graph_tasks}
 
--- a schedule of a verified graph, by a plan of its slots
+-- a schedule of a verified graph, with the slots of this plan
 pub record IsSchedule (objects : List NamedObject) (v : Verified) (p : PlanView) (s : Schedule) : Type 0 where
   pub cells : s.cells.items ≡ graph_cells v.steps v.virtual_outputs
   pub slots : s.slots.items ≡ map (place_of p) v.virtual_outputs

@@ -24,8 +24,9 @@ WritesNo k nodes objects = (cell : Reference) → is_written nodes cell ≡ true
 abbrev pub ReadImages : List Node → List NamedObject → Type 0
 ReadImages nodes objects = All (λ n. kind_in objects n.in1 ≡ Some kind.Image) nodes
 
--- the part of an object that no node changes: the format of an image, all of a graph, and the skeleton of other objects; a delay's images
--- are in its slots
+-- the part of an object that no node changes: the format of an image, all of a graph, nothing of a
+-- delay, and the skeleton of any other object. The images in a delay's slots have references and
+-- forms of their own.
 abbrev pub form_of : ObjectValue → ObjectValue
 form_of (ImageObject image) = ImageObject (new_image 0 0 image.format)
 form_of (DelayObject images) = DelayObject []
@@ -40,8 +41,9 @@ form_held objects cell = option_map form_of (object_at objects cell)
 abbrev pub label_of : NamedObject → ℕ × Bool
 label_of o = (o.name, o.live)
 
--- the objects after a run solve the equations of its nodes. Each output is what its node computes from the objects after the run; an
--- accumulating node adds to the object before the run. All other objects, and all labels and forms, are as before
+-- the objects after a run solve the equations of the nodes. Each output is what its node computes
+-- from the objects after the run; an accumulating node adds to the object before the run. All other
+-- objects, and all labels and forms, are as before.
 pub record Solves (nodes : List Node) (before after : List NamedObject) : Type 0 where
   pub labels : map label_of after ≡ map label_of before
   pub forms : (cell : Reference) → form_held after cell ≡ form_held before cell

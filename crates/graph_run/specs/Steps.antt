@@ -1,4 +1,4 @@
--- Single nodes: the objects that they read, and those that they write.
+-- Single nodes: the objects that they read, and the objects that they write.
 use Rattle.std.specs.Prelude.{ℕ, ◌≡◌, ◌≢◌, IsTrue, is_some, List, Option, Some, None, IfSome}
 use Rattle.std.specs.Option.{option_map, option_and_then}
 use Rattle.vx_base.specs.declared.kind.Kind.TheVariants as kind
@@ -38,7 +38,8 @@ abbrev pub TwoSlots : Option ℕ → Option ℕ → Type 0
 TwoSlots (Some j) (Some k) = j ≢ k
 TwoSlots j k = ⊥
 
--- one object can be written without the other: their names or their slots differ
+-- one object can be written without the other: the references have different names, or different
+-- slots of one delay
 abbrev pub AreApart : Reference → Reference → Type 0
 AreApart a b = a.name ≡ b.name → TwoSlots a.slot b.slot
 
@@ -63,7 +64,7 @@ pub record HasInputs (objects : List NamedObject) (n : Node) : Type 0 where
 abbrev pub output_of : List NamedObject → Node → Output → Reference → ObjectValue
 output_of objects n which output = node_output n which (cell_object objects n.in1) (option_map (cell_object objects) n.in2) (cell_object objects output)
 
--- the objects after the output is written, if it is given
+-- the objects after the output is written; the same objects if the output isn't given
 abbrev pub with_output_object : List NamedObject → Node → Output → Option Reference → List NamedObject
 with_output_object objects n which None = objects
 with_output_object objects n which (Some output) = with_object objects output (output_of objects n which output)

@@ -35,27 +35,31 @@ abbrev pub last_in : ℕ → List ℕ → Option ℕ
 last_in slot [] = None
 last_in slot (s ∷ slots) = option_or (option_map suc (last_in slot slots)) (if s == slot then Some 0 else None)
 
--- the image that has a slot's block after `count` images are written: the last of these in the slot, else the slot's last image,
--- which had the block at the end of the previous band
+-- the image that has a slot's block after `count` images of a band are written: the last of them in
+-- the slot. If none of them is in the slot, the slot's last image still has the block, from the
+-- band before.
 abbrev pub holder : List ℕ → ℕ → ℕ → Option ℕ
 holder slots slot count = option_or (last_in slot (take count slots)) (last_in slot slots)
 
--- the image from which the image at an index takes its block; a client's image takes none
+-- the image from which the image at an index takes its block; None for a client's image, which
+-- takes no block
 abbrev pub previous_holder : List ℕ → ℕ → Option ℕ
 previous_holder slots at = if nat_lt at (length slots) then holder slots (slice_index_or slots at 0) at else None
 
--- whether this is the index k
+-- whether there is an index and it is k
 abbrev pub is_at : ℕ → Option ℕ → Bool
 is_at k None = false
 is_at k (Some j) = j == k
 
--- the block of a virtual image after `count` images are written: that of its slot, or an empty one
+-- the format and size of a virtual image's block after `count` images are written: the slot's block
+-- if the image has it, else an empty block
 abbrev pub block_at : List ℕ → (ℕ → Format × ℕ) → ℕ → ℕ → Format × ℕ
 block_at slots rooms count at =
     let room = rooms (slice_index_or slots at 0) in
     (room.0, (if is_at at (holder slots (slice_index_or slots at 0) count) then room.1 else 0))
 
--- the blocks of all planes, of which those of virtual images come first
+-- the blocks of all planes after `count` virtual images are written: first the blocks of virtual
+-- images, then the blocks of clients' images
 abbrev pub blocks_at : List ℕ → (ℕ → Format × ℕ) → List (Format × ℕ) → ℕ → List (Format × ℕ)
 blocks_at slots rooms clients count = map (block_at slots rooms count) (range_with_len 0 (length slots)) ++ clients
 
@@ -96,7 +100,7 @@ abbrev pub tally_after : ℕ → Kind → ℕ
 tally_after tally kind.Image = tally
 tally_after tally other = tally + 1
 
--- the tasks of nodes, the first of which has index `at` in the order
+-- the tasks of these nodes; the first node has index `at` in the order
 abbrev pub tasks_from : List Reference → List ℕ → (Node → ℕ) → ℕ → ℕ → List Node → List Task
 tasks_from cells slots radius at tally [] = []
 tasks_from cells slots radius at tally (n ∷ nodes) =
@@ -109,8 +113,8 @@ tasks_of cells slots radius nodes = tasks_from cells slots radius 0 0 nodes
 
 -- ---- blocks that tasks take
 
--- the tasks write the virtual images in order, from image k on, and each takes its block from the slot's previous holder;
--- steps that write clients' images take no block
+-- the tasks write the virtual images in order, from image k on. Each of these images takes its
+-- block from the slot's previous holder; a step that writes a client's image takes no block.
 abbrev pub TakeTurns : List ℕ → ℕ → List Task → Type 0
 TakeTurns slots k [] = k ≡ length slots
 TakeTurns slots k (Reduce r ∷ later) = TakeTurns slots k later
@@ -118,7 +122,8 @@ TakeTurns slots k (Write s ∷ later) =
     ((length slots ≤ s.output) × (s.takes ≡ None) × TakeTurns slots k later)
     ⊎ ((k < length slots) × (s.output ≡ k) × (s.takes ≡ previous_holder slots k) × TakeTurns slots (k + 1) later)
 
--- each slot has the format of its images, and the capacity for a band of `size` rows of each of them with its halo
+-- each slot has the format of its images, and is large enough for a band of `size` rows of each
+-- image with the image's halo
 abbrev pub SlotsHold : ℕ → List ℕ → (ℕ → Description) → List ℕ → (ℕ → Format × ℕ) → Type 0
 SlotsHold size halos descs slots rooms = (k : ℕ) → k < length slots → HoldsRows size (halo halos k) (descs k) (rooms (slice_index_or slots k 0))
 

@@ -21,7 +21,7 @@ use vx_base::{Desc, Format};
 pub struct Demand<'a> {
     /// The number of rows of a band.
     pub size: u16,
-    /// The halo of each plane. Those of the virtual images come first.
+    /// The halo of each plane; the planes of the virtual images come first.
     pub halos: &'a [u16],
     pub images: &'a [VirtualOutput],
     /// The slots of these images, as indices among all slots.
@@ -56,8 +56,8 @@ fn slot_of(plan: &Plan, image: &VirtualOutput) -> usize
 
 // ---- rooms
 
-/// Returns the format and the number of samples of the block of each slot: enough for a band of
-/// each image in the slot.
+/// Returns the format and the number of samples of the block of each slot: enough for a band, with
+/// halo, of each image in the slot.
 pub fn rooms_of(
     alloc: Global,
     plan: &Plan,

@@ -46,7 +46,7 @@ fn add_images(cells: &mut Vec<ObjRef>, node: &Node) -> Result<(), AllocError>
     add_given(cells, parameters.output, node.out2)
 }
 
-/// Adds the reference of an operand of this kind, if it is given and an image.
+/// Adds the reference of an operand of this kind, if the operand is given and an image.
 fn add_given(cells: &mut Vec<ObjRef>, kind: Kind, cell: Option<ObjRef>) -> Result<(), AllocError>
     ensures { OnOk result (cells.new.items ≡ with_cells cells.old.items (image_given kind cell)) }
 {

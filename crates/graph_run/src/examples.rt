@@ -6,8 +6,9 @@ ghost use Rattle.graph_verify.specs.Examples.{accumulate_to, convert_to, not_to}
 ghost use Rattle.graph_run.specs.Graph.{run_of_graph};
 ghost use Rattle.graph_run.specs.Examples.{pixel, short_pixel, open_image};
 
-/// Bitwise Not from image 1 to virtual image 2, and from that to image 3. In either order of
-/// adding, image 3 becomes equal to image 1. Afterwards image 2 is a virtual image as before.
+/// Bitwise Not from image 1 to virtual image 2, and from image 2 to image 3. Image 3 becomes equal
+/// to image 1, in whichever order the nodes are added. Afterwards image 2 is a virtual image as
+/// before.
 pub fn two_nodes()
     ensures in_order { run_of_graph (λ _. Image (record { width = 1; height = 1; format = U8 }))
         (not_to 1 2 ∷ not_to 2 3 ∷ []) (pixel 1 10 ∷ open_image 2 ∷ pixel 3 0 ∷ [])
@@ -17,8 +18,8 @@ pub fn two_nodes()
         ≡ (pixel 1 10 ∷ open_image 2 ∷ pixel 3 10 ∷ []) }
 {}
 
-/// A node accumulates 10 into an image that holds 5, and another converts the sum: both outputs
-/// hold 15. A second run, with the nodes added in the other order, gives 25.
+/// One node accumulates 10 into an image that holds 5, and another node converts the sum: both
+/// outputs hold 15. A second run, with the nodes added in the other order, gives 25.
 pub fn sums()
     ensures in_order { run_of_graph (λ _. Image (record { width = 1; height = 1; format = U8 }))
         (accumulate_to 1 2 ∷ convert_to 2 3 ∷ [])

@@ -21,8 +21,7 @@ ghost use Rattle.graph_run.specs.Graph.{run_of_graph};
 ghost use Rattle.graph_run.specs.Operands.{CellsStand};
 ghost use Rattle.graph_run.specs.Solution.{WritesNo, ReadImages, Solves};
 
-/// Running the nodes in order, each once and after those that feed it, gives the result of the
-/// rounds.
+/// Running each node once, after the nodes that feed it, gives the result of the rounds.
 pub fn once_in_order()
     ensures { (nodes steps : List Node) (objects : List NamedObject) → IsOrder feeds nodes steps →
         two_writers nodes ≡ false →
@@ -30,8 +29,8 @@ pub fn once_in_order()
         rounds_of_nodes nodes (length nodes) objects ≡ one_by_one steps objects }
 {}
 
-/// The result of the rounds solves the equations of the nodes, and is the only solution. The graph
-/// has no cycle, and no object has two writers.
+/// If a graph has no cycle, and no object has two writers, the result of the rounds is the only
+/// solution of the nodes' equations.
 pub fn rounds_solve()
     ensures solves { (nodes : List Node) (before : List NamedObject) → two_writers nodes ≡ false →
         has_cycle feeds nodes ≡ false →
@@ -45,7 +44,7 @@ pub fn rounds_solve()
         Solves nodes before after → after ≡ rounds_of_nodes nodes (length nodes) before }
 {}
 
-/// A run of a graph with one node writes what the node by itself writes.
+/// A run of a graph with one node writes the same as the node run by itself.
 pub fn run_of_one_node()
     ensures { (is : Reference → Operand) (n : Node) (objects : List NamedObject) →
         AllPairs (λ a b. a.name < b.name) objects →
@@ -62,9 +61,9 @@ pub fn added_in_any_order()
         ≡ run_of_graph (resolved_operand is others) others objects }
 {}
 
-/// If nothing refuses a graph, each node can run when its turn comes. Nothing refuses a node by
-/// itself, for operands as they are resolved. And after any of the nodes have run, all objects
-/// still match their resolved operands.
+/// If a graph's verdict is `None`, each node can run when its turn comes. The verdict on each node
+/// alone, with its resolved operands, is `None`. After any of the nodes have run, all objects still
+/// match their resolved operands.
 pub fn each_at_its_turn()
     ensures alone { (work : ℕ) (is : Reference → Operand) (nodes : List Node) (n : Node) →
         verdict work is nodes ≡ None → In n nodes →
@@ -76,8 +75,8 @@ pub fn each_at_its_turn()
         (one_by_one before (map (named_at_start (resolved_operand is nodes) nodes) objects)) }
 {}
 
-/// A run of a graph that nothing refuses is its nodes in an order in which they can run, each once.
-/// Virtual images are restored at the end.
+/// A run of a graph whose verdict is `None` gives the same as running each node once, in an order
+/// in which the nodes can run. Virtual images are restored at the end.
 pub fn runs_in_order()
     ensures { (work : ℕ) (is : Reference → Operand) (nodes steps : List Node)
         (objects : List NamedObject) →

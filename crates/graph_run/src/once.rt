@@ -25,7 +25,7 @@ use image_core::SecondInput;
 use object_table::Table;
 use vx_base::{Kind, Node, ObjRef, Output};
 
-/// Runs a node that nothing refuses on the objects that it names. Allocates nothing.
+/// Runs a node whose verdict is `None` on the objects that the node names. Allocates nothing.
 pub fn run_once(table: &mut Table, node: &Node)
     requires objects { All (λ o. IsObject o.object) table.old.objects }
     requires names { IsStrictlyIncreasing (map (λ o. o.name) table.old.objects) }
@@ -52,7 +52,7 @@ fn run_to(table: &mut Table, node: &Node, which: Output, output: Option<ObjRef>)
     }
 }
 
-/// Writes an output image. Its samples are in a plane meanwhile.
+/// Writes an output image. While the node runs, the image's samples are in a plane.
 fn write_to(table: &mut Table, node: &Node, which: Output, output: ObjRef)
     requires runs { RunsTo table.old.objects node.now output }
     requires kind { (parameters node.now.function).output ≡ kind.Image }

@@ -49,11 +49,11 @@ use vx_base::{Node, ObjRef};
 
 /// Runs a verified graph on the objects that its nodes name. OpenVX 1.3, "Graphs", vxProcessGraph.
 ///
-/// The nodes run in an order in which they can run. On large images, each runs once for each band
-/// of rows. The virtual images that they write share blocks of the pool, by the slots of the plan.
-/// At the end these blocks are given back, and the virtual images are as before. All memory is
-/// allocated first, so after an error the objects are as before; only the pool may have more free
-/// blocks.
+/// The nodes run in an order in which they can run. On large images, each node runs once for each
+/// band of rows. The virtual images that the nodes write share blocks of the pool, by the slots of
+/// the plan. At the end these blocks are given back, and the virtual images are as before. All
+/// memory is allocated first, so after an error the objects are as before; only the pool may have
+/// more free blocks.
 pub fn run(
     alloc: Global,
     verified: &Verified,
@@ -78,7 +78,7 @@ pub fn run(
     ensures adds { (format : SampleFormat) → blocks_of pool.new format
         ≤ blocks_of pool.old format + (plan_view plan.now).slot_count format }
 
-    // The blocks that it used are free for the next run.
+    // The blocks of this run are free for the next run.
     ensures free { OnOk result ((format : SampleFormat) →
         (plan_view plan.now).slot_count format ≤ free_count (free_of pool.new format)) }
 {
@@ -87,11 +87,11 @@ pub fn run(
     run_scheduled(alloc, verified, &schedule, &mut lists, table, pool)
 }
 
-/// Runs a verified graph as `run` does, by a schedule that was made for it before. The schedule
-/// holds as long as the images that the nodes name have the same sizes, and the matrices too.
+/// Runs a verified graph as `run` does, by a schedule that `schedule_of` made for this graph. The
+/// schedule stays right while the images and matrices that the nodes name keep their sizes.
 ///
-/// The lists may be from a run of any graph. If they are large enough and the pool has free blocks
-/// that fit, it allocates nothing.
+/// The lists may be from a run of any graph. If the lists are large enough and the pool has free
+/// blocks that fit, the run allocates nothing.
 pub fn run_scheduled(
     alloc: Global,
     verified: &Verified,
@@ -118,7 +118,7 @@ pub fn run_scheduled(
     ensures adds { (format : SampleFormat) → blocks_of pool.new format
         ≤ blocks_of pool.old format + room_count schedule.now.rooms.items format }
 
-    // Those that it has used are free for the next run.
+    // The blocks of this run are free for the next run.
     ensures free { OnOk result ((format : SampleFormat) →
         room_count schedule.now.rooms.items format ≤ free_count (free_of pool.new format)) }
 {
@@ -221,8 +221,8 @@ fn run_tasks(
     );
 }
 
-/// Adds planes of the graph's virtual images over blocks, and then planes with the samples of its
-/// other images, which it takes from the table.
+/// Adds planes of the graph's virtual images over blocks, and then planes of the clients' images,
+/// whose samples are taken from the table.
 fn take(
     alloc: Global,
     verified: &Verified,
@@ -302,7 +302,8 @@ fn give(
     set_tallies(table, &schedule.tally_cells, tallies);
 }
 
-/// Moves the images of the planes behind those of virtual images back to the table.
+/// Moves the clients' images back to the table. Their planes come after the planes of the virtual
+/// images.
 fn put_behind(table: &mut Table, virtuals: usize, cells: &[ObjRef], planes: &mut [Plane])
     requires cells { virtuals ≤ length cells.now }
     requires planes { virtuals ≤ length planes.old }

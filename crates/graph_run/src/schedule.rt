@@ -20,11 +20,11 @@ use object_table::Table;
 use std::alloc::{AllocError, Global};
 use vx_base::{Format, ObjRef};
 
-/// The data that each run of a verified graph needs. They are computed once, and hold until the
-/// graph's nodes change.
+/// The data that each run of a verified graph needs. A schedule is computed once, and stays right
+/// until the graph's nodes change.
 #[derive(Drop)]
 pub struct Schedule {
-    /// References to the images of the planes: first the virtual images, then the clients'.
+    /// References to the images of the planes: first the virtual images, then the clients' images.
     pub(crate) cells: Vec<ObjRef>,
     /// The slots of the virtual images, as indices among all slots.
     pub(crate) slots: Vec<usize>,
@@ -41,7 +41,8 @@ pub struct Schedule {
     pub(crate) tally_cells: Vec<ObjRef>,
 }
 
-/// Returns the schedule of a verified graph, with the slots of a plan.
+/// Returns the schedule of a verified graph, with the slots of a plan. An error means that there is
+/// no memory for it.
 pub fn schedule_of(
     alloc: Global,
     table: &Table,
@@ -80,7 +81,8 @@ pub fn schedule_of(
     })
 }
 
-/// Returns the references to the clients' images, which come after those of the virtual images.
+/// Returns the references to the clients' images, which come after the references to the virtual
+/// images.
 pub fn clients_of(cells: &[ObjRef], virtuals: usize) -> &[ObjRef]
     requires { virtuals ≤ length cells.now }
     ensures { result.now ≡ drop virtuals cells.now }

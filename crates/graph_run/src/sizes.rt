@@ -15,14 +15,16 @@ use object_table::Table;
 use std::alloc::{AllocError, Global};
 use vx_base::{Desc, ObjRef};
 
-/// Images with fewer samples fit the cache whole, so bands gain nothing.
+/// The least number of samples of an image for which bands are used. Smaller images fit the cache,
+/// so bands gain nothing.
 const LEAST_SAMPLES: usize = 131_072;
 
-/// The same for graphs with halos. With fewer samples, computing the halo rows costs as much as
-/// bands gain.
+/// The least number of samples of an image for which bands with halos are used. For smaller images,
+/// computing the halo rows twice costs as much as bands gain.
 const LEAST_SAMPLES_WITH_HALO: usize = 500_000;
 
-/// The wanted number of samples of an image in a band, so that those of a few images fit the cache.
+/// The wanted number of samples of an image in a band, so that the bands of a few images fit the
+/// cache together.
 const BAND_SAMPLES: u32 = 65_536;
 
 /// The greatest number of samples of an image in a band, whatever the halo.
@@ -40,16 +42,17 @@ const GREATEST_ROWS_WITH_HALO: u32 = 1_024;
 /// The least number of bands. With fewer bands, a graph gains nothing.
 const LEAST_BANDS: u16 = 4;
 
-/// Wanted rows of a band for each row of its halo; halo rows are computed twice.
+/// The wanted number of rows of a band for each row of its halo; halo rows are computed twice.
 const ROWS_FOR_HALO_ROW: u32 = 16;
 
-/// Least rows of a band for each row of its halo. With fewer rows, bands cost more than they gain.
+/// The least number of rows of a band for each row of its halo. With fewer rows, bands cost more
+/// than they gain.
 const LEAST_FOR_HALO_ROW: u16 = 4;
 
 // ---- heights
 
-/// Returns a height that is at least that of each image of a graph, and at least 1. The images are
-/// these virtual images and those that `clients` name.
+/// Returns the height of the tallest image of a graph, and at least 1. The graph's images are these
+/// virtual images and the images that `clients` name.
 pub fn high_of(table: &Table, images: &[VirtualOutput], clients: &[ObjRef]) -> u16
     requires { HoldImages table.now.objects clients.now }
     ensures some { 0 < result }
@@ -99,7 +102,7 @@ pub fn halos_of(
 // ---- bands
 
 /// Returns the number of rows of a band. If bands gain nothing, or if a step would add to a row
-/// twice, it is `high`: there is then one band, with all rows.
+/// twice, the number is `high`: there is then one band, with all rows.
 pub fn band_size(
     high: u16,
     table: &Table,

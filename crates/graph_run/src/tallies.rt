@@ -1,4 +1,4 @@
-//! The tallies of a graph. They are created for objects of a table, and written back to them.
+//! The tallies of a graph. They are created for objects of a table, and written to these objects.
 ghost use Rattle.std.specs.Prelude.{◌≡◌, ◌≢◌, ◌∷◌, ◌++◌, [], unwrap_or, IfOk, OnOk};
 ghost use Rattle.vx_base.specs.declared.kind.Kind.TheVariants as kind;
 ghost use Rattle.vx_base.specs.Function.{parameters};
@@ -28,7 +28,7 @@ pub fn tally_cells(alloc: Global, steps: &[Node]) -> Result<Vec<ObjRef>, AllocEr
     Ok(cells)
 }
 
-/// Adds the reference to a node's histogram or extremes, if it writes one.
+/// Adds the reference to a node's histogram or extremes, if the node writes either.
 fn add_tally_cell(cells: &mut Vec<ObjRef>, node: &Node) -> Result<(), AllocError>
     ensures { OnOk result (cells.new.items
         ≡ cells.old.items ++ tally_cell (parameters node.now.function).output node.now) }

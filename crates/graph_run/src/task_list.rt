@@ -147,15 +147,15 @@ fn source(cells: &[ObjRef], at: usize, node: &Node) -> SecondSource
 
 // ---- radii
 
-/// Returns a node's radius: the number of input rows that it reads above and below an output row.
-/// The radius is `high` if it reads all rows.
+/// Returns a node's radius: the number of input rows that it reads above an output row, and as many
+/// below. The radius is `high` if the node reads all rows.
 pub fn radius_of(table: &Table, high: u16, node: &Node) -> u16
     ensures { result ≡ radius_of table.now.objects high node.now }
 {
     step_radius(node.function, matrix_of(table, node)).unwrap_or(high)
 }
 
-/// Returns the matrix that is a node's second input.
+/// Returns a node's second input if it is a matrix, else `None`.
 fn matrix_of<'a>(table: &'a Table, node: &Node) -> Option<&'a Convolution>
     ensures { option_copied result
         ≡ matrix_in (option_and_then (object_at table.now.objects) node.now.in2) }
@@ -172,8 +172,8 @@ fn matrix_of<'a>(table: &'a Table, node: &Node) -> Option<&'a Convolution>
 
 // ---- slots
 
-/// Returns the index of the image from which the image at index `at` takes its block. A client's
-/// image takes none.
+/// Returns the index of the image from which the image at index `at` takes its block. `None` for a
+/// client's image, which takes no block.
 fn taken(slots: &[usize], at: usize) -> Option<usize>
     ensures { result ≡ previous_holder slots.now at }
 {

@@ -20,8 +20,8 @@ use vx_base::{Node, Numbered, ObjRef};
 /// Verifies a graph of a table: returns its nodes in an order in which they can run. The first
 /// input of each node is an image.
 ///
-/// `work` is the quota of the virtual images that the graph writes, in bytes. The result is an
-/// error if there is no memory, or with the verdict if the graph can't run.
+/// `work` is the quota of the virtual images that the graph writes, in bytes. An error means that
+/// there is no memory, or that the graph can't run; the error then holds the verdict.
 pub fn verify_in(
     alloc: Global,
     table: &Table,
@@ -78,7 +78,7 @@ fn operands_held(table: &Table, node: &Node) -> Operands
     }
 }
 
-/// Returns the operand that a reference names, if it is given.
+/// Returns the operand that a reference names, if the reference is given.
 fn operand_held_if(table: &Table, cell: Option<ObjRef>) -> Option<Operand>
     ensures { result ≡ option_map (operand_held table.now.objects) cell }
 {
@@ -88,7 +88,8 @@ fn operand_held_if(table: &Table, cell: Option<ObjRef>) -> Option<Operand>
     }
 }
 
-/// Returns the operand that a reference in a node names. Its name may have been released.
+/// Returns the operand that a reference in a node names. The object's name may have been released.
+/// `Missing` if no object is held under it.
 pub fn operand_held(table: &Table, cell: ObjRef) -> Operand
     ensures { result ≡ operand_held table.now.objects cell }
 {

@@ -41,8 +41,8 @@ pub fn add_virtual(
     }
 }
 
-/// Returns the block of the virtual image at index `k` before a run: that of its slot, or an empty
-/// one.
+/// Returns the block of the virtual image at index `k` before a run. The last image in a slot has
+/// the slot's block; each other image has an empty block.
 fn first_block(alloc: Global, slots: &[usize], k: usize, blocks: &mut [Block]) -> Samples
     requires there { k < length slots.now }
     requires within { slice_index_or slots.now k 0 < length blocks.old }

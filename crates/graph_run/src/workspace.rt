@@ -1,11 +1,11 @@
-//! Lists that a run of a graph fills, for the next run too.
+//! Lists that each run of a graph fills anew.
 use graph_steps::{Plane, Tally};
 use pixel_pool::Block;
 use std::alloc::Global;
 
-/// The lists of a run: its planes, the blocks of the slots, and its tallies. A run empties them
-/// first and leaves their memory, so that a later run with no longer lists allocates none. Between
-/// runs they hold no samples, and no block of the pool.
+/// The lists of a run: its planes, the blocks of the slots, and its tallies. A run first empties
+/// the lists, but keeps their memory, so a later run allocates none unless it needs longer lists.
+/// Between runs the lists hold no samples, and no block of the pool.
 #[derive(Drop)]
 pub struct Workspace {
     pub(crate) planes: Vec<Plane>,

@@ -23,12 +23,19 @@ raised_there halos c rows below = let s = get_or-set_same halos c (max (halo hal
 pub raised_elsewhere : (halos : List ℕ) (c rows k : ℕ) → k ≢ c → halo (set halos c (max (halo halos c) rows)) k ≡ halo halos k
 raised_elsewhere halos c rows k other = get_or-set_other halos c k (max (halo halos c) rows) 0 other
 
+pub raised_within : (halos : List ℕ) (c rows most k : ℕ) → c < length halos → rows ≤ most → halo halos k ≤ most → halo (set halos c (max (halo halos c) rows)) k ≤ most
+raised_within halos c rows most k below few = elim (same_or_other k c) [
+  | inl e ↦ (let s = get_or-set_same halos c (max (halo halos c) rows) 0 below in let P : ℕ → Type 0 = λ j. halo halos j ≤ most → halo (set halos c (max (halo halos c) rows)) j ≤ most in subst P (sym e) (λ h. omega arith))
+  | inr other ↦ (let s = get_or-set_other halos c k (max (halo halos c) rows) 0 other in λ h. omega arith)
+]
+
 -- ---- the inputs of a step
 
 -- the halos after those of a step's inputs are raised
 pub record Raised (s : Step) (rows : ℕ) (old new : List ℕ) : Type 0 where
   pub grows : (c : ℕ) → halo old c ≤ halo new c
   pub enough : (c : ℕ) → ReadsPlane s c → rows ≤ halo new c
+  pub within : (most c : ℕ) → rows ≤ most → halo old c ≤ most → halo new c ≤ most
   pub others : (c : ℕ) → (ReadsPlane s c → ⊥) → halo new c ≡ halo old c
   pub len : length new ≡ length old
 
@@ -39,6 +46,7 @@ raised_one s rows old new below alone is = subst (Raised s rows old) (sym is) (r
     | inl e ↦ (let P : ℕ → Type 0 = λ j. rows ≤ halo (set old s.first (max (halo old s.first) rows)) j in subst P e (raised_there old s.first rows below))
     | inr e ↦ absurd (alone c e)
   ];
+  within = λ most c. raised_within old s.first rows most c below;
   others = λ c unread. raised_elsewhere old s.first rows c (λ e. unread (inl (sym e)));
   len = length-set old s.first (max (halo old s.first) rows);
 })
@@ -59,6 +67,7 @@ raised_two s rows second old between new below low two was is =
             let k : Plane second ≡ Plane c = sym two ∙ e in
             subst P (same_plane second c k) (raised_there between second rows here))
       ];
+      within = λ most c few low. raised_within between second rows most c here few (first_within most c few low);
       others = λ c unread.
           raised_elsewhere between second rows c (λ e. unread (inr (two ∙ ap Plane (sym e))))
           ∙ ap (λ l. halo l c) was
@@ -68,6 +77,9 @@ raised_two s rows second old between new below low two was is =
   where
     first_grows : (c : ℕ) → halo old c ≤ halo between c
     first_grows c = subst (λ (l : List ℕ). halo old c ≤ halo l c) (sym was) (raised_grows old s.first rows c below)
+
+    first_within : (most c : ℕ) → rows ≤ most → halo old c ≤ most → halo between c ≤ most
+    first_within most c few = subst (λ (l : List ℕ). halo old c ≤ most → halo l c ≤ most) (sym was) (raised_within old s.first rows most c below few)
 
     first_there : rows ≤ halo between s.first
     first_there = subst (λ (l : List ℕ). rows ≤ halo l s.first) (sym was) (raised_there old s.first rows below)

@@ -20,7 +20,7 @@ use Rattle.graph_steps.specs.declared.tally.Tally.{Tally}
 use Rattle.graph_steps.specs.declared.tally.Tally.TheVariants.{Extremes}
 use Rattle.graph_steps.specs.Planes.{PlaneValue}
 
--- the tables of steps that read none
+-- the tables of a program whose steps read no tables
 abbrev pub no_tables : ℕ → Option ObjectValue
 no_tables k = None
 
@@ -28,12 +28,12 @@ no_tables k = None
 abbrev pub small_image_desc : Description
 small_image_desc = record { width = 1; height = 4; format = U8 }
 
--- a client's image with all rows
+-- the plane of a client's image, with all rows
 abbrev pub client_plane : PlaneValue
 client_plane =
     record { desc = small_image_desc; valid = whole_rectangle 1 4; top = 0; rows = all_rows 4; format = U8; samples = (new_image 1 4 U8).samples }
 
--- a virtual image, with a block for four rows
+-- the plane of a virtual image, with a block for four rows
 abbrev pub block_plane : PlaneValue
 block_plane =
     record { desc = small_image_desc; valid = empty_rectangle; top = 0; rows = all_rows 0; format = U8; samples = (new_image 1 4 U8).samples }
@@ -65,7 +65,7 @@ boxes = Write (box_step 0 1 (Some 1)) ∷ Write (box_step 1 2 None) ∷ Reduce (
 abbrev pub box_planes : List PlaneValue
 box_planes = client_plane ∷ block_plane ∷ client_plane ∷ []
 
--- the halos of these planes: each filter needs one more row of its input
+-- the halos of these planes: each filter needs one more row of its input above and below
 abbrev pub box_halos : List ℕ
 box_halos = 2 ∷ 1 ∷ 0 ∷ []
 

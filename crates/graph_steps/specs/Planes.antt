@@ -10,8 +10,8 @@ use Rattle.vx_base.specs.Image.{ImageValue, IsImage, image_over, band, pixel_at}
 use Rattle.image_core.specs.declared.band.Band.{Band}
 use Rattle.image_core.specs.Bands.{IsInRows, all_rows, image_over_rows}
 
--- a plane: the whole image's description and valid rectangle, a block of samples of `format` that begins with image row `top`, and the
--- rows that a step may read
+-- a plane: the whole image's description and valid rectangle, the rows that a step may read, and a
+-- block of samples. The block has samples of `format`, and begins with row `top` of the image.
 pub record PlaneValue : Type 0 where
   pub desc : Description
   pub valid : Rectangle
@@ -36,13 +36,14 @@ block_image p = image_over p.desc p.valid p.samples
 abbrev pub with_read_rows : Band → PlaneValue → PlaneValue
 with_read_rows rows p = record p { rows = rows }
 
--- the block after these rows of an image are written to it; it begins with row `top`
+-- a block that begins with row `top`, after these rows of an image are written to it
 abbrev pub written_among : ℕ → Band → ImageValue → List ℤ → List ℤ
 written_among top rows image old =
     take ((rows.start - top) * image.width) old
     ++ (band image.width rows.start rows.count (pixel_at image) ++ drop ((rows.start - top + rows.count) * image.width) old)
 
--- the plane after these rows of an image are written to it; it gets the image's valid rectangle
+-- the plane after these rows of an image are written to it; the plane gets the image's valid
+-- rectangle
 abbrev pub with_rows : Band → ImageValue → PlaneValue → PlaneValue
 with_rows rows image p =
     record { desc = p.desc; valid = image.valid; top = p.top; rows = rows; format = p.format; samples = written_among p.top rows image p.samples }
@@ -57,12 +58,12 @@ abbrev pub virtual_plane : Description → Samples → PlaneValue
 virtual_plane d block =
     record { desc = d; valid = empty_rectangle; top = 0; rows = all_rows 0; format = samples_format block; samples = values block }
 
--- the plane with another block, which begins with row `top`
+-- the plane with another block, which begins with row `top`, and an empty valid rectangle
 abbrev pub with_block : Format → List ℤ → ℕ → PlaneValue → PlaneValue
 with_block format samples top p =
     record { desc = p.desc; valid = empty_rectangle; top = top; rows = p.rows; format = format; samples = samples }
 
--- the plane once its block is taken away
+-- the plane after its block is taken away
 abbrev pub without_block : PlaneValue → PlaneValue
 without_block p = record p { samples = [] }
 

@@ -44,11 +44,12 @@ AreInOrder (Reduce r ∷ later) = AreInOrder later
 
 -- ---- halos
 
--- the number of rows of a plane that are needed above a band, and below it
+-- the halo of a plane: the number of its rows that are needed above a band, and as many below
 abbrev pub halo : List ℕ → ℕ → ℕ
 halo halos c = slice_index_or halos c 0
 
--- the halos of a step's inputs are at least its output's halo plus its radius, limited to the greatest image height
+-- the halo of each of a step's inputs is at least the output's halo plus the step's radius, limited
+-- to the greatest image height
 abbrev pub Suffice : ℕ → List ℕ → List Task → Type 0
 Suffice high halos tasks =
     (s : Step) → IsStepOf s tasks → (c : ℕ) → ReadsPlane s c → min high (halo halos s.output + s.radius) ≤ halo halos c
@@ -75,23 +76,26 @@ after_tasks tables halos rows (t ∷ later) planes = after_tasks tables halos ro
 
 -- ---- blocks
 
--- the plane at this index keeps its block, as that of a client's image does: no step takes it or gives the plane another
+-- the plane at this index keeps its block, as a client's image does: no step takes the block away,
+-- or gives the plane another block
 abbrev pub KeepsBlock : ℕ → List Task → ℕ → Type 0
 KeepsBlock count tasks c = (c < count) × ((s : Step) → IsStepOf s tasks → (t : ℕ) → s.takes ≡ Some t → (t ≢ c) × (s.output ≢ c))
 
--- a task reads the plane's rows before a step writes them, or they are kept to the end
+-- the plane's present rows are still needed: a task reads them before a step writes the plane, or
+-- no step writes the plane and the plane is in `kept`
 abbrev pub IsLive : (ℕ → Type 0) → List Task → ℕ → Type 0
 IsLive kept [] c = kept c
 IsLive kept (Write s ∷ later) c = ReadsPlane s c ⊎ ((c ≢ s.output) × IsLive kept later c)
 IsLive kept (Reduce r ∷ later) c = (r.input ≡ c) ⊎ IsLive kept later c
 
--- each block is taken from a plane whose rows aren't read again
+-- each block is taken from a plane whose rows aren't needed any more
 abbrev pub AreFree : (ℕ → Type 0) → List Task → Type 0
 AreFree kept [] = Unit {0}
 AreFree kept (Reduce r ∷ later) = AreFree kept later
 AreFree kept (Write s ∷ later) = ((t : ℕ) → s.takes ≡ Some t → t ≢ s.output → IsLive kept later t → ⊥) × AreFree kept later
 
--- the block has the image's format and is large enough for a band of `size` rows with a halo of `more` rows
+-- the block has the image's format and is large enough for a band of `size` rows with `more` rows
+-- of halo above and below
 abbrev pub HoldsRows : ℕ → ℕ → Description → Format × ℕ → Type 0
 HoldsRows size more d block = (block.0 ≡ d.format) × (min d.height (size + more + more) * d.width ≤ block.1)
 
@@ -103,7 +107,7 @@ HaveCapacity size halos descs (Write s ∷ later) blocks =
     ((t : ℕ) → s.takes ≡ Some t → HoldsRows size (halo halos s.output) (descs s.output) (capacity blocks t))
     × HaveCapacity size halos descs later (blocks_after_step s blocks)
 
--- the blocks of all planes after the tasks
+-- the formats and capacities of all planes' blocks after the tasks
 abbrev pub blocks_after_tasks : List Task → List (Format × ℕ) → List (Format × ℕ)
 blocks_after_tasks [] blocks = blocks
 blocks_after_tasks (Write s ∷ later) blocks = blocks_after_tasks later (blocks_after_step s blocks)
@@ -111,7 +115,8 @@ blocks_after_tasks (Reduce r ∷ later) blocks = blocks_after_tasks later blocks
 
 -- ---- programs
 
--- a step's indices are those of planes; its inputs are neither its output nor the plane whose block it takes
+-- a step's indices are indices of planes; its inputs are neither its output nor the plane whose
+-- block it takes
 pub record NamesPlanes (count : ℕ) (s : Step) : Type 0 where
   pub output : s.output < count
   pub reads : (c : ℕ) → ReadsPlane s c → (c < count) × (c ≢ s.output) × (s.takes ≢ Some c)
@@ -138,15 +143,17 @@ pub record IsProgram (tables : ℕ → Option ObjectValue) (high size : ℕ) (ha
   pub begins : (c : ℕ) → IsLive (KeepsBlock (length planes) tasks) tasks c → IsUnwritten tasks c × KeepsBlock (length planes) tasks c
   pub clients : (c : ℕ) → KeepsBlock (length planes) tasks c → IsClient (plane planes c)
   pub written : (s : Step) → IsStepOf s tasks → s.takes ≡ None → KeepsBlock (length planes) tasks s.output
-  -- a step that reads its output writes each row once, to a block of all rows
+  -- a step that reads its output writes each row once, to a block of all rows, unless there is only
+  -- one band
   pub once : (s : Step) → IsStepOf s tasks → reads_output s.node.function ≡ true → ((halo halos s.output ≡ 0) × (s.takes ≡ None)) ⊎ (high ≤ size)
   -- blocks are free and large enough when they are taken, and back in their planes after a band
   pub free : AreFree (KeepsBlock (length planes) tasks) tasks
   pub room : HaveCapacity size halos (λ c. (plane planes c).desc) tasks (capacities planes)
   pub again : blocks_after_tasks tasks (capacities planes) ≡ capacities planes
 
--- the images solve the steps' equations: each output is the step's image of them and, if the step accumulates, of the old output; all other
--- images are unchanged
+-- the images `after` solve the steps' equations. Each output is the image that its step computes
+-- from `after` and, if the step accumulates, from the output's image in `before`. All other images
+-- are unchanged.
 pub record SolvesSteps (tables : ℕ → Option ObjectValue) (count : ℕ) (tasks : List Task) (before after : ℕ → ImageValue) : Type 0 where
   pub images : (c : ℕ) → c < count → IsImage (after c)
   pub written : (s : Step) → IsStepOf s tasks → after s.output ≡ step_image tables s after (before s.output)
@@ -154,7 +161,7 @@ pub record SolvesSteps (tables : ℕ → Option ObjectValue) (count : ℕ) (task
 
 -- ---- whole images
 
--- the images with another one at this index
+-- the images with another image at this index
 abbrev pub with_image : ℕ → ImageValue → (ℕ → ImageValue) → ℕ → ImageValue
 with_image c image images k = if k == c then image else images k
 

@@ -1,4 +1,4 @@
--- Premises of a band.
+-- Premises of running a program's tasks on one band.
 use Rattle.std.specs.Prelude.{ℕ, ◌+◌, ◌<◌, ◌^◌, ◌≡◌, ◌≢◌, List, length, Some, None, Option}
 use Rattle.vx_base.specs.Object.{ObjectValue}
 use Rattle.image_core.specs.declared.band.Band.{Band}
@@ -12,7 +12,7 @@ use Rattle.graph_steps.specs.declared.tally.Tally.{Tally}
 use Rattle.graph_steps.specs.Tallies.{CanReduce, HaveOneReduction}
 use Rattle.graph_steps.specs.Program.{Reduces, band_rows, IsStepOf, NamesPlanes, IsLive, AreFree, HaveCapacity}
 
--- the steps can run on a band, and these planes keep their blocks
+-- the steps can run on a band, and the planes in `kept` keep their blocks
 pub record CanRunBand (tables : ℕ → Option ObjectValue) (high : ℕ) (halos : List ℕ) (rows : Band) (kept : ℕ → Type 0) (tasks : List Task) (planes : List PlaneValue) : Type 0 where
   pub fits : rows.start + rows.count < 2 ^ 16
   pub halo_count : length halos ≡ length planes
@@ -25,7 +25,7 @@ pub record CanRunBand (tables : ℕ → Option ObjectValue) (high : ℕ) (halos 
   pub free : AreFree kept tasks
   pub room : HaveCapacity rows.count halos (λ c. (plane planes c).desc) tasks (capacities planes)
 
--- the reductions can add a band that begins at row `first`, each to a tally of its own
+-- the reductions can add a band that begins at row `first`, and no two reductions share a tally
 pub record CanReduceBand (first : ℕ) (tasks : List Task) (planes : List PlaneValue) (tallies : List Tally) : Type 0 where
   pub apart : HaveOneReduction tasks
   pub reduces : (r : Reduction) → Reduces r tasks → CanReduce first planes tallies r

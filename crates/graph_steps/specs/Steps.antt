@@ -64,7 +64,7 @@ lent_step n which = record { node = n; which = which; first = 0; second = Nothin
 
 -- ---- integral images
 
--- whether the function is the integral image
+-- whether the function computes an integral image
 abbrev pub is_integral : Function → Bool
 is_integral Integral = true
 is_integral other = false
@@ -77,7 +77,8 @@ reads_output function = accumulates function || is_integral function
 abbrev pub sums_above : ℕ → ℕ → ℕ → List ℤ → ℕ → ℕ
 sums_above width top start samples x = if start == top then 0 else unsigned_abs (slice_index_or samples ((start - top - 1) * width + x) (pos 0))
 
--- the integral image in the rows from `start` on, continued from the row above them in the output's block
+-- the integral image in the rows from `start` on, continued from the row above `start` in the
+-- output's block
 abbrev pub scan_image : ℕ → ImageValue → PlaneValue → ImageValue
 scan_image start first out = image_from first.width first.height out.desc.format first.valid (sum_on first start (sums_above out.desc.width out.top start out.samples))
 
@@ -86,7 +87,8 @@ abbrev pub rows_image : (ℕ → Option ObjectValue) → Step → Band → (ℕ 
 rows_image tables s rows images out =
     if is_integral s.node.function then scan_image rows.start (images s.first) out else step_image tables s images (plane_image (with_read_rows rows out))
 
--- a step's radius: the number of input rows above and below an output row that it reads; None if it reads all
+-- a step's radius: the number of input rows that it reads above an output row, and as many below;
+-- None if it reads all rows
 abbrev pub step_radius : Function → Option ConvolutionValue → Option ℕ
 step_radius function matrix = if is_integral function then Some 0 else window_radius function matrix
 
@@ -109,7 +111,7 @@ Covers None radius high = high ≤ radius
 abbrev pub blank_image : Description → ImageValue
 blank_image d = image_over d empty_rectangle []
 
--- the plane of the second input, or index 0 if it isn't a plane
+-- the plane of the second input, or index 0 if the second input isn't a plane
 abbrev pub second_plane : SecondSource → ℕ
 second_plane (Plane c) = c
 second_plane other = 0
@@ -120,7 +122,7 @@ pub record Suits (tables : ℕ → Option ObjectValue) (high : ℕ) (s : Step) (
   pub table : (k : ℕ) → s.second ≡ Table k → IfSome (tables k) IsObject
   pub near : Covers (step_radius s.node.function (matrix_in (second_in tables (λ _. blank_image second) s.second))) s.radius high
 
--- the same for the planes at its indices
+-- a step can run on the planes at its indices, if the heights are at most `high`
 abbrev pub SuitsPlanes : (ℕ → Option ObjectValue) → ℕ → Step → List PlaneValue → Type 0
 SuitsPlanes tables high s planes =
     Suits tables high s (plane planes s.first).desc (plane planes (second_plane s.second)).desc (plane planes s.output).desc
@@ -137,7 +139,7 @@ pub record CanStep (tables : ℕ → Option ObjectValue) (high : ℕ) (s : Step)
   -- an output that takes no block has all rows
   pub whole : s.takes ≡ None → IsWhole (plane planes s.output)
 
--- a step that reads these planes can write rows of this output
+-- a step that reads these planes can write these rows of this output
 pub record CanWrite (tables : ℕ → Option ObjectValue) (s : Step) (rows : Band) (planes : List PlaneValue) (out : PlaneValue) : Type 0 where
   pub reads : (c : ℕ) → ReadsPlane s c → (c < length planes) × IsReadable (plane planes c)
   pub makes : CanMake s (read_images planes s.first) (second_in tables (read_images planes) s.second) out.desc
@@ -145,7 +147,7 @@ pub record CanWrite (tables : ℕ → Option ObjectValue) (s : Step) (rows : Ban
 
 -- ---- effect on planes
 
--- plane c takes the block of plane t, for rows from `top` on
+-- the planes after plane c has taken the block of plane t, for rows from `top` on
 abbrev pub with_moved_block : ℕ → ℕ → ℕ → List PlaneValue → List PlaneValue
 with_moved_block t c top planes =
     slice_set (slice_set planes t (without_block (plane planes t))) c
@@ -170,15 +172,15 @@ after_step tables s rows planes = with_output tables s rows (with_output_block s
 abbrev pub capacities : List PlaneValue → List (Format × ℕ)
 capacities planes = map (λ p. (p.format, length p.samples)) planes
 
--- those of one plane
+-- the format and the number of samples of one plane's block
 abbrev pub capacity : List (Format × ℕ) → ℕ → Format × ℕ
 capacity blocks c = slice_index_or blocks c (U8, 0)
 
--- those of all planes after plane c has taken the block of a plane
+-- the formats and sizes of all blocks after plane c has taken over a block, if it takes one
 abbrev pub blocks_with_move : Option ℕ → ℕ → List (Format × ℕ) → List (Format × ℕ)
 blocks_with_move None c blocks = blocks
 blocks_with_move (Some t) c blocks = slice_set (slice_set blocks t ((capacity blocks t).0, 0)) c (capacity blocks t)
 
--- those of all planes after a step
+-- the formats and sizes of all blocks after a step
 abbrev pub blocks_after_step : Step → List (Format × ℕ) → List (Format × ℕ)
 blocks_after_step s blocks = blocks_with_move s.takes s.output blocks

@@ -94,8 +94,8 @@ fn run_band<T: Tables>(
 
 /// Runs a program in bands of `size` rows, over planes of at most `high` rows.
 ///
-/// The results don't depend on `size`. Each client's image and each tally are those of any solution
-/// of the steps' equations over whole images.
+/// The results don't depend on `size`. Each client's image and each tally is the same as in any
+/// solution of the steps' equations over whole images.
 pub fn run<T: Tables>(
     tables: &T,
     tasks: &[Task],

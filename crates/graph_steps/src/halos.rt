@@ -22,6 +22,7 @@ fn raise_inputs(step: &Step, high: u16, halos: &mut [u16])
     ensures grows { (c : ℕ) → halo halos.old c ≤ halo halos.new c }
     ensures enough { (c : ℕ) → ReadsPlane step.now c →
         min high (halo halos.old step.now.output + step.now.radius) ≤ halo halos.new c }
+    ensures within { (c : ℕ) → halo halos.old c ≤ high → halo halos.new c ≤ high }
     ensures others { (c : ℕ) → (ReadsPlane step.now c → ⊥) → halo halos.new c ≡ halo halos.old c }
     ensures len { length halos.new ≡ length halos.old }
 {
@@ -42,6 +43,7 @@ fn raise_for(task: &Task, high: u16, halos: &mut [u16])
     ensures grows { (c : ℕ) → halo halos.old c ≤ halo halos.new c }
     ensures enough { (s : StepValue) → task.now ≡ Write s → (c : ℕ) → ReadsPlane s c →
         min high (halo halos.old s.output + s.radius) ≤ halo halos.new c }
+    ensures within { (c : ℕ) → halo halos.old c ≤ high → halo halos.new c ≤ high }
     ensures others { (c : ℕ) → ((s : StepValue) → task.now ≡ Write s → ReadsPlane s c → ⊥) →
         halo halos.new c ≡ halo halos.old c }
     ensures len { length halos.new ≡ length halos.old }
@@ -60,6 +62,7 @@ pub fn find_halos(high: u16, tasks: &[Task], halos: &mut [u16])
         c < length halos.old }
     requires output { (s : StepValue) → IsStepOf s tasks.now → s.output < length halos.old }
     ensures enough { Suffice high halos.new tasks.now }
+    ensures within { (c : ℕ) → halo halos.new c ≤ high }
     ensures unread { (c : ℕ) → IsUnread tasks.now c → halo halos.new c ≡ 0 }
     ensures len { length halos.new ≡ length halos.old }
 {

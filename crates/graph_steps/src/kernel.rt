@@ -82,8 +82,9 @@ pub fn run_node(
     }
 }
 
-/// Adds the result of an accumulating node to the rows of its output: each sample where both are
-/// valid. Also writes the valid rectangle. In the contract, `own` is any image with these rows.
+/// Adds the result of an accumulating node to the rows of its output, where input and output are
+/// valid, and writes the output's valid rectangle. In the contract, `own` is any image with the
+/// output's earlier rows.
 fn run_sum(node: &Node, image: &Image<'_>, sums: &mut ImageMut<'_>)
     requires function { accumulates node.now.function ≡ true }
     requires shape { IsTrue (is_node node.now) }

@@ -86,7 +86,7 @@ impl Plane {
         self.valid
     }
 
-    /// Takes the block out of the plane, which is left without samples.
+    /// Takes the block out of the plane, which then has no samples.
     pub fn give(&mut self) -> Samples
         ensures format { samples_format result ≡ self.old.format }
         ensures value { values result ≡ self.old.samples }
@@ -104,8 +104,8 @@ impl Plane {
         self.valid = Rect::empty();
     }
 
-    /// Takes the plane out of its list, so that it can be written while others are read. No samples
-    /// are left.
+    /// Returns a copy of the plane that has its block, so that this copy can be written while the
+    /// list of planes is read. The plane in the list then has no samples.
     pub fn take_out(&mut self) -> Plane
         ensures { result ≡ self.old }
     {
@@ -145,8 +145,8 @@ impl Plane {
         }
     }
 
-    /// Writes these rows of a kernel's image, and its valid rectangle. Then a step may read these
-    /// rows.
+    /// Writes these rows of a kernel's image, and its valid rectangle. Afterwards a step may read
+    /// these rows, and no others.
     pub fn write(&mut self, kernel: &Kernel<'_, '_, '_>, rows: Band)
         requires format { self.old.format ≡ self.old.desc.format }
         requires can { CanMake kernel.now.step.now kernel.now.first.now
@@ -187,7 +187,7 @@ impl Plane {
     }
 
     /// Writes these rows of an integral image, and its valid rectangle. The first row continues
-    /// from the row above it.
+    /// from the row above it, if the block has that row.
     pub fn write_sums(&mut self, image: &Image<'_>, band: Band)
         requires input { image.now.format ≡ U8 }
         requires format { self.old.format ≡ U32 }

@@ -14,7 +14,8 @@ use image_core::{Band, Image, ImageMut, Sample};
 use stat_kernels::{integral_on, row_above};
 use vx_base::{Desc, Rect};
 
-/// Returns the image with these rows of a block that begins with row `top`, and 0 in all others.
+/// Returns the image with these rows of a block that begins with row `top`, and 0 in all other
+/// rows.
 pub fn read_rows<T: Sample>(
     desc: Desc,
     valid: Rect,
@@ -48,7 +49,7 @@ macro_rules! make_rows {
     }};
 }
 
-/// A sample type of which kernels write rows.
+/// A sample type in which kernels write rows.
 pub trait RowSample: Sample {
     /// Writes a kernel's rows to the samples of these rows, and returns the valid rectangle.
     /// `valid` is the output's previous rectangle.
@@ -138,7 +139,7 @@ pub fn write_rows<T: RowSample>(
 }
 
 /// Writes these rows of an image's integral image to a block that begins with row `top`. The first
-/// of them continues from the row above it, if the block has that row.
+/// row continues from the row above it, if the block has that row.
 pub fn write_sums(width: u16, top: u16, rows: Band, image: &Image<'_>, samples: &mut [u32])
     requires input { image.now.format ≡ U8 }
     requires width { image.now.width ≡ width }

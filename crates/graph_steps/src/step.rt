@@ -13,7 +13,7 @@ pub enum SecondSource {
     Nothing,
     /// The plane at this index.
     Plane(usize),
-    /// The lookup table, threshold or matrix at this index of the run's list of them.
+    /// The lookup table, threshold or matrix at this index of the run's `Tables`.
     Table(usize),
 }
 
@@ -28,16 +28,16 @@ pub struct Step {
     pub second: SecondSource,
     /// The index of the output's plane.
     pub output: usize,
-    /// The plane whose block the output takes over, which may be its own. `None` if the output is a
-    /// client's image, whose block has all rows.
+    /// The index of the plane whose block the output takes over; this may be the output's own
+    /// plane. `None` if the output is a client's image, whose block has all rows.
     pub takes: Option<usize>,
-    /// The number of input rows above and below an output row that the step reads.
+    /// The number of input rows that the step reads above an output row, and as many below.
     pub radius: u16,
 }
 
-/// Returns the radius of a step: the number of input rows above and below an output row that it
-/// reads. `None` means all rows. An integral image has radius 0, since a row continues from the row
-/// above it.
+/// Returns the radius of a step: the number of input rows that it reads above an output row, and as
+/// many below. `None` means all rows. An integral image has radius 0, since a row continues from
+/// the row above it.
 pub fn step_radius(function: Function, matrix: Option<&Convolution>) -> Option<u16>
     ensures { result ≡ step_radius function (option_copied matrix.entry) }
 {

@@ -72,7 +72,7 @@ pub enum Tally {
 }
 
 impl Tally {
-    /// Adds these rows of an image, which are below those added before.
+    /// Adds these rows of an image, which are below the rows added before.
     pub fn add(&mut self, image: &Image<'_>, rows: Band)
         requires rows { IsInRows image.now.height rows }
         requires can { CanAdd rows image.now self.old }

@@ -22,7 +22,7 @@ fn a_graph_has_delays(rt: HostRuntime) -> Result<(), Fail> {
     Ok(())
 }
 
-/// Registers a delay with the graph of a name.
+/// Registers the delay of a name with the graph of another name.
 fn register(table: &mut Table, graph: u32, delay: u32) -> Result<(), Fail> {
     if !is_graph(table, graph) {
         return Err("no graph".into());
@@ -39,7 +39,7 @@ fn age(table: &mut Table, graph: u32) -> Result<(), Fail> {
     Ok(())
 }
 
-/// Returns whether these are the samples in a slot of the delay of a name.
+/// Returns whether a slot of the delay of this name has the samples `wanted`.
 fn slot_holds(table: &Table, name: u32, slot: u8, wanted: [u8; 2]) -> bool {
     match table.get_held(name) {
         Some(object) => match object.content() {

@@ -32,7 +32,7 @@ pub fn picture(alloc: Global, samples: [u8; 2]) -> Result<Picture, Fail>
     Ok(Picture::new(small()?, Samples::U8(samples)))
 }
 
-/// Returns whether these are the samples.
+/// Returns whether the samples are `wanted`.
 pub fn are(samples: &Samples, wanted: [u8; 2]) -> bool {
     match samples {
         Samples::U8(samples) => samples.as_slice() == wanted.as_slice(),
@@ -57,8 +57,8 @@ fn is_image(table: &Table, name: u32) -> bool
     }
 }
 
-/// Returns whether these are the samples of the image under a name, by taking them out and putting
-/// them back.
+/// Returns whether the image under a name has the samples `wanted`. Takes the samples out of the
+/// table, and puts them back.
 pub fn holds(table: &mut Table, name: u32, wanted: [u8; 2]) -> bool {
     if !is_image(table, name) {
         return false;
@@ -101,8 +101,8 @@ fn an_image_is_written_and_valid_in_a_part(rt: HostRuntime) -> Result<(), Fail> 
     Ok(())
 }
 
-/// Writes the newest image of a delay of three in a new table, ages the delay, and returns its
-/// samples.
+/// Inserts a delay of three images into a new table, writes the newest image and ages the delay.
+/// Returns the samples of all three images, newest first.
 fn aged(
     table: &mut Table,
     delay: Delay,

@@ -14,7 +14,7 @@ use vx_base::{
     Border, Desc, Format, Function, Kind, Node, NodeSpec, ObjRef, PartialDesc, Policy, VirtualImage,
 };
 
-/// Returns the node Not, from the image of one name to that of another.
+/// Returns the node Not, from the image of one name to the image of another.
 pub fn not(input: u32, output: u32) -> Result<NodeSpec, Fail>
     ensures { IfOk result (λ n. n ≡ not_to input output) }
 {
@@ -129,7 +129,7 @@ fn images_and_a_graph(alloc: Global) -> Result<Holdings, Fail> {
     Ok(holdings)
 }
 
-/// Returns whether the name is that of a graph.
+/// Returns whether the object of this name is a graph.
 pub fn is_graph(table: &Table, name: u32) -> bool
     ensures kind { result ≡ true → IsUnder table.now.objects kind.Graph name }
     ensures live { result ≡ true → IsTrue (is_some (object_named table.now.objects name)) }
@@ -140,7 +140,8 @@ pub fn is_graph(table: &Table, name: u32) -> bool
     }
 }
 
-/// Adds the node Not, from the image of one name to that of another, to the graph of a name.
+/// Adds the node Not, from the image `input` to the image `output`, to a graph. Returns the node's
+/// number.
 fn add_not(holdings: &mut Holdings, graph: u32, input: u32, output: u32) -> Result<u32, Fail> {
     let node = not(input, output)?;
     let table = &mut holdings.table;
@@ -164,7 +165,7 @@ fn remove_node(holdings: &mut Holdings, graph: u32, number: u32) -> Result<(), F
     Ok(removed.or(Err("no such node"))?)
 }
 
-/// Returns how many nodes the graph of a name has.
+/// Returns the number of nodes of the graph of this name, or 0 if there is no such graph.
 fn count_of_nodes(table: &Table, name: u32) -> usize {
     if is_graph(table, name) {
         table.graph(name).nodes().len()
@@ -173,8 +174,8 @@ fn count_of_nodes(table: &Table, name: u32) -> usize {
     }
 }
 
-/// Returns how many objects are held, the bytes that they are charged, and how many blocks of U8
-/// are lent.
+/// Returns the number of objects held, the bytes charged for them, and the number of U8 blocks
+/// lent.
 fn figures(holdings: &Holdings) -> (usize, u64, usize) {
     let table = &holdings.table;
     (

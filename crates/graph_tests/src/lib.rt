@@ -1,13 +1,13 @@
-//! Tests of the public functions on a client's objects and graphs: the faults of a table, the slots
-//! that virtual images need, and graphs that run in a table. `tools/check_program` tests the rest
-//! on the program.
+//! Tests of the public functions on a client's objects and graphs. They cover the faults of a
+//! table, the slots that virtual images need, and graphs that run in a table. `tools/check_program`
+//! tests all other cases on the program.
 //!
 //! - `holdings`: a table and its pool, for these tests
 //! - `tables`: the names and the charge of a table, and objects that are set
 //! - `cells`: images and slots of delays in a table, read and written
-//! - `graphs`: graphs, the numbers of their nodes, and the uses of these in a table
+//! - `graphs`: graphs, the numbers of their nodes, and the objects that the nodes use in a table
 //! - `ageing`: delays that age with a graph
-//! - `plans`: the slots of virtual images, and the first steps that need them all
+//! - `plans`: the slots of virtual images, and the first step that needs all slots
 //! - `runs`: nodes and graphs that run in a table
 #![tactic(auto)]
 

@@ -1,5 +1,6 @@
-//! Plans of slots for the virtual images of graphs. Names below 10 are U8 images of 2 by 2 samples,
-//! names from 10 to 19 are of 3 by 3, and the others are virtual images with everything open.
+//! Plans of slots for the virtual images of graphs. The names stand for objects: below 10 for U8
+//! images of 2 by 2 samples, from 10 to 19 for U8 images of 3 by 3 samples. Greater names stand for
+//! virtual images with everything open.
 ghost use Rattle.std.specs.Prelude.{IsTrue};
 ghost use Rattle.graph_verify.specs.Operand.{is_image};
 
@@ -31,7 +32,8 @@ fn open() -> PartialDesc {
     PartialDesc::new(None, None, None).unwrap()
 }
 
-/// Returns a node of a function that has no policy and no amount, numbered as its first output.
+/// Returns a node of a function that has no policy and no amount. The node's number is the name of
+/// its first output.
 fn node(function: Function, in1: u32, in2: Option<u32>, out1: u32, out2: Option<u32>) -> Linked
     ensures { IsTrue (is_image result.operands.in1) }
 {

@@ -24,7 +24,7 @@ use vx_base::{
     Samples, SlotCount, VirtualImage,
 };
 
-/// Returns an image of two samples of U8.
+/// Returns an image of two U8 samples.
 fn image(alloc: Global, pool: &mut Pool, samples: [u8; 2]) -> Result<Stored, Fail>
     ensures image { IfOk result IsImage }
     ensures desc { IfOk result (λ i.
@@ -77,7 +77,7 @@ fn a_node_writes_its_output(rt: HostRuntime) -> Result<(), Fail> {
     Ok(())
 }
 
-/// Runs Not from one image to another, which are images 1 and 2 of a new table.
+/// Inserts two images into a new table, and runs Not from image 1 to image 2.
 fn run_not(table: &mut Table, input: Stored, output: Stored) -> Result<(), Fail>
     requires table { table.old ≡ new_context }
     requires input { IsImage input }
@@ -104,8 +104,8 @@ fn a_node_runs_by_itself(rt: HostRuntime) -> Result<(), Fail> {
     Ok(())
 }
 
-/// Runs graph 3 of a new table, from image 1 to image 2, through a virtual image. Both nodes are
-/// Not, and the second one is added first.
+/// Inserts two images, graph 3 and a virtual image into a new table. Runs the graph from image 1 to
+/// image 2 through the virtual image. Both nodes are Not, and the second node is added first.
 fn run_two(
     alloc: Global,
     table: &mut Table,
@@ -157,7 +157,7 @@ fn hold_through(table: &mut Table, declared: PartialDesc) -> Result<(), Fail>
     Ok(())
 }
 
-/// Returns the node Box, from the image of one name to that of another.
+/// Returns the node Box, from the image of one name to the image of another.
 fn mean(input: u32, output: u32) -> Result<NodeSpec, Fail>
     ensures { IfOk result (λ n. n ≡ box_to input output) }
 {
@@ -174,7 +174,7 @@ fn mean(input: u32, output: u32) -> Result<NodeSpec, Fail>
     Ok(NodeSpec::new(node).ok_or("it has what its function has")?)
 }
 
-/// Adds the node Box, from the image of one name to that of another, to graph 3.
+/// Adds the node Box, from the image of one name to the image of another, to graph 3.
 fn add_box(table: &mut Table, input: u32, output: u32) -> Result<(), Fail>
     ensures { OnOk result (table.new ≡ with_objects table.old (with_graph table.old.objects 3
         (with_node (graph_under table.old.objects 3) (box_to input output)))) }
@@ -188,7 +188,7 @@ fn add_box(table: &mut Table, input: u32, output: u32) -> Result<(), Fail>
 }
 
 /// Returns a table with two images, a graph and five virtual images. The graph is a chain of six
-/// nodes Box from the first image through the virtual ones to the second.
+/// nodes Box from the first image through the virtual images to the second image.
 fn chain(alloc: Global, input: Stored, output: Stored, declared: PartialDesc) -> Result<Table, Fail>
     requires input { IsImage input }
     requires output { IsImage output }
@@ -213,7 +213,7 @@ fn chain(alloc: Global, input: Stored, output: Stored, declared: PartialDesc) ->
     Ok(table)
 }
 
-/// Runs the graph of a chain, and returns how many blocks of U8 the pool has after that.
+/// Runs the graph of a chain, and returns the number of U8 blocks that the pool then has.
 fn run_chain(alloc: Global, table: &mut Table, pool: &mut Pool) -> Result<usize, Fail>
     requires { IsChain table.old.objects }
     ensures { OnOk result (IsChain table.new.objects) }

@@ -10,7 +10,7 @@ use pixel_pool::Pool;
 use std::test::Fail;
 use vx_base::{Bins, Convolution, Desc, Extremes, Format, Kind, SlotCount};
 
-/// Returns the description of 2 by 2 samples of U8.
+/// Returns the description of 2 by 2 U8 samples.
 fn small() -> Result<Desc, Fail> {
     Ok(Desc::new(2, 2, Format::U8).ok_or("within the limits")?)
 }
@@ -83,7 +83,7 @@ pub fn hold(table: &mut Table, content: Content) -> Result<u32, Fail>
     Ok(table.insert(object).ok().ok_or("no memory")?)
 }
 
-/// Returns the kind of the object of this name, and the bytes that it is charged.
+/// Returns the kind of the object of this name, and the bytes that are charged for it.
 fn kind_of(table: &Table, name: u32) -> Option<(Kind, usize)> {
     let object = table.get(name).ok()?;
     Some((object.kind(), object.bytes()))
@@ -116,7 +116,7 @@ fn counts_of(table: &Table, name: u32) -> Option<&[u32]> {
 }
 
 /// Sets the counts of the distribution of this name, if there is one with as many bins. Returns
-/// whether it did.
+/// whether the counts were set.
 fn set_counts(table: &mut Table, name: u32, counts: &[u32]) -> bool {
     match table.get_held(name).map(|object| object.content()) {
         Some(Content::Distribution(held)) if held.counts().len() == counts.len() => {}
@@ -149,7 +149,7 @@ fn a_distribution_has_the_last_counts(rt: HostRuntime) -> Result<(), Fail> {
     Ok(())
 }
 
-/// Returns the extremes of this name.
+/// Returns the extremes that are the object of this name.
 fn extremes_of(table: &Table, name: u32) -> Option<Extremes> {
     match table.get(name).ok()?.content() {
         Content::Extremes(extremes) => Some(*extremes),
@@ -157,7 +157,7 @@ fn extremes_of(table: &Table, name: u32) -> Option<Extremes> {
     }
 }
 
-/// Sets the extremes of this name, if there are any. Returns whether it did.
+/// Sets the extremes of this name, if its object is extremes. Returns whether they were set.
 fn set_extremes(table: &mut Table, name: u32, extremes: Extremes) -> bool {
     match table.get_held(name) {
         Some(object) if object.kind() == Kind::Extremes => {}

@@ -40,7 +40,7 @@ find_numbered nodes number n found = grind (arith, eqb-true n.number number (fin
 
 -- one more node, under the next number
 pub IsGraph-with_node : (g : GraphValue) (n : Node) → IsGraph g → IsTrue (can_add g) → IsNode n → IsGraph (with_node g n)
-IsGraph-with_node g n h room is =
+IsGraph-with_node g n h capacity is =
     let new : Numbered = record { number = g.next; node = n } in
     let left : g.next < 4294967296 = grind (arith, nat_tests) in
     let few : length g.nodes < 256 = grind (arith, nat_tests) in

@@ -1,12 +1,10 @@
 -- A node without a fault: its function takes the format of each output, and each output has the size of the first input.
 use Rattle.std.proofs.Common.{◌≡◌, Bool, true, false, IsTrue, ◌++◌, Option, Some, None, IfSome, sym, ◌∙◌, cond, arith, not, option_to_list}
 use Rattle.graph_verify.proofs.Common.{list_all, option_map, option_and_then, and_parts, cases_Bool, not-false, Format, Function, Node, takes_formats, Operand, Operands, InvalidFormat, operand_format, written_operands, takes_first, takes_operands, node_fault, verdict_on, writes_twice, reads_own_output}
-use Rattle.graph_verify.specs.declared.verdict.Verdict.TheVariants.{InvalidDimension}
-use Rattle.graph_verify.specs.Operand.{are_of_one_size, other_operands}
+use Rattle.graph_verify.specs.declared.verdict.Verdict.TheVariants.{InvalidDimension, MultipleWriters, InvalidGraph}
+use Rattle.graph_verify.specs.Operand.{are_of_one_size, other_operands, operand_of}
 use Rattle.std.proofs.lemmas.List.Folds.{list_all-append}
 use Rattle.vx_base.specs.Object.{ObjectValue}
-use Rattle.graph_verify.specs.declared.verdict.Verdict.TheVariants.{MultipleWriters, InvalidGraph}
-use Rattle.graph_verify.specs.Operand.{operand_of}
 
 -- where nothing refuses, the first reason doesn't hold, and no later one refuses
 pub passed : {R : Type 0} (b : Bool) (refusal : R) (rest : Option R) → cond b (Some refusal) rest ≡ None → (b ≡ false) × (rest ≡ None)

@@ -8,14 +8,14 @@ use Rattle.vx_base.specs.Formats.{open_format}
 use Rattle.vx_base.specs.PartialDescription.{full_description}
 use Rattle.graph_verify.specs.declared.known.VirtualOutput.{VirtualOutput}
 use Rattle.graph_verify.specs.declared.verified.Verified.{Verified}
-use Rattle.graph_verify.specs.Operand.{virtual_bytes, operand_description}
+use Rattle.graph_verify.specs.Operand.{resolved_bytes, operand_description}
 use Rattle.graph_verify.specs.PartialDescriptions.{virtual_or_image}
 use Rattle.graph_verify.specs.Verified.{IsVerified, written_description}
 use Rattle.graph_verify.proofs.KnownLemmas.{find_cases, resolved_from_known, operands_known}
 use Rattle.graph_verify.proofs.LinkLemmas.{two_writers-permutation, same-from_In, same_cell-true, same_cell-is, In-outputs}
 use Rattle.graph_verify.proofs.MemberLemmas.{In-at, In-from_any, any-from_In, In-filter, AllIn-permutation, Contains-from_In, In-map, In-from_map, In-from_filter, In-from_flat_map, AllIn-permutation_back}
 use Rattle.graph_verify.proofs.OrderLemmas.{IsOrder-map, no_cycle_from_order}
-use Rattle.graph_verify.proofs.VerdictLemmas.{where_room, unwritten_input, by_fault}
+use Rattle.graph_verify.proofs.VerdictLemmas.{size_fault, unwritten_input, by_fault}
 use Rattle.graph_verify.proofs.PartialDescriptionLemmas.{outlines_solve, no_cycle_in_steps, resolved-order, image_outline}
 
 -- ---- the bytes of the virtual images
@@ -31,15 +31,15 @@ module _ (is : Reference → Operand) where
   outputs_sum-permutation : (f : Reference → ℕ) (g steps : List Node) → IsPermutation g steps → sum_by f (virtual_outputs is steps) ≡ sum_by f (virtual_outputs is g)
   outputs_sum-permutation f g steps same = grind (arith, sum_of_outputs, sum_by-IsPermutation)
 
-described_bytes : (known : List ResolvedOutput) → sum_by (λ (o : VirtualOutput). byte_count o.desc) (filter_map described_output known) ≡ sum_by (λ (k : ResolvedOutput). virtual_bytes (virtual_or_image k.partial_desc (full_description k.partial_desc))) known
+described_bytes : (known : List ResolvedOutput) → sum_by (λ (o : VirtualOutput). byte_count o.desc) (filter_map described_output known) ≡ sum_by (λ (k : ResolvedOutput). resolved_bytes (virtual_or_image k.partial_desc (full_description k.partial_desc))) known
 described_bytes [] = refl
 described_bytes (k ∷ known) =
     one_more k.cell k.partial_desc (full_description k.partial_desc) (filter_map described_output known)
-    ∙ ap (λ bytes. virtual_bytes (virtual_or_image k.partial_desc (full_description k.partial_desc)) + bytes) (described_bytes known)
-    ∙ sym (sum_by-cons (λ (j : ResolvedOutput). virtual_bytes (virtual_or_image j.partial_desc (full_description j.partial_desc))) k known)
+    ∙ ap (λ bytes. resolved_bytes (virtual_or_image k.partial_desc (full_description k.partial_desc)) + bytes) (described_bytes known)
+    ∙ sym (sum_by-cons (λ (j : ResolvedOutput). resolved_bytes (virtual_or_image j.partial_desc (full_description j.partial_desc))) k known)
   where
     one_more : (cell : Reference) (o : PartialDescription) (d : Option Description) (rest : List VirtualOutput)
-        → sum_by (λ (v : VirtualOutput). byte_count v.desc) (cons_option (option_map (λ e. record { cell = cell; desc = e }) d) rest) ≡ virtual_bytes (virtual_or_image o d) + sum_by (λ (v : VirtualOutput). byte_count v.desc) rest
+        → sum_by (λ (v : VirtualOutput). byte_count v.desc) (cons_option (option_map (λ e. record { cell = cell; desc = e }) d) rest) ≡ resolved_bytes (virtual_or_image o d) + sum_by (λ (v : VirtualOutput). byte_count v.desc) rest
     one_more cell o None rest = omega arith
     one_more cell o (Some d) rest = sum_by-cons (λ (v : VirtualOutput). byte_count v.desc) (record { cell = cell; desc = d }) rest
 
@@ -66,13 +66,13 @@ module _ (is : Reference → Operand) where
   pub all_bytes : (nodes steps : List Node) (known : List ResolvedOutput) → two_writers nodes ≡ false → IsOrder feeds nodes steps → AreResolved is steps known
       → sum_by (λ (o : VirtualOutput). byte_count o.desc) (filter_map described_output known) ≡ work_bytes is nodes
   all_bytes nodes steps known one order h =
-      let bytes : Reference → ℕ = λ c. virtual_bytes (resolved_operand is steps c) in
+      let bytes : Reference → ℕ = λ c. resolved_bytes (resolved_operand is steps c) in
       described_bytes known
-      ∙ sum_agree (λ (k : ResolvedOutput). virtual_bytes (virtual_or_image k.partial_desc (full_description k.partial_desc))) (λ (k : ResolvedOutput). bytes k.cell) known (λ k i. ap virtual_bytes (known_resolved steps known h k i))
+      ∙ sum_agree (λ (k : ResolvedOutput). resolved_bytes (virtual_or_image k.partial_desc (full_description k.partial_desc))) (λ (k : ResolvedOutput). bytes k.cell) known (λ k i. ap resolved_bytes (known_resolved steps known h k i))
       ∙ sum_map bytes (λ (k : ResolvedOutput). k.cell) known
       ∙ ap (sum_by bytes) h.cells
       ∙ outputs_sum-permutation is bytes nodes steps order.same_nodes
-      ∙ ap (λ (r : Reference → Operand). sum_by (λ c. virtual_bytes (r c)) (virtual_outputs is nodes)) (sym (fun_ext (resolved-order is nodes steps one order)))
+      ∙ ap (λ (r : Reference → Operand). sum_by (λ c. resolved_bytes (r c)) (virtual_outputs is nodes)) (sym (fun_ext (resolved-order is nodes steps one order)))
 
 -- ---- the fault of a node
 
@@ -185,7 +185,7 @@ module _ (nodes steps : List Linked) (one : two_writers (linked_nodes nodes) ≡
       ∙ ap (λ r. operands_of r l.node) (sym (same_resolved is)))
 
   pub verdict_found : (work : ℕ) (is : Reference → Operand) (known seen : List ResolvedOutput) (fault : Option Verdict) → AreOperands is nodes → Told known → seen ≡ known → Finds seen fault
-      → false ≡ has_unwritten_input is (linked_nodes nodes) → verdict work is (linked_nodes nodes) ≡ option_or fault (where_room work is (linked_nodes nodes))
+      → false ≡ has_unwritten_input is (linked_nodes nodes) → verdict work is (linked_nodes nodes) ≡ option_or fault (size_fault work is (linked_nodes nodes))
   verdict_found work is known seen fault operands told same finds no_unwritten_input = search (rules, by_fault, nodes_no_cycle, found_fault)
 
   pub bytes_found : (is : Reference → Operand) (known : List ResolvedOutput) (outputs : List VirtualOutput) → AreOperands is nodes → Told known → outputs ≡ filter_map described_output known → sum_by (λ o. byte_count o.desc) outputs ≡ work_bytes is (linked_nodes nodes)

@@ -70,9 +70,9 @@ operand_description (Image d) = Some d
 operand_description other = None
 
 -- the size of an image's samples in bytes; 0 for an unresolved virtual image and for any other operand
-abbrev pub virtual_bytes : Operand → ℕ
-virtual_bytes (Image d) = byte_count d
-virtual_bytes other = 0
+abbrev pub resolved_bytes : Operand → ℕ
+resolved_bytes (Image d) = byte_count d
+resolved_bytes other = 0
 
 -- the operands of a node, by its references
 abbrev pub operands_of : (Reference → Operand) → Node → Operands

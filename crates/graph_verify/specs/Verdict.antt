@@ -15,7 +15,7 @@ use Rattle.graph_verify.specs.declared.operand.Operand.{Operand}
 use Rattle.graph_verify.specs.declared.operand.Operands.{Operands}
 use Rattle.graph_verify.specs.declared.verdict.Verdict.{Verdict}
 use Rattle.graph_verify.specs.declared.verdict.Verdict.TheVariants.{MultipleWriters, InvalidGraph, InvalidLink, InvalidFormat, InvalidDimension, NoResources}
-use Rattle.graph_verify.specs.Operand.{operand_format, are_of_one_size, written_operands, other_operands, operands_of, is_virtual, virtual_bytes}
+use Rattle.graph_verify.specs.Operand.{operand_format, are_of_one_size, written_operands, other_operands, operands_of, is_virtual, resolved_bytes}
 use Rattle.graph_verify.specs.Links.{feeds, has_twice, is_written}
 use Rattle.graph_verify.specs.Cycle.{has_cycle}
 use Rattle.graph_verify.specs.PartialDescriptions.{resolved_operand}
@@ -93,7 +93,7 @@ virtual_outputs is nodes = filter (λ cell. is_virtual (is cell)) (flat_map outp
 
 -- the bytes of the samples of all virtual images that the nodes write
 abbrev pub work_bytes : (Reference → Operand) → List Node → ℕ
-work_bytes is nodes = sum_by (λ cell. virtual_bytes (resolved_operand is nodes cell)) (virtual_outputs is nodes)
+work_bytes is nodes = sum_by (λ cell. resolved_bytes (resolved_operand is nodes cell)) (virtual_outputs is nodes)
 
 -- the verdict on a graph with these operands, whose virtual images may take `work` bytes; None if
 -- the graph can run

@@ -80,7 +80,7 @@ impl Graph {
     pub fn add_node(&mut self, node: NodeSpec) -> Result<u32, GraphFault>
         ensures number { IfOk result (λ number. number ≡ self.old.next) }
         ensures ok { OnOk result (self.new ≡ with_node self.old node) }
-        ensures room { OnOk result (IsTrue (can_add self.old)) }
+        ensures capacity { OnOk result (IsTrue (can_add self.old)) }
         ensures fault { IfErr result (λ fault. fault
             ≡ (if can_add self.old then NoMemory else NoResources)) }
         ensures err { OnErr result (self.new ≡ self.old) }

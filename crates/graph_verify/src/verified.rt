@@ -12,7 +12,8 @@ ghost use Rattle.graph_verify.specs.Links.{feeds};
 ghost use Rattle.graph_verify.specs.Order.{IsOrder};
 ghost use Rattle.graph_verify.specs.Operand.{is_image, operands_of};
 ghost use Rattle.graph_verify.specs.Verdict.{two_writers, verdict, first_fault};
-ghost use Rattle.graph_verify.specs.Verified.{IfRefused, IsVerified, IsVerifiedGraph};
+ghost use Rattle.graph_verify.specs.Verified.{CanRunWithin, IsVerified, IsVerifiedGraph};
+ghost use Rattle.graph_verify.specs.Verified.{RefusesNodes, ReordersNodes, VerifiesNodes};
 ghost use Rattle.graph_verify.specs.Verified.{written_description};
 ghost use Rattle.vx_base.specs.declared.node.TheConstants.{GREATEST_NODES};
 
@@ -167,14 +168,10 @@ fn verify_ordered(
     requires images { All (λ l. IsTrue (is_image l.operands.in1)) nodes.now }
     requires one_writer { two_writers (linked_nodes nodes.now) ≡ false }
     requires order { IsOrder (λ a b. feeds a.node b.node) nodes.now steps.now }
-    ensures verified { IfOk result (λ v. (is : Reference → Operand) → AreOperands is nodes.now →
-        IsVerified is (linked_nodes nodes.now) v) }
-    ensures numbers { IfOk result (λ v. IsPermutation (map (λ l. (l.number, l.node)) nodes.now)
-        (zip v.order v.steps)) }
-    ensures ok { OnOk result ((is : Reference → Operand) → AreOperands is nodes.now →
-        verdict work is (linked_nodes nodes.now) ≡ None) }
-    ensures refused { IfErr result (λ fault. (is : Reference → Operand) → AreOperands is nodes.now →
-        IfRefused fault (λ v. verdict work is (linked_nodes nodes.now) ≡ Some v)) }
+    ensures verified { IfOk result (VerifiesNodes nodes.now) }
+    ensures numbers { IfOk result (ReordersNodes nodes.now) }
+    ensures ok { OnOk result (CanRunWithin work nodes.now) }
+    ensures refused { IfErr result (RefusesNodes work nodes.now) }
 {
     if has_unwritten_input(nodes) {
         return Err(VerifyFault::Refused(Verdict::InvalidLink));
@@ -203,14 +200,10 @@ fn verify_ordered(
 pub fn verify(alloc: Global, nodes: &[Linked], work: u64) -> Result<Verified, VerifyFault>
     requires count { length nodes.now ≤ GREATEST_NODES }
     requires images { All (λ l. IsTrue (is_image l.operands.in1)) nodes.now }
-    ensures verified { IfOk result (λ v. (is : Reference → Operand) → AreOperands is nodes.now →
-        IsVerified is (linked_nodes nodes.now) v) }
-    ensures numbers { IfOk result (λ v. IsPermutation (map (λ l. (l.number, l.node)) nodes.now)
-        (zip v.order v.steps)) }
-    ensures ok { OnOk result ((is : Reference → Operand) → AreOperands is nodes.now →
-        verdict work is (linked_nodes nodes.now) ≡ None) }
-    ensures refused { IfErr result (λ fault. (is : Reference → Operand) → AreOperands is nodes.now →
-        IfRefused fault (λ v. verdict work is (linked_nodes nodes.now) ≡ Some v)) }
+    ensures verified { IfOk result (VerifiesNodes nodes.now) }
+    ensures numbers { IfOk result (ReordersNodes nodes.now) }
+    ensures ok { OnOk result (CanRunWithin work nodes.now) }
+    ensures refused { IfErr result (RefusesNodes work nodes.now) }
 {
     if has_two_writers(nodes) {
         return Err(VerifyFault::Refused(Verdict::MultipleWriters));

@@ -38,17 +38,11 @@ made_written old new format r s f target same is known pixel_at =
       slices = same;
     }
 
--- the same, of the samples in the slice of the format
-pub slice_written : (old new : ImageMut) (format : Format) (s : Rectangle) (f : ℕ → ℕ → ℤ) → IsTarget old → SameSlices old new → new.desc ≡ old.desc → new.valid ≡ s → old.desc.format ≡ format
-    → slice_of format new.bytes.now new.shorts.now new.words.now ≡ band old.desc.width old.rows.start old.rows.count (zero_outside s f) → Writes (image_from old.desc.width old.desc.height format s f) old new
-slice_written old new format s f target same desc valid known is =
-    made_written old new format new.valid s f target same (rw (desc, known, is) refl) known valid
-
--- the same, with other terms for the image's sides
+-- the same of the samples in the slice of the format, with other terms for the image's sides
 pub slice_written_as : (old new : ImageMut) (format : Format) (width height : ℕ) (s : Rectangle) (f : ℕ → ℕ → ℤ) → IsTarget old → SameSlices old new → new.desc ≡ old.desc → new.valid ≡ s → old.desc.format ≡ format
     → old.desc.width ≡ width → old.desc.height ≡ height → slice_of format new.bytes.now new.shorts.now new.words.now ≡ band width old.rows.start old.rows.count (zero_outside s f) → Writes (image_from width height format s f) old new
 slice_written_as old new format width height s f target same desc valid known wide high is =
-    rw (← wide, ← high) (slice_written old new format s f target same desc valid known (rw (← wide) at is))
+    rw (← wide, ← high) (made_written old new format new.valid s f target same (let row = rw (← wide) at is in rw (desc, known, row) refl) known valid)
 
 -- samples outside the rectangle are made 0
 pub slice_cleared : (old new : ImageMut) (format : Format) (width : ℕ) (before : List ℤ) → IsTarget old → SameSlices old new → new.desc ≡ old.desc → new.valid ≡ old.valid → old.desc.format ≡ format → width ≡ old.desc.width
@@ -56,7 +50,7 @@ pub slice_cleared : (old new : ImageMut) (format : Format) (width : ℕ) (before
     → slice_of format new.bytes.now new.shorts.now new.words.now ≡ band width old.rows.start old.rows.count (zero_outside old.valid (sample_from width old.rows.start before))
     → Writes (image_from old.desc.width old.desc.height old.desc.format old.valid (sample_from old.desc.width old.rows.start (target_image old).samples)) old new
 slice_cleared old new format width before target same desc valid known wide held is =
-    slice_written old new old.desc.format old.valid (sample_from old.desc.width old.rows.start (target_image old).samples) target same desc valid refl (rw (known, is, wide, held) refl)
+    slice_written_as old new old.desc.format old.desc.width old.desc.height old.valid (sample_from old.desc.width old.rows.start (target_image old).samples) target same desc valid refl refl refl (rw (known, is, wide, held) refl)
 
 -- all rows of an image are the image
 pub all_rows_are : (image : ImageValue) → length image.samples ≡ image.height * image.width → rows_in (all_rows image.height) image ≡ image
@@ -83,7 +77,7 @@ written_alike width height w h format r s f old new a b c is = rw (← a, ← b,
 -- ---- what an update writes
 
 -- a band is one of rows that are counted from another row
-band_from : (width start first count : ℕ) (f : ℕ → ℕ → ℤ) → band width (start + first) count f ≡ band width first count (λ x y. f x (start + y))
+pub band_from : (width start first count : ℕ) (f : ℕ → ℕ → ℤ) → band width (start + first) count f ≡ band width first count (λ x y. f x (start + y))
 band_from width start first zero f = refl
 band_from width start first (suc count) f = let next : start + first + 1 ≡ start + (first + 1) = omega arith in rw (next, band_from width start (first + 1) count f) refl
 
@@ -103,33 +97,23 @@ pub updated_written : (old new : ImageMut) (before : ImageValue) (format : Forma
 updated_written old new before format r next target is written_so =
     record { value = written_so.value ∙ same; target = written_so.target; slices = written_so.slices }
   where
-    width : ℕ
-    width = old.desc.width
-
-    start : ℕ
-    start = old.rows.start
-
-    count : ℕ
-    count = old.rows.count
+    d : Description
+    d = record { width = old.desc.width; height = old.desc.height; format = format }
 
     from : ℕ → ℕ → ℤ
-    from = sample_from width start (target_image old).samples
+    from = sample_from d.width old.rows.start (target_image old).samples
 
-    held : (x y : ℕ) → x < width → start ≤ y → y < start + count → from x y ≡ pixel_at before x y
+    held : (x y : ℕ) → x < d.width → old.rows.start ≤ y → y < old.rows.start + old.rows.count → from x y ≡ pixel_at before x y
     held x y across above below =
-        ap (λ (a : ImageValue). sample_from width start a.samples x y) (sym is)
-        ∙ ap (λ n. sample_from width start (band n start count (pixel_at before)) x y) (ap (λ (a : ImageValue). a.width) is)
-        ∙ place_of_band width start count x y (pixel_at before) across above below
+        ap (λ (a : ImageValue). sample_from d.width old.rows.start a.samples x y) (sym is)
+        ∙ ap (λ n. sample_from d.width old.rows.start (band n old.rows.start old.rows.count (pixel_at before)) x y) (ap (λ (a : ImageValue). a.width) is)
+        ∙ place_of_band d.width old.rows.start old.rows.count x y (pixel_at before) across above below
 
-    became : (ℕ → ℕ → ℤ) → ImageValue
-    became f = image_from width old.desc.height format r (λ x y. next x y (f x y))
+    made : (f : ℕ → ℕ → ℤ) → image_over d r (band d.width old.rows.start old.rows.count (zero_outside r f)) ≡ rows_in old.rows (image_from d.width d.height format r f)
+    made f = rows_made d format r r f old.rows target.rows refl refl
 
-    over : List ℤ → ImageValue
-    over zs = record { width = width; height = old.desc.height; format = format; valid = r; samples = zs }
-
-    same : rows_in old.rows (became from) ≡ rows_in old.rows (became (pixel_at before))
+    same : rows_in old.rows (image_from d.width d.height format r (λ x y. next x y (from x y))) ≡ rows_in old.rows (image_from d.width d.height format r (λ x y. next x y (pixel_at before x y)))
     same =
-        ap over (band_of_table width old.desc.height start count (zero_outside r (λ x y. next x y (from x y))) target.rows
-        ∙ band-same width start count (zero_outside r (λ x y. next x y (from x y))) (zero_outside r (λ x y. next x y (pixel_at before x y)))
-        (λ x y a b c. ap (λ z. cond (has_pixel r x y) (next x y z) (pos 0)) (held x y a b c))
-        ∙ sym (band_of_table width old.desc.height start count (zero_outside r (λ x y. next x y (pixel_at before x y))) target.rows))
+        sym (made (λ x y. next x y (from x y)))
+        ∙ ap (image_over d r) (band-same d.width old.rows.start old.rows.count _ _ (λ x y a b c. ap (λ z. cond (has_pixel r x y) (next x y z) (pos 0)) (held x y a b c)))
+        ∙ made (λ x y. next x y (pixel_at before x y))

@@ -1,17 +1,10 @@
 -- Rows of images over slices.
-use Rattle.std.proofs.Common.{◌≡◌, ℕ, ℤ, pos, ◌+◌, ◌-◌, ◌*◌, ◌<◌, ◌≤◌, List, ◌++◌, length, map, replicate, take, drop, get_or, ap, ◌∙◌, sym, refl, arith, take-take}
-use Rattle.std.proofs.lemmas.List.{length-map, map-append}
+use Rattle.std.proofs.Common.{◌≡◌, ℕ, ℤ, pos, ◌+◌, ◌-◌, ◌*◌, ◌<◌, ◌≤◌, List, ◌++◌, length, map, replicate, take, drop, ap, ◌∙◌, sym, refl, arith, take-take}
+use Rattle.std.proofs.lemmas.List.{map-append}
 use borrow.Rule.Slice.PartMut.{put_mid}
 use Rattle.vx_base.specs.Rectangle.{Rectangle}
-use Rattle.vx_base.specs.Image.{ImageValue, IsImage, run, band, zero_outside}
-use Rattle.vx_base.proofs.TableLaws.{row_across, row_part, part_of_row, band_written, length_part}
-use Rattle.image_core.specs.Rows.{row_of}
-
--- a row's part of the samples that are lent
-pub row_lent : {T : Type 0} (value : T → ℤ) (xs : List T) (image : ImageValue) (start step y : ℕ) → IsImage image → map value xs ≡ image.samples → start ≡ y * image.width → step ≡ image.width → y < image.height → map value (take (start + step - start) (drop start xs)) ≡ row_of image y
-row_lent value xs image start step y h same at is below =
-    row_part value xs start step image.width image.height y (sym (length-map xs value) ∙ ap length same ∙ h.size) below at is
-    ∙ ap (λ zs. run 0 image.width (λ x. get_or zs (y * image.width + x) (pos 0))) same
+use Rattle.vx_base.specs.Image.{run, band, zero_outside}
+use Rattle.vx_base.proofs.TableLaws.{row_across, part_of_row, band_written, length_part}
 
 -- n samples of a row, from column x on
 pub part_of : {A : Type 0} (of : A → ℤ) (row : List A) (g : ℕ → ℤ) (w start x n : ℕ) → start ≡ x → x + n ≤ w → length row ≡ w → map of row ≡ run 0 w g → map of (take n (take (length row - start) (drop start row))) ≡ run x n g

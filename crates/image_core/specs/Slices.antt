@@ -17,7 +17,7 @@ slice_values (U8 samples) = map pos samples.now
 slice_values (S16 samples) = samples.now
 slice_values (U32 samples) = map pos samples.now
 
--- the samples in the slice of this format, one of three
+-- the samples in the slice of this format, given the slices of all three formats
 abbrev pub slice_of : Format → (bytes : List ℕ) (shorts : List ℤ) (words : List ℕ) → List ℤ
 slice_of format.U8 bytes shorts words = map pos bytes
 slice_of format.S16 bytes shorts words = shorts

@@ -5,7 +5,7 @@ use Rattle.image_core.specs.declared.image_mut.ImageMut.{ImageMut}
 use Rattle.image_core.specs.Slices.{slice_of}
 use Rattle.image_core.specs.Bands.{IsInRows, rows_in}
 
--- the output as an image value; its samples are those of its band alone
+-- the output as an image value, which has only the samples of the output's band
 abbrev pub target_image : ImageMut → ImageValue
 target_image image = image_over image.desc image.valid (slice_of image.desc.format image.bytes.now image.shorts.now image.words.now)
 

@@ -76,14 +76,14 @@ impl<'a> ImageMut<'a> {
         self.valid
     }
 
-    /// Returns the band that is written.
+    /// Returns the band of rows that kernels write.
     pub fn rows(&self) -> Band
         ensures { result ≡ self.now.rows }
     {
         self.rows
     }
 
-    /// Sets the valid rectangle; the samples stay as they are.
+    /// Sets the valid rectangle, which lies within the image; the samples stay as they are.
     pub fn set_valid(&mut self, valid: Rect)
         requires target { IsTarget self.old }
         requires room { IsWithin valid (target_image self.old).width
@@ -96,7 +96,7 @@ impl<'a> ImageMut<'a> {
         self.valid = valid;
     }
 
-    /// Sets each sample outside the valid rectangle to 0; those inside stay as they are.
+    /// Sets each sample outside the valid rectangle to 0; the samples inside stay as they are.
     pub fn clear_outside(&mut self)
         requires target { IsTarget self.old }
         requires room { IsWithin (target_image self.old).valid (target_image self.old).width
@@ -115,7 +115,7 @@ impl<'a> ImageMut<'a> {
         }
     }
 
-    /// Updates each sample in the update's area in place, and sets those outside it to 0. The area
+    /// Updates each sample in the update's area in place, and sets all other samples to 0. The area
     /// becomes the valid rectangle.
     pub fn update<T: Sample, U: RowUpdate<T>>(&mut self, update: &U)
         requires target { IsTarget self.old }
@@ -144,8 +144,8 @@ impl<'a> ImageMut<'a> {
         self.write_by_rows::<T, u8, _>(&Unaided { formula }, &mut []);
     }
 
-    /// Writes a whole image from a formula that needs scratch memory: its samples in its area, 0
-    /// elsewhere. The area becomes the valid rectangle.
+    /// Writes a whole image from a formula that needs scratch memory: the formula's samples inside
+    /// its area, 0 elsewhere. The area becomes the valid rectangle.
     pub fn write_by_rows<T: Sample, S, F: RowFormula<T, S>>(
         &mut self,
         formula: &F,
@@ -163,7 +163,7 @@ impl<'a> ImageMut<'a> {
         T::change_samples(self, &Written { formula }, scratch);
     }
 
-    /// Writes a whole U32 image, row after row. The area becomes the valid rectangle.
+    /// Writes a whole U32 image, row after row. The area of `whole` becomes the valid rectangle.
     pub fn write_whole<W: Whole>(&mut self, whole: &W)
         requires target { IsTarget self.old }
         requires format { (target_image self.old).format ≡ U32 }

@@ -1,4 +1,4 @@
-//! The common form of writing and updating, so that rows are walked by one implementation.
+//! The common form of formulas and updates, so that one implementation goes over the rows.
 ghost use Rattle.std.specs.Prelude.{◌≡◌, ◌+◌, ◌<◌, ◌≤◌, ℕ, ℤ, length, map};
 ghost use Rattle.vx_base.specs.Rectangle.{Rectangle};
 ghost use Rattle.vx_base.specs.Image.{run};

@@ -65,8 +65,8 @@ fn change_row<T: Number, S, C: RowChange<T, S>>(
     }
 }
 
-/// Changes the samples of a band within the change's area, and sets the others to 0. `samples` has
-/// the band's rows alone, in row-major order.
+/// Changes the samples of a band within the change's area, and sets the band's other samples to 0.
+/// `samples` has the band's rows alone, in row-major order.
 pub fn change_rows<T: Number, S, C: RowChange<T, S>>(
     change: &C,
     width: u16,

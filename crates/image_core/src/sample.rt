@@ -40,7 +40,7 @@ pub trait Sample: Number {
         requires { count ≤ GREATEST_SIDE }
         ensures { map Self.value result.now ≡ replicate count (pos 0) };
 
-    /// The name of the slice with such samples, among the three of an output image.
+    /// The name of the slice with such samples, among the three slices of an output image.
     ghost slice_name: { ImageMut → ℕ };
 
     /// Returns the output over the samples of a band, as `ImageMut::of_rows` does.
@@ -54,7 +54,8 @@ pub trait Sample: Number {
             (map Self.value samples.old) }
         ensures same_slice { slice_name result ≡ samples.entry.ghost_name };
 
-    /// Changes the samples of an output's band within the change's area, and sets the others to 0.
+    /// Changes the samples of an output's band within the change's area, and sets the band's other
+    /// samples to 0.
     fn change_samples<S, C: RowChange<Self, S>>(
         output: &mut ImageMut<'_>,
         change: &C,
@@ -83,7 +84,7 @@ static ZERO_SHORTS: [i16; LONGEST_ROW] = [0; LONGEST_ROW];
 
 static ZERO_WORDS: [u32; LONGEST_ROW] = [0; LONGEST_ROW];
 
-/// Makes an output over one of three slices; the others are empty.
+/// Makes an output over one of three slices; the other two are empty.
 macro_rules! image_mut {
     ($desc:expr, $rows:expr, $bytes:expr, $shorts:expr, $words:expr) => {
         ImageMut {

@@ -5,7 +5,7 @@ use vx_base::{Convolution, Lut, ThresholdRule};
 /// A node's second operand, after its first input image.
 #[derive(Drop)]
 pub enum SecondInput<'a> {
-    /// None: the function has one input.
+    /// No operand: the function has one input.
     Nothing,
     /// An image of the first input's size.
     Image(Image<'a>),

@@ -7,7 +7,7 @@ ghost use Rattle.image_core.specs.Bands.{IsInRows};
 use crate::band::Band;
 use vx_base::Rect;
 
-/// A U32 image that is written row after row, because each row is computed from the one above it.
+/// A U32 image that is written row after row, because each row is computed from the row above.
 pub trait Whole {
     /// The sample in a column of a row.
     ghost at: { Self → ℕ → ℕ → ℤ };

@@ -40,8 +40,7 @@ fn rows_of_windows_and_sums(rt: HostRuntime) {
     assert!(rt; two_rows(1) == Some((below, [-1, 0, 5, -3, -2, 0], [4, 10, 27, 9, 21, 45])));
 }
 
-/// Returns the second row of the integral image of two rows of 255, which are longer than the
-/// lanes.
+/// Returns the second row of the integral image of two rows of eleven samples, all of them 255.
 fn second_sums() -> Option<[u32; 11]> {
     let desc = Desc::new(11, 2, Format::U8)?;
     let mut samples = [255; 22];
@@ -61,7 +60,8 @@ fn sums_above_a_band(rt: HostRuntime) {
     assert!(rt; second_sums() == Some(sums));
 }
 
-/// Returns the two lower rows of the integral image, given the row above them.
+/// Returns the two lower rows of the integral image of `SAMPLES`, given the integral image's first
+/// row.
 fn sums_below(first: &[u32; 3]) -> Option<[u32; 6]> {
     let mut samples = SAMPLES;
     let desc = Desc::new(3, 3, Format::U8)?;
@@ -77,8 +77,8 @@ fn sums_go_on(rt: HostRuntime) {
     assert!(rt; sums_below(&[1, 3, 12]) == Some([4, 10, 27, 9, 21, 45]));
 }
 
-/// Adds the two lower rows to a histogram of three bins, and merges their extremes into `above`,
-/// with their row numbers increased by 4. Returns both results.
+/// Adds the two lower rows of `SAMPLES` to a histogram of three bins, and merges the extremes of
+/// these rows, moved 4 rows lower, into `above`. Returns the histogram and the extremes.
 fn merge_others(above: Extremes) -> Option<([u32; 3], Extremes)>
     requires least { above.min_count < 2 ^ 16 }
     requires greatest { above.max_count < 2 ^ 16 }
@@ -111,7 +111,7 @@ fn counts_and_extremes_of_bands(rt: HostRuntime) {
     assert!(rt; merge_others(above) == Some(([7, 3, 4], joined)));
 }
 
-/// Returns a row of the horizontal gradient, and a row of the vertical one.
+/// Returns row `right` of the horizontal gradient, and row `down` of the vertical gradient.
 fn changes(right: u16, down: u16) -> Option<([i16; 3], [i16; 3])>
     requires right { right + 1 ≤ 3 }
     requires down { down + 1 ≤ 3 }

@@ -1,6 +1,6 @@
 //! Images that are only partly valid: clearing outside the valid rectangle, and functions of two
 //! such images.
-ghost use Rattle.std.specs.Prelude.{◌≡◌, ◌<◌, ℕ, map, pos, length, get_or};
+ghost use Rattle.std.specs.Prelude.{◌≡◌, map, pos, length};
 ghost use Rattle.vx_base.specs.declared.format.Format.TheVariants.{U8};
 ghost use Rattle.vx_base.specs.Description.{sample_count};
 ghost use Rattle.vx_base.specs.Rectangle.{IsWithin};
@@ -12,7 +12,7 @@ ghost use Rattle.image_core.specs.Target.{target_image, IsTarget, SameSlices};
 use image_core::{Image, ImageMut};
 use pixel_kernels::{bit_and, bit_xor};
 use std::test::Fail;
-use vx_base::{Desc, Format, Rect};
+use vx_base::{Desc, Format, Rect, prove_bytes};
 
 /// Sets the samples outside the rectangle to 0.
 fn clear(desc: Desc, valid: Rect, samples: &mut [u8])
@@ -41,12 +41,7 @@ fn clear_to(image: &mut ImageMut<'_>, valid: Rect)
     image.clear_outside();
 }
 
-/// States for the prover that each sample is a byte.
-fn prove_bytes(samples: &[u8])
-    ensures { (k : ℕ) → get_or samples.now k 0 < 256 }
-{}
-
-/// Returns the image of these samples, after setting those outside the rectangle to 0.
+/// Returns the image of these samples, after setting the samples outside the valid rectangle to 0.
 pub fn lend(desc: Desc, valid: Rect, samples: &mut [u8]) -> Image<'_>
     requires format { desc.format ≡ U8 }
     requires size { length samples.old ≡ sample_count desc }
@@ -61,8 +56,8 @@ pub fn lend(desc: Desc, valid: Rect, samples: &mut [u8]) -> Image<'_>
     Image::new(desc, valid, samples)
 }
 
-/// Returns the exclusive or of a 3 by 2 image of samples 1, 2, .. and one of 16 everywhere, and its
-/// valid rectangle. Each input is valid in its own rectangle.
+/// Returns the exclusive or of two 3 by 2 images, and its valid rectangle. One image has the
+/// samples 1 to 6 and is valid in `left`; the other is 16 everywhere and valid in `right`.
 fn xor(left: Rect, right: Rect) -> ([u8; 6], Rect)
     requires left { IsWithin left 3 2 }
     requires right { IsWithin right 3 2 }
@@ -100,8 +95,8 @@ fn valid_where_both_are(rt: HostRuntime) -> Result<(), Fail> {
     Ok(())
 }
 
-/// Returns the And of two 4 by 1 images of 255, each valid in its own half, and its valid
-/// rectangle.
+/// Returns the And of two 4 by 1 images of 255, and its valid rectangle. One image is valid in its
+/// left half, the other in its right half.
 fn and_of_halves() -> Option<([u8; 4], Rect)> {
     let desc = Desc::new(4, 1, Format::U8)?;
     let (mut first, mut second, mut output) = ([255; 4], [255; 4], [77; 4]);

@@ -14,7 +14,8 @@ use window_kernels::{box3, convolve, dilate3, erode3, gaussian3, median3, sobel3
 /// The samples of a 3 by 3 image.
 const SAMPLES: [u8; 9] = [1, 2, 9, 3, 4, 8, 5, 6, 7];
 
-/// Returns the medians and the means of the image with this valid rectangle, and theirs.
+/// Returns the medians and the means of the image with this valid rectangle, and the valid
+/// rectangle of the medians.
 fn smoothed(valid: Rect, border: Border) -> ([u8; 9], [u8; 9], Rect)
     requires { IsWithin valid 3 3 }
 {
@@ -112,7 +113,7 @@ fn both_gradients(rt: HostRuntime) {
 }
 
 /// Returns the convolution with a matrix of 5 columns and 3 rows, as U8 and as S16, and the valid
-/// rectangle of the latter.
+/// rectangle of the S16 image.
 fn convolved(exponent: u8, border: Border) -> Option<([u8; 9], [i16; 9], Rect)> {
     let desc = Desc::new(3, 3, Format::U8)?;
     let mut samples = SAMPLES;
@@ -150,8 +151,8 @@ fn matrix_of_five_by_three(rt: HostRuntime) -> Result<(), Fail> {
     Ok(())
 }
 
-/// Returns the convolution of 255 everywhere with the largest matrix of least coefficients, as U8
-/// and as S16, and its valid rectangle.
+/// Returns the convolution of an image that is 255 everywhere, as U8 and as S16, and the valid
+/// rectangle of the S16 image. Each coefficient of the 9x9 matrix is the least possible.
 fn greatest_sum(exponent: u8) -> Option<([u8; 81], [i16; 81], Rect)> {
     let desc = Desc::new(9, 9, Format::U8)?;
     let mut samples = [255; 81];
@@ -177,7 +178,7 @@ fn greatest_sums(rt: HostRuntime) -> Result<(), Fail> {
     Ok(())
 }
 
-/// Returns the row of a window of radius 2, before row y is loaded into it and after.
+/// Returns the samples of a `RowWindow` of radius 2, before row `y` is loaded into it and after.
 fn seen(alloc: Global, y: i32, border: Border) -> Result<[Vec<u8>; 2], Fail> {
     let desc = Desc::new(3, 3, Format::U8).ok_or("a description")?;
     let whole = Rect::new(0, 0, 3, 3).ok_or("a rectangle")?;

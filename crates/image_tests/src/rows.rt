@@ -1,5 +1,5 @@
-//! The kernels of lane_rows, at lengths around that of a block. Each written item is the formula of
-//! the items at its index, and no other item changes.
+//! The kernels of lane_rows, at lengths around that of a block. Each written item is the formula's
+//! value for the items at its index, and no other item changes.
 ghost use Rattle.std.specs.Prelude.{◌≤◌};
 ghost use Rattle.vx_base.specs.Pixelwise.{not_bits};
 
@@ -14,15 +14,16 @@ use vx_base::{Format, Policy, ThresholdKind, ThresholdRule};
 
 const LENGTHS: [usize; 9] = [0, 1, 15, 16, 17, 31, 33, 64, 65];
 
-/// The extremes of U8 and numbers between them; the same for S16.
+/// The extremes of U8 and numbers between them.
 const BYTES: [u8; 8] = [0, 255, 1, 254, 128, 127, 3, 77];
 
+/// The extremes of S16 and numbers between them.
 const SHORTS: [i16; 8] = [0, 32_767, -32_768, -1, 1, 255, -3, 100];
 
 /// The extremes of 32 bits and numbers between them.
 const NUMBERS: [i32; 8] = [0, -1, 7, -9, 2_040, -300_000, i32::MAX, i32::MIN];
 
-/// Returns eight numbers over and over, in turn.
+/// Returns 65 items: eight numbers over and over, in turn.
 fn in_turn<T: Copy>(numbers: &[T; 8]) -> [T; 65] {
     let mut items = [numbers[0]; 65];
     for (i, item) in items.iter_mut().enumerate() {
@@ -31,7 +32,7 @@ fn in_turn<T: Copy>(numbers: &[T; 8]) -> [T; 65] {
     items
 }
 
-/// Returns each of eight numbers eight times: paired with `in_turn`, every pair occurs.
+/// Returns 65 items: each of eight numbers eight times. Paired with `in_turn`, every pair occurs.
 fn in_runs<T: Copy>(numbers: &[T; 8]) -> [T; 65] {
     let mut items = [numbers[0]; 65];
     for (i, item) in items.iter_mut().enumerate() {
@@ -130,20 +131,21 @@ macro_rules! assert_narrowed {
     }};
 }
 
-/// `assert_narrowed!` for a kernel to U8, and for one to S16.
+/// `assert_narrowed!` for a kernel that writes U8 items.
 macro_rules! assert_bytes {
     ($rt:expr; $($kernel:tt)*) => {
         assert_narrowed!($rt, &BYTES, 77u8, wrapped_byte, nearest_byte; $($kernel)*)
     };
 }
 
+/// `assert_narrowed!` for a kernel that writes S16 items.
 macro_rules! assert_shorts {
     ($rt:expr; $($kernel:tt)*) => {
         assert_narrowed!($rt, &SHORTS, 77i16, wrapped, nearest; $($kernel)*)
     };
 }
 
-/// Returns the 16-bit number that is congruent modulo 65,536.
+/// Returns the S16 number that agrees with a number modulo 65,536.
 fn wrapped(number: i32) -> i16 {
     let rest = number.rem_euclid(65_536);
     if rest < 32_768 {
@@ -153,7 +155,7 @@ fn wrapped(number: i32) -> i16 {
     }
 }
 
-/// Returns the nearest 16-bit number.
+/// Returns the S16 number nearest to a number.
 fn nearest(number: i32) -> i16 {
     number.max(-32_768).min(32_767) as i16
 }
@@ -163,7 +165,7 @@ fn wrapped_byte(number: i32) -> u8 {
     number.rem_euclid(256) as u8
 }
 
-/// Returns the nearest eight-bit number.
+/// Returns the U8 number nearest to a number.
 fn nearest_byte(number: i32) -> u8 {
     number.max(0).min(255) as u8
 }
@@ -215,7 +217,7 @@ fn halved_product(a: u8, b: i16) -> i32 {
     i32::from(a) * i32::from(b) / 2
 }
 
-/// U8 and S16 items in one call.
+/// Checks kernels of two rows on a U8 row and an S16 row.
 #[test]
 fn mixed_formats(rt: HostRuntime) {
     for length in LENGTHS {

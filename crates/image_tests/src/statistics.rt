@@ -8,7 +8,7 @@ use vx_base::{Bins, Desc, Extremes, Format, Rect};
 
 const LENGTHS: [usize; 9] = [1, 15, 16, 17, 31, 32, 33, 64, 65];
 
-/// Returns items of which all but one are equal.
+/// Returns 65 items: `one` at the index `place`, and `others` everywhere else.
 fn all_but_one<T: Copy>(others: T, one: T, place: usize) -> [T; 65] {
     let mut items = [others; 65];
     for (i, item) in items.iter_mut().enumerate() {
@@ -19,7 +19,7 @@ fn all_but_one<T: Copy>(others: T, one: T, place: usize) -> [T; 65] {
     items
 }
 
-/// Returns the least and the greatest item of a row, and how many items are equal to each.
+/// Returns the least and the greatest byte of a row, and how many bytes are equal to each.
 fn extremes_of_bytes(row: &[u8]) -> Option<(u8, u32, u8, u32)> {
     if row.is_empty() || row.len() > 65 {
         return None;
@@ -33,7 +33,7 @@ fn extremes_of_bytes(row: &[u8]) -> Option<(u8, u32, u8, u32)> {
     ))
 }
 
-/// Returns the same for S16 samples.
+/// Returns the least and the greatest S16 item of a row, and how many items are equal to each.
 fn extremes_of_shorts(row: &[i16]) -> Option<(i16, u32, i16, u32)> {
     if row.is_empty() || row.len() > 65 {
         return None;
@@ -109,7 +109,7 @@ fn extremes_on_both_sides_of_zero(rt: HostRuntime) {
     assert!(rt; extremes_of_shorts(&[1, -1, 0, -1, 1, 1]) == Some((-1, 2, 1, 3)));
 }
 
-/// Returns the extremes of a row of 65 samples, which are 9 except for one.
+/// Returns the extremes of a row of 65 samples: `sample` in column `place`, and 9 everywhere else.
 fn found_at(place: usize, sample: u8) -> Option<Extremes> {
     let desc = Desc::new(65, 1, Format::U8)?;
     let mut samples = all_but_one(9, sample, place);
@@ -157,7 +157,7 @@ fn running_sums_at_each_length(rt: HostRuntime) {
     }
 }
 
-/// Returns the histogram of a row in three bins over all samples.
+/// Returns the histogram of a row, in three bins that cover all sample values.
 fn counted(row: &[u8; 3]) -> Option<[u32; 3]> {
     let mut samples = *row;
     let image = lend(

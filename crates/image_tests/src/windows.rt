@@ -1,5 +1,5 @@
-//! Kernels of windows: kernels of nine rows in lane_rows at lengths around that of a block, and
-//! whole images of sizes around it under each border.
+//! Kernels of windows. Kernels of nine rows in lane_rows are tested at lengths around that of a
+//! block; functions of whole images at such widths, under each border.
 ghost use Rattle.std.specs.Prelude.{◌≡◌, ◌<◌, ◌≤◌, length};
 ghost use Rattle.vx_base.specs.declared.format.Format.TheVariants.{U8, S16};
 ghost use Rattle.lane_rows.specs.Windows.{window_count};
@@ -52,7 +52,7 @@ fn weighted(nine: &[u8; 9], weights: [i32; 9]) -> i32 {
     sum
 }
 
-/// Returns the median: at most four of the nine samples are below it, and at most four above.
+/// Returns the median: a sample with at most four of the nine below it, and at most four above.
 fn median_of(nine: &[u8; 9]) -> u8 {
     for i in 0..9 {
         let middle = nine[i];
@@ -65,7 +65,7 @@ fn median_of(nine: &[u8; 9]) -> u8 {
     0
 }
 
-/// Returns the function of nine samples, which are given row by row from the top.
+/// Returns the function's result for nine samples, which are given row by row from the top.
 fn formula(function: Function, nine: &[u8; 9]) -> i32 {
     match function {
         Function::Box => weighted(nine, [1; 9]).wrapping_div(9),
@@ -129,8 +129,8 @@ fn windows(rows: &[[u8; LONGEST]; 9], count: usize) -> Nine<'_>
     }
 }
 
-/// Returns whether the first `count` numbers are the function of nine rows, and the others are
-/// still 77.
+/// Returns whether the first `count` numbers are the function's results for nine rows, and all
+/// other numbers are still 77.
 fn are_of_nine<T: Copy + Into<i32>>(
     function: Function,
     rows: &[[u8; LONGEST]; 9],
@@ -189,7 +189,7 @@ fn nine_rows_at_each_length(rt: HostRuntime) {
     }
 }
 
-/// An image of noise that is valid from some column on, and a border.
+/// An image of noise that is valid from column `first` on, and a border.
 #[derive(Clone, Copy)]
 struct Case {
     width: u16,
@@ -250,7 +250,7 @@ fn write_to_s16(function: Function, image: &Image<'_>, output: &mut ImageMut<'_>
     }
 }
 
-/// Returns the samples of the largest image; a smaller image uses the front of them.
+/// Returns the samples of the largest image; a smaller image uses the first of these samples.
 fn samples() -> [u8; SAMPLES] {
     let mut samples = [0; SAMPLES];
     for (i, sample) in samples.iter_mut().enumerate() {
@@ -259,7 +259,8 @@ fn samples() -> [u8; SAMPLES] {
     samples
 }
 
-/// Writes the function of the case's image, and returns the valid rectangle of the result.
+/// Writes the function's result for the case's image, and returns the valid rectangle of the
+/// result.
 fn bytes_of(case: &Case, function: Function, to: &mut [u8]) -> Option<Rect> {
     let desc = Desc::new(case.width, case.height, Format::U8)?;
     let valid = Rect::new(case.first, 0, case.width, case.height)?;
@@ -305,7 +306,7 @@ fn are_of_row<T: Copy + Into<i32>>(
     true
 }
 
-/// Returns whether an image has the function's samples, and the right valid rectangle.
+/// Returns whether an image has the function's samples, and the expected valid rectangle.
 fn are_of_image<T: Copy + Into<i32>>(
     case: &Case,
     function: Function,
@@ -330,7 +331,7 @@ fn are_of_image<T: Copy + Into<i32>>(
     true
 }
 
-/// Returns whether a function is right on the case's image.
+/// Returns whether a function gives the expected image for the case's image.
 fn agrees(case: &Case, function: Function) -> bool {
     match function {
         Function::SobelX | Function::SobelY => {
@@ -346,8 +347,8 @@ fn agrees(case: &Case, function: Function) -> bool {
     }
 }
 
-/// Returns whether a function is right under each border, on wholly valid images and on images that
-/// are valid from column 1 on.
+/// Returns whether a function gives the expected images under each border, for wholly valid images
+/// and for images that are valid from column 1 on.
 fn agrees_at(width: u16, height: u16, function: Function) -> bool {
     for border in BORDERS {
         for first in 0..width.min(2) {
@@ -365,7 +366,7 @@ fn agrees_at(width: u16, height: u16, function: Function) -> bool {
     true
 }
 
-/// Returns whether a function is right at each width and height.
+/// Returns whether a function gives the expected images at each width and height.
 fn agrees_at_all(function: Function) -> bool {
     for width in WIDTHS {
         for height in 1..5 {

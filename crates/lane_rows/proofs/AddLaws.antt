@@ -1,13 +1,13 @@
 -- Pairs that are added one after another.
 use Rattle.std.proofs.Common.{◌≡◌, ℕ, ℤ, ◌+◌, ◌-◌, ◌*◌, ◌≤◌, List, length, map, ap, ◌∙◌, sym, subst, arith, w32, to_z, of_z, ◌%◌, ◌+ℤ◌}
-use Rattle.lane_rows.proofs.PairNames.{Each1, zip2, length-map, run, IsNear, row_sum, pair_at, first_of_pair, second_of_pair}
+use Rattle.lane_rows.proofs.Common.{Each1, zip2, length-map, run, IsNear, row_sum, pair_at, first_of_pair, second_of_pair}
 use Rattle.lane_rows.proofs.BitLaws.{each_fits_32, up_to_more, added, added_bits, added_up_to, length-added}
 use Rattle.lane_rows.proofs.ShortLaws.{of_bits}
 use Rattle.lane_rows.proofs.PairLaws.{AreAdded, none_added, pair_added}
 
 -- given sums can be read back from their bits
 pub given : (sums : List ℤ) (n : ℕ) → Each1 (IsNear ((45 - n) * 16711680)) sums → map (to_z w32) (map (of_z w32) sums) ≡ sums
-given sums n near = of_bits w32 sums (each_fits_32 sums (up_to_more ((45 - n) * 16711680) 752025600 sums (omega arith) near))
+given sums n near = of_bits w32 sums (each_fits_32 ((45 - n) * 16711680) (omega arith) sums near)
 
 pub added_none : (row table sums : List ℤ) (place n : ℕ) → Each1 (IsNear ((45 - n) * 16711680)) sums → length sums ≡ 16 → AreAdded row table place 0 (map (of_z w32) sums) (map (of_z w32) sums)
 added_none row table sums place n near len = record {
@@ -30,7 +30,7 @@ added_more row table sums place n j S M given_near few more before is M_len far 
       value = λ f are. added S Z M (limit + j * 16711680) 16711680 before.bits near far small ∙ pair_added f row table Z M place j (before.value f are) is;
       bits = added_bits S Z M (limit + j * 16711680) 16711680 before.bits near far small;
       len = length-added S M before.len M_len;
-      limit = λ l h. added_up_to S Z M (limit + j * 16711680) 16711680 (l + (j + 1) * 16711680) before.bits near far small (l + j * 16711680) (before.limit l h) (omega arith);
+      limit = λ l h. added_up_to S Z M (limit + j * 16711680) 16711680 before.bits near far small (l + (j + 1) * 16711680) (l + j * 16711680) (before.limit l h) (omega arith);
     }
 
 pub all_added : (row table sums : List ℤ) (place n j : ℕ) (S : List ℕ) → Each1 (IsNear ((45 - n) * 16711680)) sums → j ≡ n → AreAdded row table place j (map (of_z w32) sums) S → (f : ℕ → ℤ) → sums ≡ run 0 16 f → map (to_z w32) S ≡ run 0 16 (λ i. f i +ℤ row_sum row table n (place + 2 * i))

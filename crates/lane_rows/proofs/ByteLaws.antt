@@ -1,11 +1,9 @@
 -- Arithmetic on bytes in lanes.
-use Rattle.std.proofs.Common.{◌≡◌, inl, inr, ℕ, ℤ, pos, negsuc, suc, ◌+◌, ◌-◌, ◌%◌, ◌<◌, ◌≤◌, ◌-ℤ◌, unsigned_abs, List, length, map, Bool, true, false, cond, min, max, ltb, w8, Fits, refl, ap, ◌∙◌, arith, int_le, ◌&&◌, if◌then◌else◌}
-use Rattle.lane_rows.proofs.Common.{zip2, Each1, ints, clamps, cases_lt, nat_tests, U8, Wrap, Saturate, narrow, top}
-use Rattle.vx_base.specs.Pixelwise.{sum, difference, absolute_difference, smaller, greater, not_bits}
-use Rattle.vx_base.specs.declared.threshold.ThresholdKind.TheVariants.{Binary, Range}
-use Rattle.lane_rows.specs.Chosen as spec
+use Rattle.std.proofs.Common.{◌≡◌, inl, inr, ℕ, ℤ, pos, negsuc, suc, ◌+◌, ◌-◌, ◌%◌, ◌<◌, ◌≤◌, ◌-ℤ◌, unsigned_abs, List, length, map, Bool, true, false, cond, min, max, ltb, w8, Fits, bit_and, bit_or, bit_xor, refl, ap, ◌∙◌, arith}
+use Rattle.lane_rows.proofs.Common.{zip2, Each1, ints, clamps, cases_lt, U8, Wrap, Saturate, narrow, top}
+use Rattle.vx_base.specs.Pixelwise.{sum, difference, absolute_difference, smaller, greater, and_bits, or_bits, xor_bits, not_bits}
 use Rattle.lane_rows.proofs.LaneLaws.{clamp_pos, smaller_lane}
-use Rattle.lane_rows.proofs.Lanewise.{Lanewise, both, chosen, pairs_are, items_are}
+use Rattle.lane_rows.proofs.Lanewise.{Lanewise, one, other, each, both, chosen, pairs_are, items_are, same_pairs, lanes_are}
 
 abbrev less : ℕ → ℕ → ℕ
 less x y = cond (ltb x y) 255 0
@@ -30,25 +28,25 @@ abbrev pub largest : Lanewise ℕ ℕ ℕ → Lanewise ℕ ℕ ℕ → Lanewise 
 largest e f = where_less e f f e
 
 -- the results for two vectors of bytes, and for one
-pub bytes_are : (e : Lanewise ℕ ℕ ℕ) (f : ℤ → ℤ → ℤ) (xs ys : List ℕ) → (length xs ≡ 32) × Each1 (Fits w8) xs → (length ys ≡ 32) × Each1 (Fits w8) ys
+bytes_are : (e : Lanewise ℕ ℕ ℕ) (f : ℤ → ℤ → ℤ) (xs ys : List ℕ) → length xs ≡ 32 → length ys ≡ 32 → Each1 (Fits w8) xs → Each1 (Fits w8) ys
     → ((x y : ℕ) → Fits w8 x → Fits w8 y → pos (e.at x y) ≡ f (pos x) (pos y)) → map pos (e.all 32 xs ys) ≡ zip2 f (map pos xs) (map pos ys)
-bytes_are e f xs ys p q at = pairs_are e (Fits w8) (Fits w8) pos pos pos f 32 xs ys p.0 q.0 p.1 q.1 at
+bytes_are e f = pairs_are e (Fits w8) (Fits w8) pos pos pos f 32
 
-pub row_is : (e : Lanewise ℕ ℕ ℕ) (f : ℤ → ℤ) (xs : List ℕ) → (length xs ≡ 32) × Each1 (Fits w8) xs → ((x : ℕ) → Fits w8 x → pos (e.at x x) ≡ f (pos x)) → map pos (e.all 32 xs xs) ≡ map f (map pos xs)
-row_is e f xs p at = items_are e (Fits w8) pos pos f 32 xs p.0 p.1 at
+row_is : (e : Lanewise ℕ ℕ ℕ) (f : ℤ → ℤ) (xs : List ℕ) → length xs ≡ 32 → Each1 (Fits w8) xs → ((x : ℕ) → Fits w8 x → pos (e.at x x) ≡ f (pos x)) → map pos (e.all 32 xs xs) ≡ map f (map pos xs)
+row_is e f = items_are e (Fits w8) pos pos f 32
 
 -- ---- at one lane
 
-where_w8 : (t : Bool) (a b : ℕ) → cond (top 7 (cond t 255 0)) a b ≡ cond t a b
+pub where_w8 : (t : Bool) (a b : ℕ) → cond (top 7 (cond t 255 0)) a b ≡ cond t a b
 where_w8 t a b = elim t as (λ v. cond (top 7 (cond v 255 0)) a b ≡ cond v a b) [ true ↦ refl | false ↦ refl ]
 
 greater_lane : (x y : ℕ) → cond (ltb x y) y x ≡ max x y
 greater_lane x y = grind arith
 
-pub smallest_at : (x y : ℕ) → cond (top 7 (less x y)) x y ≡ min x y
+smallest_at : (x y : ℕ) → cond (top 7 (less x y)) x y ≡ min x y
 smallest_at x y = where_w8 (ltb x y) x y ∙ smaller_lane x y
 
-pub largest_at : (x y : ℕ) → cond (top 7 (less x y)) y x ≡ max x y
+largest_at : (x y : ℕ) → cond (top 7 (less x y)) y x ≡ max x y
 largest_at x y = where_w8 (ltb x y) y x ∙ greater_lane x y
 
 below : (x y : ℕ) → x < y → pos x -ℤ pos y ≡ negsuc (y - suc x)
@@ -111,22 +109,54 @@ smaller_is x y p q = ap pos (smallest_at x y) ∙ grind (arith, ints, clamps)
 pub greater_is : (x y : ℕ) → Fits w8 x → Fits w8 y → pos (cond (top 7 (less x y)) y x) ≡ greater (pos x) (pos y)
 greater_is x y p q = ap pos (largest_at x y) ∙ grind (arith, ints, clamps)
 
--- ---- thresholds
+-- ---- the results for two vectors
 
-pick : (b : Bool) (t f : ℕ) → pos (cond b t f) ≡ (if b then pos t else pos f)
-pick true t f = refl
-pick false t f = refl
+module _ (xs ys : List ℕ) (p : length xs ≡ 32) (q : length ys ≡ 32) (f : Each1 (Fits w8) xs) (h : Each1 (Fits w8) ys) where
+  pub sums_wrapped : map pos ((both plus one other).all 32 xs ys) ≡ zip2 (sum U8 Wrap) (map pos xs) (map pos ys)
+  sums_wrapped = bytes_are (both plus one other) (sum U8 Wrap) xs ys p q f h sum_wrapped
 
-pub above_is : (limit t f x : ℕ) → pos (cond (top 7 (less limit x)) t f) ≡ spec.threshold_choice (Binary (pos limit)) t f (pos x)
-above_is limit t f x = ap pos (where_w8 (ltb limit x) t f) ∙ pick (ltb limit x) t f
+  pub sums_clamped : map pos ((both plus one (smallest other (each turned one))).all 32 xs ys) ≡ zip2 (sum U8 Saturate) (map pos xs) (map pos ys)
+  sums_clamped = bytes_are (both plus one (smallest other (each turned one))) (sum U8 Saturate) xs ys p q f h sum_clamped
 
-between : (a b : Bool) (lower upper x t f : ℕ) → ltb x lower ≡ a → ltb upper x ≡ b
-    → pos (cond a f (cond b f t)) ≡ (if int_le (pos lower) (pos x) && int_le (pos x) (pos upper) then pos t else pos f)
-between true b lower upper x t f low high = grind (arith, nat_tests, ints, low)
-between false true lower upper x t f low high = grind (arith, nat_tests, ints, low, high)
-between false false lower upper x t f low high = grind (arith, nat_tests, ints, low, high)
+  pub differences_wrapped : map pos ((both minus one other).all 32 xs ys) ≡ zip2 (difference U8 Wrap) (map pos xs) (map pos ys)
+  differences_wrapped = bytes_are (both minus one other) (difference U8 Wrap) xs ys p q f h difference_wrapped
 
-pub between_is : (lower upper t f x : ℕ) → pos (cond (top 7 (less x lower)) f (cond (top 7 (less upper x)) f t)) ≡ spec.threshold_choice (Range (pos lower) (pos upper)) t f (pos x)
-between_is lower upper t f x =
-    ap pos (where_w8 (ltb x lower) f (cond (top 7 (less upper x)) f t) ∙ ap (λ n. cond (ltb x lower) f n) (where_w8 (ltb upper x) f t))
-    ∙ between (ltb x lower) (ltb upper x) lower upper x t f refl refl
+  pub differences_clamped : map pos ((both minus (largest one other) other).all 32 xs ys) ≡ zip2 (difference U8 Saturate) (map pos xs) (map pos ys)
+  differences_clamped = bytes_are (both minus (largest one other) other) (difference U8 Saturate) xs ys p q f h difference_clamped
+
+  pub distances_are : map pos ((both minus (largest one other) (smallest one other)).all 32 xs ys) ≡ zip2 (absolute_difference U8) (map pos xs) (map pos ys)
+  distances_are = bytes_are (both minus (largest one other) (smallest one other)) (absolute_difference U8) xs ys p q f h distance_is
+
+  pub smallest_are : map pos ((smallest one other).all 32 xs ys) ≡ zip2 smaller (map pos xs) (map pos ys)
+  smallest_are = bytes_are (smallest one other) smaller xs ys p q f h smaller_is
+
+  pub largest_are : map pos ((largest one other).all 32 xs ys) ≡ zip2 greater (map pos xs) (map pos ys)
+  largest_are = bytes_are (largest one other) greater xs ys p q f h greater_is
+
+  pub least_lanes : (smallest one other).all 32 xs ys ≡ zip2 min xs ys
+  least_lanes = lanes_are (smallest one other) (Fits w8) (Fits w8) min 32 xs ys p q f h (λ x y _ _. smallest_at x y)
+
+  pub greatest_lanes : (largest one other).all 32 xs ys ≡ zip2 max xs ys
+  greatest_lanes = lanes_are (largest one other) (Fits w8) (Fits w8) max 32 xs ys p q f h (λ x y _ _. largest_at x y)
+
+pub ands_are : (xs ys : List ℕ) → map pos (zip2 bit_and xs ys) ≡ zip2 and_bits (map pos xs) (map pos ys)
+ands_are = same_pairs pos pos pos bit_and and_bits (λ x y. refl)
+
+pub ors_are : (xs ys : List ℕ) → map pos (zip2 bit_or xs ys) ≡ zip2 or_bits (map pos xs) (map pos ys)
+ors_are = same_pairs pos pos pos bit_or or_bits (λ x y. refl)
+
+pub xors_are : (xs ys : List ℕ) → map pos (zip2 bit_xor xs ys) ≡ zip2 xor_bits (map pos xs) (map pos ys)
+xors_are = same_pairs pos pos pos bit_xor xor_bits (λ x y. refl)
+
+pub turned_are : (xs : List ℕ) → length xs ≡ 32 → Each1 (Fits w8) xs → map pos (map turned xs) ≡ map not_bits (map pos xs)
+turned_are xs p f = row_is (each turned one) not_bits xs p f turned_is
+
+pub ruleset sum_lanes = (sums_wrapped, sums_clamped)
+
+pub ruleset difference_lanes = (differences_wrapped, differences_clamped)
+
+pub ruleset extreme_lanes = (smallest_are, largest_are)
+
+pub ruleset rank_lanes = (least_lanes, greatest_lanes)
+
+pub ruleset bit_lanes = (ands_are, ors_are, xors_are, turned_are)

@@ -1,6 +1,6 @@
 -- The first items of a list of samples: the number that equal an item, and their least or greatest.
 use Rattle.std.proofs.Common.{◌≡◌, ℕ, ℤ, pos, negsuc, ◌+◌, ◌-◌, ◌*◌, ◌<◌, ◌≤◌, List, [], ◌∷◌, length, map, take, drop, get_or, cond, true, false, eqb, ap, ◌∙◌, sym, refl, arith, rules, inl, inr, to_z, of_z, w16, FitsSigned, count_by, slice_range, eq-eqb, ne_eqb, take_all}
-use Rattle.lane_rows.proofs.Names.{All, All-head, All-tail, IsSample, S16, cases_Bool, cases_eq, fold, int_eq, take-add, ints, to_z-of_z, take-map, drop-map, get_or-map, length-map, sum_by-append, sum_by-cons, sum_by_more, count_by-le-length, best_of, count_of}
+use Rattle.lane_rows.proofs.Common.{All, All-head, All-tail, IsSample, S16, cases_Bool, cases_eq, fold, int_eq, take-add, ints, to_z-of_z, take-map, drop-map, get_or-map, length-map, sum_by-append, sum_by-cons, sum_by_more, count_by-le-length, best_of, count_of}
 use Rattle.std.proofs.lemmas.Bool.Decides.{Decides-int_eq}
 use Rattle.std.proofs.lemmas.List.{take_more}
 use Rattle.std.proofs.lemmas.List.Sums.{sum_by-take-le, fold_push}
@@ -19,21 +19,11 @@ pub number_read : {T : Type 0} (value : T → ℤ) (row : List T) (i : ℕ) (r :
 number_read value row i r below is = ap value is ∙ sym (get_or-map value row i r (pos 0) below)
 
 -- one more sample is counted
-pub count_item : (v : ℤ) (zs : List ℤ) (i n : ℕ) (z : ℤ) → i < length zs → z ≡ get_or zs i (pos 0) → n ≡ count_of v (take i zs) → n + cond (int_eq z v) 1 0 ≡ count_of v (take (i + 1) zs)
-count_item v zs i n z below is so_far =
-    ap (λ m. m + cond (int_eq z v) 1 0) so_far
-    ∙ ap (λ w. count_of v (take i zs) + cond (int_eq w v) 1 0) is
-    ∙ sym (sum_by_more (λ s. cond (int_eq s v) 1 0) zs i (pos 0) below)
-
-module _ {T : Type 0} (value : T → ℤ) (v : ℤ) (row : List T) (i n : ℕ) (r : T) (below : i < length row) (is : r ≡ get_or row i r) (so_far : n ≡ count_of v (take i (map value row))) where
-  next_item : n + cond (int_eq (value r) v) 1 0 ≡ count_of v (take (i + 1) (map value row))
-  next_item = count_item v (map value row) i n (value r) (omega (arith, length-map row value)) (number_read value row i r below is) so_far
-
-  pub item_counted : int_eq (value r) v ≡ true → n + 1 ≡ count_of v (take (i + 1) (map value row))
-  item_counted same = omega (arith, next_item, ap (λ b. let m : ℕ = cond b 1 0 in m) same)
-
-  pub item_passed : int_eq (value r) v ≡ false → n ≡ count_of v (take (i + 1) (map value row))
-  item_passed other = omega (arith, next_item, ap (λ b. let m : ℕ = cond b 1 0 in m) other)
+pub item_counted : {T : Type 0} (value : T → ℤ) (v : ℤ) (row : List T) (i : ℕ) (r : T) → i < length row → r ≡ get_or row i r
+    → count_of v (take (i + 1) (map value row)) ≡ count_of v (take i (map value row)) + cond (int_eq (value r) v) 1 0
+item_counted value v row i r below is =
+    sum_by_more (λ s. cond (int_eq s v) 1 0) (map value row) i (pos 0) (omega (arith, length-map row value))
+    ∙ ap (λ w. count_of v (take i (map value row)) + cond (int_eq w v) 1 0) (sym (number_read value row i r below is))
 
 -- the numbers of 32 samples
 block_of : {T : Type 0} (value : T → ℤ) (row : List T) (k : ℕ) → map value (take (32 * k + 32 - 32 * k) (drop (32 * k) row)) ≡ take 32 (drop (32 * k) (map value row))
@@ -44,27 +34,26 @@ block_of value row k =
     ∙ ap (take 32) (sym (drop-map value (32 * k) row))
 
 -- one more block is counted
-pub block_counted : {T : Type 0} (value : T → ℤ) (v : ℤ) (row : List T) (k n m : ℕ) → n ≡ count_of v (take (32 * k) (map value row)) → m ≡ count_of v (map value (take (32 * k + 32 - 32 * k) (drop (32 * k) row))) → n + m ≡ count_of v (take (32 * (k + 1)) (map value row))
-block_counted value v row k n m before here =
+pub block_counted : {T : Type 0} (value : T → ℤ) (v : ℤ) (row : List T) (k : ℕ)
+    → count_of v (take (32 * (k + 1)) (map value row)) ≡ count_of v (take (32 * k) (map value row)) + count_of v (map value (take (32 * k + 32 - 32 * k) (drop (32 * k) row)))
+block_counted value v row k =
     let zs = map value row in
-    let next : 32 * k + 32 ≡ 32 * (k + 1) = omega arith in
-    omega (
-      arith,
-      before,
-      here ∙ ap (count_of v) (block_of value row k),
-      sum_by-append (λ s. cond (int_eq s v) 1 0) (take (32 * k) zs) (take 32 (drop (32 * k) zs)),
-      ap (count_of v) (take-add (32 * k) 32 zs),
-      ap (λ j. count_of v (take j zs)) next,
-    )
+    let next : 32 * (k + 1) ≡ 32 * k + 32 = omega arith in
+    ap (λ j. count_of v (take j zs)) next
+    ∙ ap (count_of v) (take-add (32 * k) 32 zs)
+    ∙ sum_by-append (λ s. cond (int_eq s v) 1 0) (take (32 * k) zs) (take 32 (drop (32 * k) zs))
+    ∙ ap (λ l. count_of v (take (32 * k) zs) + count_of v l) (sym (block_of value row k))
 
 -- a count is at most the number of samples
-pub counted_fits : {T : Type 0} (value : T → ℤ) (v : ℤ) (row : List T) (i n : ℕ) → n ≡ count_of v (take i (map value row)) → n ≤ length row
-counted_fits value v row i n is =
+pub count_fits : {T : Type 0} (value : T → ℤ) (v : ℤ) (row : List T) (i : ℕ) → count_of v (take i (map value row)) ≤ length row
+count_fits value v row i =
     omega (arith, sum_by-take-le (λ s. cond (int_eq s v) 1 0) (map value row) i, count_by-le-length (λ s. int_eq s v) (map value row), length-map row value)
 
 -- all are counted
-pub all_counted : {T : Type 0} (value : T → ℤ) (v : ℤ) (row : List T) (i n : ℕ) → length row ≤ i → n ≡ count_of v (take i (map value row)) → n ≡ count_of v (map value row)
-all_counted value v row i n end is = is ∙ ap (count_of v) (take_all i (map value row) (omega (arith, length-map row value)))
+pub all_counted : {T : Type 0} (value : T → ℤ) (v : ℤ) (row : List T) (i : ℕ) → length row ≤ i → count_of v (take i (map value row)) ≡ count_of v (map value row)
+all_counted value v row i end = ap (count_of v) (take_all i (map value row) (omega (arith, length-map row value)))
+
+pub ruleset counts = (item_counted, block_counted, count_fits, all_counted)
 
 same_test : (x v : ℕ) → eqb x v ≡ int_eq (pos x) (pos v)
 same_test x v = search (rules, ints)

@@ -31,12 +31,6 @@ up_is s k xs is small p =
     items_are (ups s) (Fits w8) (to_z w16) pos (λ a. a *ℤ pos (2 ^ k)) 32 xs p.0 p.1
     (λ x q. ap (λ e. to_z w16 (up x e)) is ∙ shifted x x k refl q.fits small)
 
-pub up_fits : (k : ℕ) (xs : List ℕ) → k ≤ 7 → Each1 (Fits w8) xs → Each1 (FitsSigned w16) (map (λ a. a *ℤ pos (2 ^ k)) (map pos xs))
-up_fits k [] small ps = tt
-up_fits k (x ∷ xs) small ps =
-    let power : 2 ^ k ≤ 128 = pow-le-pow_right (omega arith) small in
-    (record { sfits = product_below (2 ^ k) x power ps.0.fits }, up_fits k xs small ps.1)
-
 -- by no bit
 pub up_by_none : (xs : List ℕ) → map (λ a. a *ℤ pos (2 ^ 0)) (map pos xs) ≡ map pos xs
 up_by_none [] = refl

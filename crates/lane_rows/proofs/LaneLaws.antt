@@ -1,9 +1,9 @@
 -- Arithmetic on unsigned numbers, lane by lane.
-use Rattle.std.proofs.Common.{◌≡◌, ℕ, ℤ, pos, ◌*◌, ◌/◌, ◌%◌, ◌^◌, ◌<◌, List, [], ◌∷◌, map, Bool, true, false, cond, min, ltb, w8, Fits, refl, ap, ◌∙◌, sym, subst, arith, bit_and}
-use Rattle.lane_rows.proofs.Common.{zip2, ints, clamps, U8, Wrap, Saturate, narrow, top}
+use Rattle.std.proofs.Common.{◌≡◌, ℕ, pos, ◌*◌, ◌/◌, ◌%◌, ◌^◌, ◌<◌, List, length, map, w16, Bool, true, false, cond, min, ltb, w8, Fits, refl, ap, ◌∙◌, sym, subst, arith, bit_and}
+use Rattle.lane_rows.proofs.Common.{zip2, Each1, ints, clamps, U8, Policy, Wrap, Saturate, narrow, product, top}
 use Rattle.std.proofs.lemmas.Nat.{and_mask}
 use Rattle.std.proofs.lemmas.Simd.{map-map}
-use Rattle.lane_rows.proofs.Lanewise.{Lanewise, one, other, constant, each, both, chosen, same_pairs}
+use Rattle.lane_rows.proofs.Lanewise.{Lanewise, one, other, constant, each, both, chosen, items_are, pairs_are, each_is}
 
 -- products of bytes in 16 bits, over a power of two
 abbrev pub products : ℕ → Lanewise ℕ ℕ ℕ
@@ -48,20 +48,29 @@ wrapped_lane x = and_mask x 8
 pub wrapped_fits : (x : ℕ) → Fits w8 (bit_and x 255)
 wrapped_fits x = let e : x % 256 < 256 = omega arith in subst (Fits w8) (sym (wrapped_lane x)) (record { fits = e })
 
--- ---- pairs
-
-pub numbers : (g : ℤ → ℤ) (h : ℕ → ℕ → ℕ) (f : ℤ → ℤ → ℤ) → ((x y : ℕ) → g (pos (h x y)) ≡ f (pos x) (pos y)) → (xs ys : List ℕ) → map g (map pos (zip2 h xs ys)) ≡ zip2 f (map pos xs) (map pos ys)
-numbers g h f same xs ys = map-map g pos (zip2 h xs ys) ∙ same_pairs (λ n. g (pos n)) pos pos h f same xs ys
-
 -- ---- numbers that become bytes
 
 pub clamp_pos : (n : ℕ) → pos (min n 255) ≡ narrow U8 Saturate (pos n)
 clamp_pos n = grind (arith, ints, clamps)
 
-pub clamped_bytes : (ns : List ℕ) → map pos (map (λ n. min n 255) ns) ≡ map (narrow U8 Saturate) (map pos ns)
-clamped_bytes [] = refl
-clamped_bytes (n ∷ ns) = cc (clamp_pos n, clamped_bytes ns)
+module _ (ns : List ℕ) (p : length ns ≡ 32) (f : Each1 (Fits w16) ns) where
+  pub clamped_are : map pos ((each (λ n. n) clamped_ones).all 32 ns ns) ≡ map (narrow U8 Saturate) (map pos ns)
+  clamped_are = items_are (each (λ n. n) clamped_ones) (Fits w16) pos pos (narrow U8 Saturate) 32 ns p f (λ x _. ap pos (clamped_lane x) ∙ clamp_pos x)
 
-pub wrapped_bytes : (ns : List ℕ) → map pos (map (λ n. n % 256) ns) ≡ map (narrow U8 Wrap) (map pos ns)
-wrapped_bytes [] = refl
-wrapped_bytes (n ∷ ns) = ap (λ l. pos (n % 256) ∷ l) (wrapped_bytes ns)
+  pub clamped_fit : Each1 (Fits w8) (clamped_ones.all 32 ns ns)
+  clamped_fit = each_is clamped_ones (Fits w16) (Fits w16) (Fits w8) 32 ns ns p p f f (λ x _ _ _. clamped_fits x)
+
+  pub wrapped_are : map pos ((each (λ n. n) wrapped_ones).all 32 ns ns) ≡ map (narrow U8 Wrap) (map pos ns)
+  wrapped_are = items_are (each (λ n. n) wrapped_ones) (Fits w16) pos pos (narrow U8 Wrap) 32 ns p f (λ x _. ap pos (wrapped_lane x))
+
+  pub wrapped_fit : Each1 (Fits w8) (wrapped_ones.all 32 ns ns)
+  wrapped_fit = each_is wrapped_ones (Fits w16) (Fits w16) (Fits w8) 32 ns ns p p f f (λ x _ _ _. wrapped_fits x)
+
+pub ruleset narrow_lanes = (clamped_are, clamped_fit, wrapped_are, wrapped_fit)
+
+-- products of bytes over a power of two, narrowed
+pub products_narrowed : (k : ℕ) (policy : Policy) (xs ys : List ℕ) → length xs ≡ 32 → length ys ≡ 32 → Each1 (Fits w8) xs → Each1 (Fits w8) ys
+    → map (narrow U8 policy) (map pos ((products k).all 32 xs ys)) ≡ zip2 (product U8 policy k) (map pos xs) (map pos ys)
+products_narrowed k policy xs ys p q f g =
+    map-map (narrow U8 policy) pos ((products k).all 32 xs ys)
+    ∙ pairs_are (products k) (Fits w8) (Fits w8) (λ n. narrow U8 policy (pos n)) pos pos (product U8 policy k) 32 xs ys p q f g (λ x y f g. ap (λ n. narrow U8 policy (pos n)) (product_lane x y k k refl f g))

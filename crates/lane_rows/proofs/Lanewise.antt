@@ -1,6 +1,7 @@
 -- Branch-free code over the lanes of two vectors: all lanes, and a single one.
-use Rattle.std.proofs.Common.{◌≡◌, ℕ, List, [], ◌∷◌, length, map, Bool, cond, replicate, refl, ap, ◌∙◌, sym, subst, arith, zero, suc, map-id}
-use Rattle.lane_rows.proofs.Common.{zip2, Each1, sel_l}
+use Rattle.std.proofs.Common.{◌≡◌, ℕ, List, [], ◌∷◌, length, map, Bool, cond, replicate, refl, ap, ◌∙◌, sym, subst, arith, map-id}
+use Rattle.lane_rows.proofs.Common.{zip2, Each1, sel_l, length-zip2}
+use Rattle.std.proofs.lemmas.Simd.{splat_is_map}
 
 pub record Lanewise (A B C : Type 0) : Type 0 where
   pub all : ℕ → List A → List B → List C
@@ -25,25 +26,19 @@ sel-zip2 t m g k [] ys = refl
 sel-zip2 t m g k (x ∷ xs) [] = refl
 sel-zip2 t m g k (x ∷ xs) (y ∷ ys) = ap (λ l. cond (t (m x y)) (g x y) (k x y) ∷ l) (sel-zip2 t m g k xs ys)
 
-pub const-zip2 : {A B C : Type 0} (c : C) (n : ℕ) (xs : List A) (ys : List B) → length xs ≡ n → length ys ≡ n → replicate n c ≡ zip2 (λ a b. c) xs ys
-const-zip2 c zero [] ys p q = refl
-const-zip2 c (suc n) [] ys p q = absurd (omega (arith, p))
-const-zip2 c zero (x ∷ xs) ys p q = absurd (omega (arith, p))
-const-zip2 c (suc n) (x ∷ xs) [] p q = absurd (omega (arith, q))
-const-zip2 c (suc n) (x ∷ xs) (y ∷ ys) p q = ap (λ l. c ∷ l) (const-zip2 c n xs ys (omega (arith, p)) (omega (arith, q)))
-
 pub left-zip2 : {A B : Type 0} (n : ℕ) (xs : List A) (ys : List B) → length xs ≡ n → length ys ≡ n → xs ≡ zip2 (λ a b. a) xs ys
 left-zip2 n [] ys p q = refl
 left-zip2 n (x ∷ xs) [] p q = absurd (omega (arith, p, q))
-left-zip2 zero (x ∷ xs) (y ∷ ys) p q = absurd (omega (arith, p))
-left-zip2 (suc n) (x ∷ xs) (y ∷ ys) p q = ap (λ l. x ∷ l) (left-zip2 n xs ys (omega (arith, p)) (omega (arith, q)))
+left-zip2 n (x ∷ xs) (y ∷ ys) p q = ap (λ l. x ∷ l) (left-zip2 (length xs) xs ys refl (omega (arith, p, q)))
 
 pub right-zip2 : {A B : Type 0} (n : ℕ) (xs : List A) (ys : List B) → length xs ≡ n → length ys ≡ n → ys ≡ zip2 (λ a b. b) xs ys
 right-zip2 n [] [] p q = refl
-right-zip2 n [] (y ∷ ys) p q = absurd (omega (arith, p, q))
 right-zip2 n (x ∷ xs) [] p q = refl
-right-zip2 zero (x ∷ xs) (y ∷ ys) p q = absurd (omega (arith, p))
-right-zip2 (suc n) (x ∷ xs) (y ∷ ys) p q = ap (λ l. y ∷ l) (right-zip2 n xs ys (omega (arith, p)) (omega (arith, q)))
+right-zip2 n [] (y ∷ ys) p q = absurd (omega (arith, p, q))
+right-zip2 n (x ∷ xs) (y ∷ ys) p q = ap (λ l. y ∷ l) (right-zip2 (length xs) xs ys refl (omega (arith, p, q)))
+
+pub const-zip2 : {A B C : Type 0} (c : C) (n : ℕ) (xs : List A) (ys : List B) → length xs ≡ n → length ys ≡ n → replicate n c ≡ zip2 (λ a b. c) xs ys
+const-zip2 c n xs ys p q = splat_is_map xs n c p ∙ ap (map (λ a. c)) (left-zip2 n xs ys p q) ∙ map-zip2 (λ a. c) (λ a b. a) xs ys
 
 -- ---- how code is put together
 
@@ -77,6 +72,10 @@ chosen t m e f = record {
       ∙ sel-zip2 t m.at e.at f.at xs ys;
 }
 
+-- the code gives as many lanes as it gets
+pub length-all : {A B C : Type 0} (e : Lanewise A B C) (n : ℕ) (xs : List A) (ys : List B) → length xs ≡ n → length ys ≡ n → length (e.all n xs ys) ≡ n
+length-all e n xs ys p q = ap length (e.same n xs ys p q) ∙ length-zip2 e.at xs ys (p ∙ sym q) ∙ p
+
 -- ---- from one place to all
 
 pub same_pairs : {A B C D E F : Type 0} (u : C → F) (v : A → D) (w : B → E) (g : A → B → C) (f : D → E → F) → ((a : A) (b : B) → u (g a b) ≡ f (v a) (w b)) → (xs : List A) (ys : List B)
@@ -85,7 +84,7 @@ same_pairs u v w g f at [] ys = refl
 same_pairs u v w g f at (x ∷ xs) [] = refl
 same_pairs u v w g f at (x ∷ xs) (y ∷ ys) = cc (at x y, same_pairs u v w g f at xs ys)
 
-alike : {A B C D E F : Type 0} (P : A → Type 0) (Q : B → Type 0) (u : C → F) (v : A → D) (w : B → E) (g : A → B → C) (f : D → E → F) (xs : List A) (ys : List B)
+pub alike : {A B C D E F : Type 0} (P : A → Type 0) (Q : B → Type 0) (u : C → F) (v : A → D) (w : B → E) (g : A → B → C) (f : D → E → F) (xs : List A) (ys : List B)
     → Each1 P xs → Each1 Q ys → ((a : A) (b : B) → P a → Q b → u (g a b) ≡ f (v a) (w b)) → map u (zip2 g xs ys) ≡ zip2 f (map v xs) (map w ys)
 alike P Q u v w g f [] ys ps qs at = refl
 alike P Q u v w g f (x ∷ xs) [] ps qs at = refl

@@ -10,9 +10,8 @@ mod QuarterLaws
 mod ShortLaws
 mod NarrowLaws
 mod ShortLanes
-mod TestLanes
+mod ThresholdLaws
 mod StoreLaws
-mod Names
 pub mod CountLaws
 mod RunningLaws
 mod TallyLaws
@@ -26,7 +25,6 @@ mod ThreeLaws
 mod SampleLaws
 mod DepthLaws
 mod SumLaws
-mod PairNames
 pub mod BitLaws
 mod PairLaws
 mod AddLaws

@@ -1,6 +1,6 @@
 -- Rows of a matrix that are added one after another.
 use Rattle.std.proofs.Common.{◌≡◌, ℕ, ℤ, pos, zero, get_or, ◌+◌, ◌-◌, ◌*◌, ◌<◌, ◌≤◌, List, [], ◌∷◌, ◌++◌, length, map, take, drop, replicate, refl, ap, ◌∙◌, sym, subst, arith, add-one, suc, w32, to_z, of_z, ◌+ℤ◌, unsigned_abs, All}
-use Rattle.lane_rows.proofs.PairNames.{MatrixRows, matrix_sum, Each1, chunk, pick_l, length-map, Each1-chunk, length-chunk, to_z-of_z, run, run-same, IsNear, row_sum, line_of, sum_of_rows}
+use Rattle.lane_rows.proofs.Common.{MatrixRows, matrix_sum, Each1, chunk, pick_l, length-map, Each1-chunk, length-chunk, to_z-of_z, run, run-same, IsNear, row_sum, line_of, sum_of_rows}
 use Rattle.std.proofs.lemmas.Simd.{Each1-replicate, Each1-from_get_or}
 use Rattle.lane_rows.proofs.BitLaws.{picked, fits_32, each_fits_32, up_to_more, Each1-append}
 use Rattle.lane_rows.proofs.ShortLaws.{of_bits}
@@ -47,7 +47,7 @@ module _ (m : MatrixRows) (place l : ℕ) (sums : List ℕ) (are : AreSums m pla
   row_added next row table is_row is_table few some value len limit =
       let S = λ (n i : ℕ). sum_of_rows m.rows.now m.line m.tables.now m.pairs n (place + 2 * i) in
       let near = up_to_more (l * 83558400 + m.pairs * 16711680) ((l + 1) * 83558400) next (omega arith) (limit (l * 83558400) are.limit) in
-      let same : map (to_z w32) (map (of_z w32) next) ≡ next = of_bits w32 next (each_fits_32 next (up_to_more ((l + 1) * 83558400) 752025600 next (omega arith) near)) in
+      let same : map (to_z w32) (map (of_z w32) next) ≡ next = of_bits w32 next (each_fits_32 ((l + 1) * 83558400) (omega arith) next near) in
       record {
         value = rw (same, value (S l) are.value, is_row, is_table, add-one l) refl;
         len = length-map next (of_z w32) ∙ len;
@@ -79,7 +79,7 @@ stored_bits : (xs : List ℤ) → Each1 (IsNear 752025600) xs → stored (map (o
 unfolding stored
 stored_bits [] near = refl
 stored_bits (x ∷ xs) near =
-    let same = to_z-of_z w32 x (fits_32 x near.0) in
+    let same = to_z-of_z w32 x (fits_32 752025600 (omega arith) x near.0) in
     cc (ap (λ z. to_z w32 (of_z w32 z)) same ∙ same, stored_bits xs near.1)
 
 in_turn : List ℕ

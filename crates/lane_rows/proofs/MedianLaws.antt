@@ -1,9 +1,10 @@
 -- The median of nine.
-use Rattle.std.proofs.Common.{◌≡◌, ℕ, ℤ, pos, ◌+◌, ◌<◌, ◌≤◌, ◌<ℤ◌, Bool, true, false, ◌&&◌, ◌||◌, List, [], ◌∷◌, length, nat_le, min, max, refl, ap, ◌∙◌, sym, arith, leb-true, le-leb, cond, zero, suc, subst, int_lt, int_le, unwrap_or, Option, Some, Contains}
+use Rattle.std.proofs.Common.{◌≡◌, ℕ, ℤ, pos, ◌+◌, ◌<◌, ◌≤◌, ◌<ℤ◌, Bool, true, false, ◌&&◌, ◌||◌, List, [], ◌∷◌, length, nat_le, min, max, refl, ap, ◌∙◌, sym, arith, leb-true, le-leb, cond, zero, suc, subst, int_lt, int_le, unwrap_or, Some, Contains, inl, inr}
 use Rattle.lane_rows.proofs.Common.{ints}
 use Rattle.std.specs.Int.{int_min, int_max}
 use Rattle.std.specs.List.{count_by, find}
 use Rattle.std.proofs.lemmas.Int.{by_lt_z}
+use Rattle.std.proofs.lemmas.Bool.{cases_Bool}
 use Rattle.std.proofs.lemmas.List.Sums.{sum_by-cons}
 use Rattle.vx_base.specs.Window.{is_middle, median}
 use Rattle.lane_rows.specs.Ranks.{middle_of_nine}
@@ -123,18 +124,15 @@ from_middle_test zs v h =
 other_counted : (z v : ℤ) → (z ≡ v → ⊥) → 1 ≤ one (int_lt z v) + one (int_lt v z)
 other_counted z v other = grind (arith, ints)
 
-found_here : (p : ℤ → Bool) (v z : ℤ) (zs : List ℤ) (b : Bool) → p z ≡ b → p v ≡ true → ((z : ℤ) → p z ≡ true → z ≡ v)
-    → (count_by (λ z. int_lt z v) zs + count_by (λ z. int_lt v z) zs < length zs → find p zs ≡ Some v)
-    → count_by (λ z. int_lt z v) (z ∷ zs) + count_by (λ z. int_lt v z) (z ∷ zs) < length (z ∷ zs) → cond b (Some z) (find p zs) ≡ Some v
-found_here p v z zs true e is unique later room = ap Some (unique z e)
-found_here p v z zs false e is unique later room =
-    let other = other_counted z v (λ same. let here : p z ≡ true = ap p same ∙ is in cc) in
-    later (omega (arith, counted (λ z. int_lt z v) z zs, counted (λ z. int_lt v z) z zs, other, room))
-
 -- the first of the numbers that is in the middle is the one that is
 found : (p : ℤ → Bool) (v : ℤ) (zs : List ℤ) → p v ≡ true → ((z : ℤ) → p z ≡ true → z ≡ v) → count_by (λ z. int_lt z v) zs + count_by (λ z. int_lt v z) zs < length zs → find p zs ≡ Some v
 found p v [] is unique room = absurd (omega arith)
-found p v (z ∷ zs) is unique room = found_here p v z zs (p z) refl is unique (λ h. found p v zs is unique h) room
+found p v (z ∷ zs) is unique room = elim (cases_Bool (p z)) [
+  | inl here ↦ rw here (ap Some (unique z here))
+  | inr fails ↦ (
+      let other = other_counted z v (λ same. let here : p z ≡ true = ap p same ∙ is in cc) in
+      rw fails (found p v zs is unique (omega (arith, counted (λ z. int_lt z v) z zs, counted (λ z. int_lt v z) z zs, other, room))))
+]
 
 found_middle : (zs : List ℤ) (v : ℤ) → length zs ≡ 9 → IsMiddle zs v → find (is_middle zs) zs ≡ Some v
 found_middle zs v long h =
@@ -145,13 +143,12 @@ pub median_is : (zs : List ℤ) (v : ℤ) → length zs ≡ 9 → IsMiddle zs v 
 median_is zs v long h = ap (λ o. unwrap_or o (pos 0)) (found_middle zs v long h)
 
 -- a number that is found is among those that were looked through
-among_here : (v z : ℤ) (zs : List ℤ) (o : Option ℤ) (b : Bool) → (o ≡ Some v → Contains zs v) → cond b (Some z) o ≡ Some v → Contains (z ∷ zs) v
-among_here v z zs o true later e = let same : z ≡ v = cc in (0, omega arith, same)
-among_here v z zs o false later e = let k = later e in (suc k.0, omega (arith, k.1), k.2)
-
 among : (p : ℤ → Bool) (v : ℤ) (zs : List ℤ) → find p zs ≡ Some v → Contains zs v
 among p v [] e = cc
-among p v (z ∷ zs) e = among_here v z zs (find p zs) (p z) (λ h. among p v zs h) e
+among p v (z ∷ zs) e = elim (cases_Bool (p z)) [
+  | inl here ↦ (let same : z ≡ v = cc (rw here at e) in (0, omega arith, same))
+  | inr fails ↦ (let k = among p v zs (rw fails at e) in (suc k.0, omega (arith, k.1), k.2))
+]
 
 pub median_of_nine : (a b c d e f g h i : ℤ) → median (a ∷ b ∷ c ∷ d ∷ e ∷ f ∷ g ∷ h ∷ i ∷ []) ≡ middle_of_nine int_min int_max a b c d e f g h i
 median_of_nine a b c d e f g h i = median_is (a ∷ b ∷ c ∷ d ∷ e ∷ f ∷ g ∷ h ∷ i ∷ []) (middle_of_nine int_min int_max a b c d e f g h i) refl (middle_is_middle a b c d e f g h i)

@@ -1,11 +1,13 @@
 -- Numbers in lanes, narrowed.
 use Rattle.std.proofs.Common.{◌≡◌, Bool, true, false, cond, inl, inr, ℕ, ℤ, pos, negsuc, suc, ◌-◌, ◌*◌, ◌/◌, ◌%◌, ◌^◌, ◌<◌, ◌≤◌, int_lt, int_div, unsigned_abs, List, [], ◌∷◌, map, length, refl, ap, ◌∙◌, sym, subst, arith, w8, w16, w32, Fits, FitsSigned, to_z, of_z, ◌*ℤ◌, pow_pos}
-use Rattle.lane_rows.proofs.Common.{shr_z, zip2, Each1, cases_lt, nat_tests, ints, clamps, to_z-of_z, to_z_pos, U8, S16, Policy, Wrap, Saturate, narrow, product, top, Width}
+use Rattle.lane_rows.proofs.Common.{shr_z, zip2, Each1, cases_lt, nat_tests, ints, clamps, to_z-of_z, to_z_pos, U8, S16, Policy, Wrap, Saturate, narrow, product, top, Width, swap_quarters, length-zip2}
 use Rattle.std.specs.Int.{int_rem_euclid, int_min, int_max}
 use Rattle.std.proofs.lemmas.Int.{quot_fits}
 use Rattle.vx_base.specs.Sample.{signed_of, clamp}
-use Rattle.lane_rows.proofs.Lanewise.{Lanewise, one, constant, each, both, chosen, numbers_are, each_is}
-use Rattle.lane_rows.proofs.ShortLaws.{of_bits, told, products_fit, wider}
+use Rattle.lane_rows.proofs.Lanewise.{Lanewise, one, constant, each, both, chosen, numbers_are, each_is, map-zip2}
+use Rattle.lane_rows.proofs.ShortLaws.{of_bits, fit_as_bits, wider}
+use Rattle.lane_rows.proofs.QuarterLaws.{written_out}
+use Rattle.std.proofs.lemmas.Simd.{map-map}
 use lib.Dec.{T}
 use lib.Signed.{non_neg}
 
@@ -152,17 +154,11 @@ quotients_fit k (z ∷ zs) fits =
     let some : 0 < 2 ^ k = pow_pos k in
     (quot_fits w32 z (pos (2 ^ k)) fits.0 (omega (arith, ints, some)), quotients_fit k zs fits.1)
 
-pub products_narrowed : (policy : Policy) (k : ℕ) (us vs : List ℤ) → map (narrow S16 policy) (map (λ z. int_div z (pos (2 ^ k))) (zip2 ◌*ℤ◌ us vs)) ≡ zip2 (product S16 policy k) us vs
-products_narrowed policy k [] vs = refl
-products_narrowed policy k (a ∷ us) [] = refl
-products_narrowed policy k (a ∷ us) (b ∷ vs) = ap (λ l. product S16 policy k a b ∷ l) (products_narrowed policy k us vs)
+pub products_narrowed : (policy : Policy) (k : ℕ) (us vs : List ℤ) → length us ≡ 16 → length vs ≡ 16
+    → swap_quarters (map (narrow S16 policy) (map (λ z. int_div z (pos (2 ^ k))) (swap_quarters (zip2 ◌*ℤ◌ us vs)))) ≡ zip2 (product S16 policy k) us vs
+products_narrowed policy k us vs p q =
+    let over = λ (z : ℤ). int_div z (pos (2 ^ k)) in
+    written_out (pos 0) (λ u. swap_quarters (map (narrow S16 policy) (map over (swap_quarters u))) ≡ map (narrow S16 policy) (map over u)) (zip2 ◌*ℤ◌ us vs) (length-zip2 ◌*ℤ◌ us vs (p ∙ sym q) ∙ p) refl
+    ∙ ap (map (narrow S16 policy)) (map-zip2 over ◌*ℤ◌ us vs) ∙ map-zip2 (narrow S16 policy) (λ x y. over (x *ℤ y)) us vs
 
-pub narrowed_products_fit : (policy : Policy) (k : ℕ) (us vs : List ℤ) → Each1 (FitsSigned w16) us → Each1 (FitsSigned w16) vs → Each1 (FitsSigned w16) (zip2 (product S16 policy k) us vs)
-narrowed_products_fit policy k us vs f g =
-    subst (Each1 (FitsSigned w16)) (products_narrowed policy k us vs) (narrow_fits policy (map (λ z. int_div z (pos (2 ^ k))) (zip2 ◌*ℤ◌ us vs)) (quotients_fit k (zip2 ◌*ℤ◌ us vs) (products_fit us vs f g)))
-
--- results of lanes as bits
-pub products_told : (policy : Policy) (k : ℕ) (us vs ps : List ℤ) → Each1 (FitsSigned w16) us → Each1 (FitsSigned w16) vs
-    → ps ≡ zip2 (product S16 policy k) (map (to_z w16) (map (of_z w16) us)) (map (to_z w16) (map (of_z w16) vs)) → map (to_z w16) (map (of_z w16) ps) ≡ zip2 (product S16 policy k) us vs
-products_told policy k us vs ps f g is =
-    told w16 ps (zip2 (product S16 policy k) us vs) (rw (of_bits w16 us f, of_bits w16 vs g) at is) (narrowed_products_fit policy k us vs f g)
+pub ruleset scale_lanes = (of_bits, fit_as_bits, map-map)

@@ -1,6 +1,6 @@
 -- Results for the nine samples of windows, lane by lane.
-use Rattle.std.proofs.Common.{◌≡◌, ℕ, ℤ, pos, List, [], ◌∷◌, map, Bool, cond, refl, ap, ◌∙◌}
-use Rattle.lane_rows.proofs.Common.{range_with_len, sel_l, zip2}
+use Rattle.std.proofs.Common.{◌≡◌, ℕ, ℤ, pos, List, [], ◌∷◌, map, refl, ap, ◌∙◌}
+use Rattle.lane_rows.proofs.Common.{range_with_len, zip2}
 use Rattle.std.proofs.lemmas.Simd.{map-map}
 use Rattle.vx_base.specs.Image.{run}
 use Rattle.vx_base.proofs.TableLaws.{run-same}
@@ -8,18 +8,6 @@ use Rattle.std.specs.Prelude.{slice_index}
 use Rattle.lane_rows.specs.declared.nine_rows.Nine.{Nine}
 use Rattle.lane_rows.specs.Windows.{nine_at}
 use Rattle.lane_rows.specs.Ranks.{chosen_of_nine, middle_of_nine}
-
--- ---- the lesser and the greater lanes of two vectors
-
-pub chosen_pairs : (t : ℕ → Bool) (m : ℕ → ℕ → ℕ) (f : ℕ → ℕ → ℕ) → ((x y : ℕ) → cond (t (m x y)) x y ≡ f x y) → (xs ys : List ℕ) → sel_l (map t (zip2 m xs ys)) xs ys ≡ zip2 f xs ys
-chosen_pairs t m f same [] ys = refl
-chosen_pairs t m f same (x ∷ xs) [] = refl
-chosen_pairs t m f same (x ∷ xs) (y ∷ ys) = cc (same x y, chosen_pairs t m f same xs ys)
-
-pub chosen_turned : (t : ℕ → Bool) (m : ℕ → ℕ → ℕ) (f : ℕ → ℕ → ℕ) → ((x y : ℕ) → cond (t (m x y)) y x ≡ f x y) → (xs ys : List ℕ) → sel_l (map t (zip2 m xs ys)) ys xs ≡ zip2 f xs ys
-chosen_turned t m f same [] ys = refl
-chosen_turned t m f same (x ∷ xs) [] = refl
-chosen_turned t m f same (x ∷ xs) (y ∷ ys) = cc (same x y, chosen_turned t m f same xs ys)
 
 pub same_three : {A B : Type 0} (g : A → A → A → B) {a b c p q r : A} → a ≡ p → b ≡ q → c ≡ r → g a b c ≡ g p q r
 same_three g x y z = cc (x, y, z)

@@ -1,6 +1,6 @@
 -- Sums at every second place of a row.
 use Rattle.std.proofs.Common.{map, length, ◌≡◌, ℕ, ℤ, pos, zero, suc, ◌+◌, ◌*◌, ◌≤◌, List, ◌∷◌, ◌++◌, get_or, take, drop, refl, ap, ◌∙◌, sym, arith, add-one, ◌+ℤ◌, w32, to_z, of_z, ◌*ℤ◌}
-use Rattle.lane_rows.proofs.PairNames.{zip2, chunk, Each1, ints, run, run-same, run-append, run_shifted, IsNear, evens_of, odds_of, alternation, pair_at, row_sum, first_of_pair, second_of_pair}
+use Rattle.lane_rows.proofs.Common.{zip2, chunk, Each1, ints, run, run-same, run-append, run_shifted, IsNear, evens_of, odds_of, alternation, pair_at, row_sum, first_of_pair, second_of_pair}
 use Rattle.std.proofs.Math.Seq.{drop-cons}
 
 twice : ℕ → ℕ

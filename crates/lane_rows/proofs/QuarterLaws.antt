@@ -20,7 +20,7 @@ exchanged-zip2 d e f xs ys p q =
     written_out d (λ u. swap_quarters (zip2 f u ys) ≡ zip2 f (swap_quarters u) (swap_quarters ys)) xs p
     (written_out e (λ v. swap_quarters (zip2 f (pick_l d xs (range_with_len 0 16)) v) ≡ zip2 f (swap_quarters (pick_l d xs (range_with_len 0 16))) (swap_quarters v)) ys q refl)
 
-Each1-append : {A : Type 0} (P : A → Type 0) (xs ys : List A) → Each1 P xs → Each1 P ys → Each1 P (xs ++ ys)
+pub Each1-append : {A : Type 0} (P : A → Type 0) (xs ys : List A) → Each1 P xs → Each1 P ys → Each1 P (xs ++ ys)
 Each1-append P [] ys f g = g
 Each1-append P (x ∷ xs) ys f g = (f.0, Each1-append P xs ys f.1 g)
 

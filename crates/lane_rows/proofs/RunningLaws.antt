@@ -1,6 +1,6 @@
 -- Running sums in lanes, sixteen at a time.
 use Rattle.std.proofs.Common.{◌≡◌, ℕ, ◌+◌, ◌-◌, ◌%◌, ◌<◌, ◌≤◌, List, [], ◌∷◌, ◌++◌, zero, suc, length, map, take, drop, get_or, set, replicate, refl, ap, ◌∙◌, sym, subst, w8, Fits, arith, take-take, take_all}
-use Rattle.lane_rows.proofs.Names.{sum, range_with_len, take-add, map-append, sum_by-append, sum_by_more, length-chunk, range-append, sum_below}
+use Rattle.lane_rows.proofs.Common.{sum, range_with_len, take-add, map-append, sum_by-append, sum_by_more, length-chunk, range-append, sum_below}
 use Rattle.std.specs.Simd.Lanes.{zip2, Each1, pick_l, chunk, put_chunk}
 use Rattle.std.proofs.lemmas.List.{take_more_set}
 use Rattle.std.proofs.lemmas.List.FromFn.{map-range_with_len_more}

@@ -1,12 +1,12 @@
 -- Numbers of 16 bits in lanes: their products in 32 bits.
-use Rattle.std.proofs.Common.{rules, ◌≡◌, ℕ, ℤ, pos, negsuc, suc, ◌+◌, ◌-◌, ◌*◌, ◌/◌, ◌%◌, ◌^◌, ◌<◌, ◌≤◌, List, [], ◌∷◌, ◌++◌, map, length, replicate, refl, ap, ◌∙◌, sym, subst, arith, w16, w32, FitsSigned, to_z, of_z, ◌*ℤ◌, unsigned_abs}
+use Rattle.std.proofs.Common.{rules, ◌≡◌, ℕ, ℤ, pos, negsuc, suc, ◌+◌, ◌-◌, ◌*◌, ◌/◌, ◌%◌, ◌^◌, ◌<◌, ◌≤◌, List, [], ◌∷◌, ◌++◌, map, length, take, take_all, refl, ap, ◌∙◌, sym, subst, arith, w16, w32, FitsSigned, to_z, of_z, ◌*ℤ◌, unsigned_abs}
 use Rattle.lane_rows.proofs.Common.{shr_z, range_with_len, zip2, Each1, pick_l, number_l, digits_l, ints, to_z-of_z, int_wrap_fits, fits_signed_from_abs, length-zip2, length-map, swap_quarters, Width}
 use Rattle.std.proofs.lemmas.Int.{of_z-to_z, wrapping_mul_is, unsigned_abs-mul}
 use Rattle.std.proofs.lemmas.Nat.{mul-le, mul-mod}
 use Rattle.std.proofs.Math.Facts.{Fits-of_z}
 use Rattle.lane_rows.proofs.ScaleLaws.{shift_fits}
 use Rattle.lane_rows.proofs.DigitLaws.{recast}
-use Rattle.lane_rows.proofs.Lanewise.{Lanewise, one, other, constant, each, both, lanes_are, each_is, each_of, map-zip2}
+use Rattle.lane_rows.proofs.Lanewise.{Lanewise, one, other, constant, each, both, lanes_are, each_is, each_of, map-zip2, length-all}
 use Rattle.lane_rows.proofs.QuarterLaws.{written_out, length-exchanged, exchanged-map, exchanged-zip2, Each1-exchanged, exchanged_in_lanes}
 use mir.Val.{bits}
 
@@ -20,9 +20,15 @@ of_bits w (x ∷ xs) ps = cc (to_z-of_z w x ps.0, of_bits w xs ps.1)
 pub fit_as_bits : (w : Width) (xs : List ℤ) → Each1 (FitsSigned w) xs → Each1 (FitsSigned w) (map (to_z w) (map (of_z w) xs))
 fit_as_bits w xs ps = subst (Each1 (FitsSigned w)) (sym (of_bits w xs ps)) ps
 
+pub ruleset read_bits = (of_bits, fit_as_bits)
+
 -- lanes equal to numbers that fit can be read back from their bits
 pub told : (w : Width) (xs ys : List ℤ) → xs ≡ ys → Each1 (FitsSigned w) ys → map (to_z w) (map (of_z w) xs) ≡ ys
 told w xs ys is fits = ap (λ l. map (to_z w) (map (of_z w) l)) is ∙ of_bits w ys fits
+
+-- all items of a row, read back from their bits
+pub read_whole : (w : Width) (n : ℕ) (xs : List ℤ) → length xs ≡ n → Each1 (FitsSigned w) xs → (map (to_z w) (map (of_z w) (take n xs)) ≡ xs) × Each1 (FitsSigned w) (map (to_z w) (map (of_z w) (take n xs)))
+read_whole w n xs long fits = let is = told w (take n xs) xs (take_all n xs (omega (arith, long))) fits in (is, subst (Each1 (FitsSigned w)) (sym is) fits)
 
 -- ---- two lists, an item of each in turn
 
@@ -109,25 +115,19 @@ two_halves a b p q = rw (low_half a b p q, high_half a b p q) (omega arith)
 
 -- ---- all of them
 
--- the lower and the upper 16 bits of the products
-abbrev low_halves : List ℕ → List ℕ → List ℕ
-low_halves xs ys = zip2 (λ x y. (x * y) % 65536) xs ys
+-- the lower 16 bits of the products; the products in 32 bits, shifted; the upper 16 bits
+abbrev lows : Lanewise ℤ ℤ ℕ
+lows = both (λ x y. (x * y) % 65536) (each (of_z w16) one) (each (of_z w16) other)
 
-abbrev high_halves : ℕ → List ℕ → List ℕ → List ℕ
-high_halves n xs ys =
-    map (λ z. of_z w16 (to_z w32 z)) (zip2 (λ z k. of_z w32 (shr_z (to_z w32 z) (2 ^ k)))
-    (zip2 (λ x y. (x * y) % 4294967296) (map (λ x. of_z w32 (to_z w16 x)) xs) (map (λ y. of_z w32 (to_z w16 y)) ys)) (replicate n 16))
-
--- the products in 32 bits, shifted; and both halves joined
 abbrev pub shifted : Lanewise ℤ ℤ ℕ
 shifted = both (λ z k. of_z w32 (shr_z (to_z w32 z) (2 ^ k))) (both (λ x y. (x * y) % 4294967296) (each (λ x. of_z w32 (to_z w16 x)) (each (of_z w16) one)) (each (λ x. of_z w32 (to_z w16 x)) (each (of_z w16) other))) (constant 16)
 
-abbrev halves : Lanewise ℤ ℤ ℕ
-halves = both (λ x y. x + 65536 * y) (both (λ x y. (x * y) % 65536) (each (of_z w16) one) (each (of_z w16) other)) (each (λ z. of_z w16 (to_z w32 z)) shifted)
+abbrev highs : Lanewise ℤ ℤ ℕ
+highs = each (λ z. of_z w16 (to_z w32 z)) shifted
 
 halves_joined : (us vs : List ℤ) → length us ≡ 16 → length vs ≡ 16 → Each1 (FitsSigned w16) us → Each1 (FitsSigned w16) vs
-    → zip2 (λ x y. x + 65536 * y) (low_halves (map (of_z w16) us) (map (of_z w16) vs)) (high_halves 16 (map (of_z w16) us) (map (of_z w16) vs)) ≡ map (of_z w32) (zip2 ◌*ℤ◌ us vs)
-halves_joined us vs p q f g = lanes_are halves (FitsSigned w16) (FitsSigned w16) (λ a b. of_z w32 (a *ℤ b)) 16 us vs p q f g two_halves ∙ sym (map-zip2 (of_z w32) ◌*ℤ◌ us vs)
+    → zip2 (λ x y. x + 65536 * y) (lows.all 16 us vs) (highs.all 16 us vs) ≡ map (of_z w32) (zip2 ◌*ℤ◌ us vs)
+halves_joined us vs p q f g = lanes_are (both (λ x y. x + 65536 * y) lows highs) (FitsSigned w16) (FitsSigned w16) (λ a b. of_z w32 (a *ℤ b)) 16 us vs p q f g two_halves ∙ sym (map-zip2 (of_z w32) ◌*ℤ◌ us vs)
 
 pub products_fit : (us vs : List ℤ) → Each1 (FitsSigned w16) us → Each1 (FitsSigned w16) vs → Each1 (FitsSigned w32) (zip2 ◌*ℤ◌ us vs)
 products_fit us vs f g = each_of (FitsSigned w16) (FitsSigned w16) (FitsSigned w32) ◌*ℤ◌ us vs f g (λ a b p q. size_fits (a *ℤ b) (product_size a b p q))
@@ -150,38 +150,26 @@ high_fits a b p q =
 pub halves_fit : (us vs : List ℤ) → length us ≡ 16 → length vs ≡ 16 → Each1 (FitsSigned w16) us → Each1 (FitsSigned w16) vs → Each1 (λ z. FitsSigned w16 (to_z w32 z)) (shifted.all 16 us vs)
 halves_fit us vs p q f g = each_is shifted (FitsSigned w16) (FitsSigned w16) (λ z. FitsSigned w16 (to_z w32 z)) 16 us vs p q f g high_fits
 
-length-low : (xs ys : List ℕ) → length xs ≡ 16 → length ys ≡ 16 → length (low_halves xs ys) ≡ 16
-length-low xs ys p q = length-zip2 (λ x y. (x * y) % 65536) xs ys (p ∙ sym q) ∙ p
-
-length-high : (xs ys : List ℕ) → length xs ≡ 16 → length ys ≡ 16 → length (high_halves 16 xs ys) ≡ 16
-length-high xs ys p q =
-    let u = map (λ x. of_z w32 (to_z w16 x)) xs in
-    let v = map (λ y. of_z w32 (to_z w16 y)) ys in
-    let c : length (zip2 (λ x y. (x * y) % 4294967296) u v) ≡ 16 = length-zip2 _ u v (simp length-map (p ∙ sym q)) ∙ simp length-map p in
-    simp length-map (length-zip2 _ _ (replicate 16 16) c ∙ c)
-
 abbrev in_bytes : List ℕ → List ℕ
 in_bytes xs = digits_l 4294967296 16 (number_l 256 (digits_l 256 64 (number_l 65536 xs)))
 
 pub products_are : (us vs : List ℤ) → length us ≡ 16 → length vs ≡ 16 → Each1 (FitsSigned w16) us → Each1 (FitsSigned w16) vs
-    → map (to_z w32) (in_bytes (pick_l 0 (low_halves (map (of_z w16) us) (map (of_z w16) vs) ++ high_halves 16 (map (of_z w16) us) (map (of_z w16) vs)) turns)) ≡ swap_quarters (zip2 ◌*ℤ◌ us vs)
+    → map (to_z w32) (in_bytes (pick_l 0 (lows.all 16 us vs ++ highs.all 16 us vs) turns)) ≡ swap_quarters (zip2 ◌*ℤ◌ us vs)
 products_are us vs p q f g =
-    let xs = map (of_z w16) us in
-    let ys = map (of_z w16) vs in
-    let x_long : length xs ≡ 16 = length-map us (of_z w16) ∙ p in
-    let y_long : length ys ≡ 16 = length-map vs (of_z w16) ∙ q in
-    let low_long = length-low xs ys x_long y_long in
-    let high_long = length-high xs ys x_long y_long in
+    let low = lows.all 16 us vs in
+    let high = highs.all 16 us vs in
+    let low_long = length-all lows 16 us vs p q in
+    let high_long = length-all highs 16 us vs p q in
     let zs = zip2 ◌*ℤ◌ us vs in
     let long : length zs ≡ 16 = length-zip2 ◌*ℤ◌ us vs (p ∙ sym q) ∙ p in
     let fits = Each1-exchanged (FitsSigned w32) zs (products_fit us vs f g) in
     let bits_long : length (map (of_z w32) (swap_quarters zs)) ≡ 16 = length-map (swap_quarters zs) (of_z w32) ∙ length-exchanged (pos 0) zs long in
-    let whole : number_l 65536 (weave (swap_quarters (low_halves xs ys)) (swap_quarters (high_halves 16 xs ys))) ≡ number_l 4294967296 (map (of_z w32) (swap_quarters zs)) =
-    joined (swap_quarters (low_halves xs ys)) (swap_quarters (high_halves 16 xs ys))
+    let whole : number_l 65536 (weave (swap_quarters low) (swap_quarters high)) ≡ number_l 4294967296 (map (of_z w32) (swap_quarters zs)) =
+    joined (swap_quarters low) (swap_quarters high)
     ∙ ap (number_l 4294967296)
-    (sym (exchanged-zip2 0 0 (λ x y. x + 65536 * y) (low_halves xs ys) (high_halves 16 xs ys) low_long high_long) ∙ ap swap_quarters (halves_joined us vs p q f g) ∙ exchanged-map (pos 0) (of_z w32) zs long) in
-    ap (λ l. map (to_z w32) (in_bytes l)) (woven (low_halves xs ys) (high_halves 16 xs ys) low_long high_long)
-    ∙ ap (map (to_z w32)) (recast 65536 4294967296 64 16 (weave (swap_quarters (low_halves xs ys)) (swap_quarters (high_halves 16 xs ys))) (map (of_z w32) (swap_quarters zs)) whole bits_long (each_below w32 (swap_quarters zs) fits) refl)
+    (sym (exchanged-zip2 0 0 (λ x y. x + 65536 * y) low high low_long high_long) ∙ ap swap_quarters (halves_joined us vs p q f g) ∙ exchanged-map (pos 0) (of_z w32) zs long) in
+    ap (λ l. map (to_z w32) (in_bytes l)) (woven low high low_long high_long)
+    ∙ ap (map (to_z w32)) (recast 65536 4294967296 64 16 (weave (swap_quarters low) (swap_quarters high)) (map (of_z w32) (swap_quarters zs)) whole bits_long (each_below w32 (swap_quarters zs) fits) refl)
     ∙ of_bits w32 (swap_quarters zs) fits
 
 -- ---- quarters exchanged

@@ -1,12 +1,12 @@
 -- Sums that bytes, or their squares, are added to in lanes.
 use Rattle.std.proofs.Common.{◌≡◌, inl, inr, ℕ, ℤ, pos, negsuc, suc, ◌+◌, ◌-◌, ◌%◌, ◌^◌, ◌<◌, ◌+ℤ◌, ◌*ℤ◌, List, [], ◌∷◌, length, map, cond, min, ltb, w8, w16, Fits, FitsSigned, to_z, of_z, refl, ap, ◌∙◌, sym, subst, arith, map-id}
 use Rattle.std.specs.Int.{int_div_euclid}
-use Rattle.lane_rows.proofs.Common.{zip2, Each1, length-zip2, sel_l, number_l, digits_l, ints, clamps, cases_lt, to_z-of_z, to_z_pos, S16, Saturate, narrow, top}
+use Rattle.std.specs.Simd.Lanes.{put_chunk}
+use Rattle.lane_rows.proofs.Common.{zip2, Each1, length-map, length-zip2, put_chunk_whole, sel_l, number_l, digits_l, ints, clamps, cases_lt, to_z-of_z, to_z_pos, S16, Saturate, narrow, top}
 use Rattle.vx_base.specs.Pixelwise.{accumulated_sum, accumulated_square}
 use Rattle.lane_rows.proofs.LaneLaws.{products, product_lane, chosen_w16, smaller_lane}
 use Rattle.lane_rows.proofs.DigitLaws.{recast}
-use Rattle.lane_rows.proofs.NarrowLaws.{nearest_fits}
-use Rattle.lane_rows.proofs.Lanewise.{Lanewise, one, other, constant, each, both, chosen, items_are, pairs_are, each_is}
+use Rattle.lane_rows.proofs.Lanewise.{Lanewise, one, other, constant, each, both, chosen, items_are, pairs_are, each_is, length-all}
 
 -- ---- squares
 
@@ -93,29 +93,25 @@ module _ (xs : List ℕ) (cs : List ℤ) (p : (length xs ≡ 16) × Each1 (Fits 
   abbrev least : List ℕ → List ℕ
   least ys = sel_l (map (top 15) (zip2 less xs ys)) xs ys
 
-  made_long : (e : Lanewise ℕ ℤ ℕ) → length (e.all 16 xs cs) ≡ 16
-  made_long e = ap length (e.same 16 xs cs p.0 long) ∙ length-zip2 e.at xs cs (p.0 ∙ sym long) ∙ p.0
-
   room_same : in_bytes (room.all 16 xs cs) ≡ room.all 16 xs cs
   room_same =
-      same_bytes (room.all 16 xs cs) (made_long room)
+      same_bytes (room.all 16 xs cs) (length-all room 16 xs cs p.0 long)
       (each_is room (Fits w16) (FitsSigned w16) (λ x. x < 65536) 16 xs cs p.0 long p.1 fs (λ a c f g. left_below (of_z w16 c)))
 
-  pub accumulated_are : map (to_z w16) (sums (in_bytes (least (in_bytes (room.all 16 xs cs))))) ≡ zip2 (accumulated_sum S16) (map pos xs) cs
+  accumulated_are : map (to_z w16) (sums (in_bytes (least (in_bytes (room.all 16 xs cs))))) ≡ zip2 (accumulated_sum S16) (map pos xs) cs
   accumulated_are =
       ap (λ l. map (to_z w16) (sums (in_bytes (least l)))) room_same
       ∙ ap (λ l. map (to_z w16) (sums l))
-      (same_bytes (added.all 16 xs cs) (made_long added) (each_is added (Fits w16) (FitsSigned w16) (λ x. x < 65536) 16 xs cs p.0 long p.1 fs (λ a c f g. added_below a c f.fits)))
+      (same_bytes (added.all 16 xs cs) (length-all added 16 xs cs p.0 long) (each_is added (Fits w16) (FitsSigned w16) (λ x. x < 65536) 16 xs cs p.0 long p.1 fs (λ a c f g. added_below a c f.fits)))
       ∙ pairs_are after (Fits w16) (FitsSigned w16) (to_z w16) pos (λ c. c) (accumulated_sum S16) 16 xs cs p.0 long p.1 fs after_is
       ∙ ap (zip2 (accumulated_sum S16) (map pos xs)) (map-id cs)
 
-accumulated_fit : (zs cs : List ℤ) → Each1 (FitsSigned w16) (zip2 (accumulated_sum S16) zs cs)
-accumulated_fit [] cs = tt
-accumulated_fit (z ∷ zs) [] = tt
-accumulated_fit (z ∷ zs) (c ∷ cs) = (nearest_fits (c +ℤ z), accumulated_fit zs cs)
-
-pub made_fit : (ns : List ℤ) (zs cs : List ℤ) → ns ≡ zip2 (accumulated_sum S16) zs cs → Each1 (FitsSigned w16) ns
-made_fit ns zs cs is = subst (Each1 (FitsSigned w16)) (sym is) (accumulated_fit zs cs)
+  -- what is stored
+  pub sums_stored : (old : List ℤ) → cs ≡ map (λ z. z) old → put_chunk 0 old (map (to_z w16) (sums (in_bytes (least (in_bytes (room.all 16 xs cs)))))) ≡ zip2 (accumulated_sum S16) (map pos xs) old
+  sums_stored old is =
+      let same : cs ≡ old = is ∙ map-id old in
+      let made = ap length accumulated_are ∙ length-zip2 (accumulated_sum S16) (map pos xs) cs (length-map xs pos ∙ p.0 ∙ sym long) ∙ length-map xs pos ∙ p.0 in
+      put_chunk_whole old _ (ap length (sym same) ∙ long ∙ sym made) ∙ accumulated_are ∙ ap (zip2 (accumulated_sum S16) (map pos xs)) same
 
 -- of squares
 pub of_squares : (k : ℕ) (zs cs : List ℤ) → zip2 (accumulated_sum S16) (map (λ a. int_div_euclid (a *ℤ a) (pos (2 ^ k))) zs) cs ≡ zip2 (accumulated_square S16 k) zs cs

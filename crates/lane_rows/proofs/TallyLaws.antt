@@ -1,6 +1,6 @@
 -- Counts of the first bytes of a row.
-use Rattle.std.proofs.Common.{◌≡◌, ℕ, pos, ◌+◌, ◌*◌, ◌<◌, ◌≤◌, List, [], ◌∷◌, length, map, take, get_or, cond, suc, refl, ap, ◌∙◌, arith, unsigned_abs, ◌==◌, length-take}
-use Rattle.lane_rows.proofs.Names.{All, get_or-map, length-map, All-nil, All-cons, sum_by_more, count_by-le-length, count_at}
+use Rattle.std.proofs.Common.{◌≡◌, ℕ, pos, ◌+◌, ◌*◌, ◌<◌, List, [], ◌∷◌, length, map, take, get_or, cond, suc, refl, ap, ◌∙◌, arith, unsigned_abs, ◌==◌}
+use Rattle.lane_rows.proofs.Common.{All, get_or-map, length-map, All-nil, All-cons, sum_by_more, count_at}
 
 -- one sample more
 pub one_at : (v : ℕ) (row : List ℕ) (i j : ℕ) → i < length row → j ≡ i + 1 → count_at v (take j (map pos row)) ≡ count_at v (take i (map pos row)) + cond (get_or row i 0 == v) 1 0
@@ -19,11 +19,6 @@ four_more v row k room =
       one_at v row (4 * k + 2) (4 * k + 3) (omega arith) (omega arith),
       one_at v row (4 * k + 3) (4 * (k + 1)) (omega arith) (omega arith),
     )
-
--- at most i of the first i samples are counted
-pub few_of_first : (v : ℕ) (row : List ℕ) (i : ℕ) → i ≤ length row → count_at v (take i (map pos row)) ≤ i
-few_of_first v row i room =
-    omega (arith, count_by-le-length (λ z. unsigned_abs z == v) (take i (map pos row)), length-take i (map pos row), length-map row pos)
 
 pub all_bytes : (row : List ℕ) → ((i : ℕ) → get_or row i 0 < 256) → All (λ z. unsigned_abs z < 256) (map pos row)
 all_bytes [] small = All-nil (λ z. unsigned_abs z < 256)

@@ -1,5 +1,7 @@
 -- Three rows of numbers that are added up, in lanes.
-use Rattle.std.proofs.Common.{◌≡◌, ℕ, ℤ, pos, negsuc, zero, suc, ◌+◌, ◌/◌, ◌%◌, ◌<◌, ◌≤◌, ◌+ℤ◌, ◌*ℤ◌, List, [], ◌∷◌, length, map, get_or, refl, ap, ◌∙◌, sym, subst, arith, w16, of_z, to_z, map-id}
+use Rattle.std.proofs.Common.{◌≡◌, ℕ, ℤ, pos, negsuc, zero, suc, ◌+◌, ◌/◌, ◌%◌, ◌<◌, ◌≤◌, ◌+ℤ◌, ◌*ℤ◌, List, [], ◌∷◌, length, map, get_or, replicate, refl, ap, ◌∙◌, sym, subst, arith, w16, of_z, to_z, map-id, ◌^◌}
+use Rattle.std.specs.Int.{int_div_euclid}
+use Rattle.std.proofs.lemmas.Simd.{zip2_splat}
 use Rattle.lane_rows.proofs.Common.{zip2, ints, Each1, length-map, length-zip2, put_chunk_whole}
 use Rattle.std.proofs.Math.Dec.{T}
 use mir.Val.{Fits}
@@ -57,69 +59,88 @@ zip3-map f p q r (k ∷ ks) = ap (λ l. f (p k) (q k) (r k) ∷ l) (zip3-map f p
 
 -- ---- sums in lanes
 
-abbrev pub plus : ℕ → ℕ → ℕ
+abbrev plus : ℕ → ℕ → ℕ
 plus a b = (a + b) % 65536
 
 abbrev Below : ℕ → List ℕ → Type 0
 Below limit ns = Each1 (λ n. n ≤ limit) ns
 
-pub sums_are : (limit : ℕ) → limit ≤ 8191 → (xs ys zs : List ℕ) → Below limit xs → Below limit ys → Below limit zs → map pos (zip2 plus (zip2 plus xs ys) zs) ≡ zip3 (λ a b c. a +ℤ b +ℤ c) (map pos xs) (map pos ys) (map pos zs)
-sums_are limit small [] ys zs p q r = refl
-sums_are limit small (a ∷ xs) [] zs p q r = refl
-sums_are limit small (a ∷ xs) (b ∷ ys) [] p q r = refl
-sums_are limit small (a ∷ xs) (b ∷ ys) (c ∷ zs) p q r = let first : pos (plus (plus a b) c) ≡ pos a +ℤ pos b +ℤ pos c = omega (arith, ints, small, p.0, q.0, r.0) in cc (first, sums_are limit small xs ys zs p.1 q.1 r.1)
+abbrev Net : Type 0
+Net = ℕ → ℕ → ℕ → ℕ
 
-pub sums_below : (limit : ℕ) → limit ≤ 8191 → (xs ys zs : List ℕ) → Below limit xs → Below limit ys → Below limit zs → Below 32767 (zip2 plus (zip2 plus xs ys) zs)
-sums_below limit small [] ys zs p q r = tt
-sums_below limit small (a ∷ xs) [] zs p q r = tt
-sums_below limit small (a ∷ xs) (b ∷ ys) [] p q r = tt
-sums_below limit small (a ∷ xs) (b ∷ ys) (c ∷ zs) p q r = (omega (arith, small, p.0, q.0, r.0), sums_below limit small xs ys zs p.1 q.1 r.1)
+sums_by_lanes : (xs ys zs : List ℕ) → zip2 plus (zip2 plus xs ys) zs ≡ zip3 (λ a b c. plus (plus a b) c) xs ys zs
+sums_by_lanes [] ys zs = refl
+sums_by_lanes (a ∷ xs) [] zs = refl
+sums_by_lanes (a ∷ xs) (b ∷ ys) [] = refl
+sums_by_lanes (a ∷ xs) (b ∷ ys) (c ∷ zs) = ap (λ l. plus (plus a b) c ∷ l) (sums_by_lanes xs ys zs)
 
-pub weighted_are : (limit : ℕ) → limit ≤ 8191 → (xs ys zs : List ℕ) → Below limit xs → Below limit ys → Below limit zs → map pos (zip2 plus (zip2 plus xs (zip2 plus ys ys)) zs) ≡ zip3 (λ a b c. a +ℤ pos 2 *ℤ b +ℤ c) (map pos xs) (map pos ys) (map pos zs)
-weighted_are limit small [] ys zs p q r = refl
-weighted_are limit small (a ∷ xs) [] zs p q r = refl
-weighted_are limit small (a ∷ xs) (b ∷ ys) [] p q r = refl
-weighted_are limit small (a ∷ xs) (b ∷ ys) (c ∷ zs) p q r = let first : pos (plus (plus a (plus b b)) c) ≡ pos a +ℤ pos 2 *ℤ pos b +ℤ pos c = omega (arith, ints, small, p.0, q.0, r.0) in cc (first, weighted_are limit small xs ys zs p.1 q.1 r.1)
+weighted_by_lanes : (xs ys zs : List ℕ) → zip2 plus (zip2 plus xs (zip2 plus ys ys)) zs ≡ zip3 (λ a b c. plus (plus a (plus b b)) c) xs ys zs
+weighted_by_lanes [] ys zs = refl
+weighted_by_lanes (a ∷ xs) [] zs = refl
+weighted_by_lanes (a ∷ xs) (b ∷ ys) [] = refl
+weighted_by_lanes (a ∷ xs) (b ∷ ys) (c ∷ zs) = ap (λ l. plus (plus a (plus b b)) c ∷ l) (weighted_by_lanes xs ys zs)
 
-pub weighted_below : (limit : ℕ) → limit ≤ 8191 → (xs ys zs : List ℕ) → Below limit xs → Below limit ys → Below limit zs → Below 32767 (zip2 plus (zip2 plus xs (zip2 plus ys ys)) zs)
-weighted_below limit small [] ys zs p q r = tt
-weighted_below limit small (a ∷ xs) [] zs p q r = tt
-weighted_below limit small (a ∷ xs) (b ∷ ys) [] p q r = tt
-weighted_below limit small (a ∷ xs) (b ∷ ys) (c ∷ zs) p q r = (omega (arith, small, p.0, q.0, r.0), weighted_below limit small xs ys zs p.1 q.1 r.1)
+map-zip3 : (h : ℕ → ℕ) (net : Net) (xs ys zs : List ℕ) → map h (zip3 net xs ys zs) ≡ zip3 (λ a b c. h (net a b c)) xs ys zs
+map-zip3 h net [] ys zs = refl
+map-zip3 h net (a ∷ xs) [] zs = refl
+map-zip3 h net (a ∷ xs) (b ∷ ys) [] = refl
+map-zip3 h net (a ∷ xs) (b ∷ ys) (c ∷ zs) = ap (λ l. h (net a b c) ∷ l) (map-zip3 h net xs ys zs)
 
--- one operation more in each lane
-pub length-sums : (n : ℕ) (xs ys zs : List ℕ) → length xs ≡ n → length ys ≡ n → length zs ≡ n → length (zip2 plus (zip2 plus xs ys) zs) ≡ n
-length-sums n xs ys zs p q r =
-    let first : length (zip2 plus xs ys) ≡ n = length-zip2 plus xs ys (p ∙ sym q) ∙ p in
-    length-zip2 plus (zip2 plus xs ys) zs (first ∙ sym r) ∙ first
+-- a function of three numbers up to a limit, and its results for vectors of such numbers
+module _ (limit most : ℕ) (net : Net) (f : ℤ → ℤ → ℤ → ℤ) (law : (a b c : ℕ) → a ≤ limit → b ≤ limit → c ≤ limit → (pos (net a b c) ≡ f (pos a) (pos b) (pos c)) × (net a b c ≤ most)) where
+  numbers : (xs ys zs : List ℕ) → Below limit xs → Below limit ys → Below limit zs → map pos (zip3 net xs ys zs) ≡ zip3 f (map pos xs) (map pos ys) (map pos zs)
+  numbers [] ys zs p q r = refl
+  numbers (a ∷ xs) [] zs p q r = refl
+  numbers (a ∷ xs) (b ∷ ys) [] p q r = refl
+  numbers (a ∷ xs) (b ∷ ys) (c ∷ zs) p q r = cc ((law a b c p.0 q.0 r.0).0, numbers xs ys zs p.1 q.1 r.1)
 
-pub length-weighted : (n : ℕ) (xs ys zs : List ℕ) → length xs ≡ n → length ys ≡ n → length zs ≡ n → length (zip2 plus (zip2 plus xs (zip2 plus ys ys)) zs) ≡ n
-length-weighted n xs ys zs p q r = length-sums n xs (zip2 plus ys ys) zs p (length-zip2 plus ys ys refl ∙ q) r
+  below : (xs ys zs : List ℕ) → Below limit xs → Below limit ys → Below limit zs → Below most (zip3 net xs ys zs)
+  below [] ys zs p q r = tt
+  below (a ∷ xs) [] zs p q r = tt
+  below (a ∷ xs) (b ∷ ys) [] p q r = tt
+  below (a ∷ xs) (b ∷ ys) (c ∷ zs) p q r = ((law a b c p.0 q.0 r.0).1, below xs ys zs p.1 q.1 r.1)
 
-pub ninths_below : (xs ys zs : List ℕ) → Below 765 xs → Below 765 ys → Below 765 zs → Below 255 (map (λ n. n / 9) (zip2 plus (zip2 plus xs ys) zs))
-ninths_below [] ys zs p q r = tt
-ninths_below (a ∷ xs) [] zs p q r = tt
-ninths_below (a ∷ xs) (b ∷ ys) [] p q r = tt
-ninths_below (a ∷ xs) (b ∷ ys) (c ∷ zs) p q r = (omega (arith, p.0, q.0, r.0), ninths_below xs ys zs p.1 q.1 r.1)
+  made : (ns xs ys zs : List ℕ) → ns ≡ zip3 net xs ys zs → Below limit xs → Below limit ys → Below limit zs → (map pos ns ≡ zip3 f (map pos xs) (map pos ys) (map pos zs)) × Below most ns
+  made ns xs ys zs is p q r = (ap (map pos) is ∙ numbers xs ys zs p q r, subst (Below most) (sym is) (below xs ys zs p q r))
 
-pub sixteenths_below : (xs ys zs : List ℕ) → Below 1020 xs → Below 1020 ys → Below 1020 zs → Below 255 (map (λ n. n / 16) (zip2 plus (zip2 plus xs (zip2 plus ys ys)) zs))
-sixteenths_below [] ys zs p q r = tt
-sixteenths_below (a ∷ xs) [] zs p q r = tt
-sixteenths_below (a ∷ xs) (b ∷ ys) [] p q r = tt
-sixteenths_below (a ∷ xs) (b ∷ ys) (c ∷ zs) p q r = (omega (arith, p.0, q.0, r.0), sixteenths_below xs ys zs p.1 q.1 r.1)
+sum_law : (a b c : ℕ) → a ≤ 8191 → b ≤ 8191 → c ≤ 8191 → (pos (plus (plus a b) c) ≡ pos a +ℤ pos b +ℤ pos c) × (plus (plus a b) c ≤ 32767)
+sum_law a b c p q r = (omega (arith, ints), omega arith)
 
-pub means_are : (f g : ℤ → ℤ → ℤ → ℤ) (h : ℕ → ℕ) → ((a b c : ℤ) (n : ℕ) → pos n ≡ f a b c → pos (h n) ≡ g a b c) → (ns : List ℕ) (xs ys zs : List ℤ) → map pos ns ≡ zip3 f xs ys zs → map pos (map h ns) ≡ zip3 g xs ys zs
-means_are f g h law [] [] ys zs is = refl
-means_are f g h law [] (a ∷ xs) [] zs is = refl
-means_are f g h law [] (a ∷ xs) (b ∷ ys) [] is = refl
-means_are f g h law [] (a ∷ xs) (b ∷ ys) (c ∷ zs) is = cc
-means_are f g h law (n ∷ ns) [] ys zs is = cc
-means_are f g h law (n ∷ ns) (a ∷ xs) [] zs is = cc
-means_are f g h law (n ∷ ns) (a ∷ xs) (b ∷ ys) [] is = cc
-means_are f g h law (n ∷ ns) (a ∷ xs) (b ∷ ys) (c ∷ zs) is =
-    let first : pos n ≡ f a b c = cc in
-    let others : map pos ns ≡ zip3 f xs ys zs = cc in
-    cc (law a b c n first, means_are f g h law ns xs ys zs others)
+weighted_law : (a b c : ℕ) → a ≤ 8191 → b ≤ 8191 → c ≤ 8191 → (pos (plus (plus a (plus b b)) c) ≡ pos a +ℤ pos 2 *ℤ pos b +ℤ pos c) × (plus (plus a (plus b b)) c ≤ 32767)
+weighted_law a b c p q r = (omega (arith, ints), omega arith)
+
+ninth_law : (a b c : ℕ) → a ≤ 765 → b ≤ 765 → c ≤ 765 → (pos (plus (plus a b) c / 9) ≡ int_div_euclid (pos a +ℤ pos b +ℤ pos c) (pos 9)) × (plus (plus a b) c / 9 ≤ 255)
+ninth_law a b c p q r = (ap (λ z. int_div_euclid z (pos 9)) ((sum_law a b c (omega arith) (omega arith) (omega arith)).0), omega arith)
+
+sixteenth_law : (a b c : ℕ) → a ≤ 1020 → b ≤ 1020 → c ≤ 1020 → (pos (plus (plus a (plus b b)) c / 16) ≡ int_div_euclid (pos a +ℤ pos 2 *ℤ pos b +ℤ pos c) (pos 16)) × (plus (plus a (plus b b)) c / 16 ≤ 255)
+sixteenth_law a b c p q r = (ap (λ z. int_div_euclid z (pos 16)) ((weighted_law a b c (omega arith) (omega arith) (omega arith)).0), omega arith)
+
+-- a quotient of each lane of the sums
+divided : (h : ℕ → ℕ → ℕ) (n : ℕ) (net : Net) (ns xs ys zs : List ℕ) → length ns ≡ 32 → ns ≡ zip3 net xs ys zs → zip2 h ns (replicate 32 n) ≡ zip3 (λ a b c. h (net a b c) n) xs ys zs
+divided h n net ns xs ys zs long is = zip2_splat h ns 32 n long ∙ ap (map (λ m. h m n)) is ∙ map-zip3 (λ m. h m n) net xs ys zs
+
+length-sums : (xs ys zs : List ℕ) → length xs ≡ 32 → length ys ≡ 32 → length zs ≡ 32 → length (zip2 plus (zip2 plus xs ys) zs) ≡ 32
+length-sums xs ys zs p q r = let first = length-zip2 plus xs ys (p ∙ sym q) ∙ p in length-zip2 plus (zip2 plus xs ys) zs (first ∙ sym r) ∙ first
+
+module _ (xs ys zs : List ℕ) where
+  pub sums_made : Below 8191 xs → Below 8191 ys → Below 8191 zs
+      → (map pos (zip2 plus (zip2 plus xs ys) zs) ≡ zip3 (λ a b c. a +ℤ b +ℤ c) (map pos xs) (map pos ys) (map pos zs)) × Below 32767 (zip2 plus (zip2 plus xs ys) zs)
+  sums_made = made 8191 32767 _ (λ a b c. a +ℤ b +ℤ c) sum_law _ xs ys zs (sums_by_lanes xs ys zs)
+
+  pub weighted_made : Below 8191 xs → Below 8191 ys → Below 8191 zs
+      → (map pos (zip2 plus (zip2 plus xs (zip2 plus ys ys)) zs) ≡ zip3 (λ a b c. a +ℤ pos 2 *ℤ b +ℤ c) (map pos xs) (map pos ys) (map pos zs)) × Below 32767 (zip2 plus (zip2 plus xs (zip2 plus ys ys)) zs)
+  weighted_made = made 8191 32767 _ (λ a b c. a +ℤ pos 2 *ℤ b +ℤ c) weighted_law _ xs ys zs (weighted_by_lanes xs ys zs)
+
+  module _ (p : length xs ≡ 32) (q : length ys ≡ 32) (r : length zs ≡ 32) where
+    pub ninths_made : Below 765 xs → Below 765 ys → Below 765 zs
+        → (map pos (zip2 ◌/◌ (zip2 plus (zip2 plus xs ys) zs) (replicate 32 9)) ≡ zip3 (λ a b c. int_div_euclid (a +ℤ b +ℤ c) (pos 9)) (map pos xs) (map pos ys) (map pos zs)) × Below 255 (zip2 ◌/◌ (zip2 plus (zip2 plus xs ys) zs) (replicate 32 9))
+    ninths_made = made 765 255 _ (λ a b c. int_div_euclid (a +ℤ b +ℤ c) (pos 9)) ninth_law _ xs ys zs (divided ◌/◌ 9 _ _ xs ys zs (length-sums xs ys zs p q r) (sums_by_lanes xs ys zs))
+
+    pub sixteenths_made : Below 1020 xs → Below 1020 ys → Below 1020 zs
+        → (map pos (zip2 (λ (x y : ℕ). x / 2 ^ y) (zip2 plus (zip2 plus xs (zip2 plus ys ys)) zs) (replicate 32 4)) ≡ zip3 (λ a b c. int_div_euclid (a +ℤ pos 2 *ℤ b +ℤ c) (pos 16)) (map pos xs) (map pos ys) (map pos zs)) × Below 255 (zip2 (λ (x y : ℕ). x / 2 ^ y) (zip2 plus (zip2 plus xs (zip2 plus ys ys)) zs) (replicate 32 4))
+    sixteenths_made =
+        made 1020 255 _ (λ a b c. int_div_euclid (a +ℤ pos 2 *ℤ b +ℤ c) (pos 16)) sixteenth_law _ xs ys zs
+        (divided (λ (x y : ℕ). x / 2 ^ y) 4 _ _ xs ys zs (length-sums xs (zip2 plus ys ys) zs p (length-zip2 plus ys ys refl ∙ q) r) (weighted_by_lanes xs ys zs))
 
 pub zip3_of_maps : (f : ℤ → ℤ → ℤ → ℤ) (p q r : ℕ → ℤ) (ks : List ℕ) (xs ys zs : List ℤ) → xs ≡ map p ks → ys ≡ map q ks → zs ≡ map r ks → zip3 f xs ys zs ≡ map (λ k. f (p k) (q k) (r k)) ks
 zip3_of_maps f p q r ks xs ys zs one two three = rw (one, two, three) (zip3-map f p q r ks)

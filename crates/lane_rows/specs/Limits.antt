@@ -2,14 +2,14 @@
 use Rattle.std.specs.Prelude.{◌≤◌}
 use Rattle.std.proofs.Common.{arith}
 
--- an addend of three has at most 13 bits
+-- the limit 8191 itself is permitted
 pub greatest_addend : 8191 ≤ 8191
 greatest_addend = omega arith
 
--- the sum of three bytes is such an addend
+-- the sum of three bytes, at most 765, is permitted
 pub greatest_sum : 765 ≤ 8191
 greatest_sum = omega arith
 
--- so is the sum of three bytes with the weights 1, 2 and 1
+-- the sum of three bytes with weights 1, 2, 1, at most 1020, is permitted
 pub greatest_weighted_sum : 1020 ≤ 8191
 greatest_weighted_sum = omega arith

@@ -2,8 +2,9 @@
 use Rattle.std.specs.Prelude.{ℕ, zero, suc, ℤ, pos, ◌≡◌, ◌+◌, ◌*◌, ◌≤◌, ◌<◌, ◌+ℤ◌, ◌*ℤ◌, List, [], ◌∷◌, slice_index_or, unsigned_abs}
 use Rattle.std.specs.Simd.Lanes.{chunk}
 
--- the absolute value is at most the limit: 8355840 (255 * 32768) for a U8 sample times an S16 coefficient, twice that for a pair of
--- products, and 752025600, below 2^31, for the sum of 45 pairs. The nine rows of a matrix have at most 45 pairs
+-- the absolute value is at most the limit. The limit is 8355840 (255 * 32768) for a U8 sample times
+-- an S16 coefficient, and twice that for a pair of products. The sum of 45 pairs, as many as the
+-- nine rows of a matrix can have, has the limit 752025600, which is below 2^31.
 abbrev pub IsNear : ℕ → ℤ → Type 0
 IsNear limit z = unsigned_abs z ≤ limit
 
@@ -45,14 +46,16 @@ second_of_pair table j = slice_index_or table (16 * j + 1) (pos 0)
 abbrev pub IsPairTable : ℕ → List ℤ → Type 0
 IsPairTable n table = (j : ℕ) → j < n → chunk (16 * j) 16 table ≡ alternation 8 (first_of_pair table j) (second_of_pair table j)
 
--- the sum of n pairs of coefficients at an index of a row, each pair two samples to the right of the one before
+-- the sum of n pairs of coefficients times the samples of a row, from index p on; each pair is two
+-- samples to the right of the pair before
 abbrev pub row_sum : List ℤ → List ℤ → ℕ → ℕ → ℤ
 row_sum row table n p = sum_of_first n (λ j. pair_at row (first_of_pair table j) (second_of_pair table j) (p + 2 * j))
 
--- row l of items, which hold rows of this length
+-- row l of items that hold rows of length `line`
 abbrev pub line_of : List ℤ → ℕ → ℕ → List ℤ
 line_of items line l = chunk (l * line) line items
 
--- the sum of the first n rows at an index, each with its row of the table, which has 80 items: space for five pairs
+-- the sum of the first n rows at an index, each row with its own 80 items of the table, enough for
+-- five pairs
 abbrev pub sum_of_rows : List ℤ → ℕ → List ℤ → ℕ → ℕ → ℕ → ℤ
 sum_of_rows rows line table pairs n p = sum_of_first n (λ l. row_sum (line_of rows line l) (line_of table 80 l) pairs p)

@@ -2,6 +2,6 @@
 use Rattle.std.specs.Prelude.{List, ◌++◌}
 use Rattle.std.specs.Simd.Lanes.{chunk}
 
--- the second and third quarters exchanged
+-- the sixteen items with the second and third quarters exchanged
 abbrev pub swap_quarters : {A : Type 0} → List A → List A
 swap_quarters xs = chunk 0 4 xs ++ chunk 8 4 xs ++ chunk 4 4 xs ++ chunk 12 4 xs

@@ -1,11 +1,12 @@
--- The choice within each row, and then among the rows, gives the least or the greatest of nine.
+-- The choice within each row, and then among the rows, gives the least or the greatest of nine
+-- numbers.
 use Rattle.std.specs.Prelude.{ℕ, ℤ, ◌≡◌, [], ◌∷◌, pos, min, max}
 use Rattle.std.specs.Int.{int_min, int_max}
 use Rattle.std.proofs.Common.{arith, ap, ◌∙◌}
 use Rattle.vx_base.specs.Window.{least_of, greatest_of}
 use Rattle.lane_rows.specs.Ranks.{chosen_of_nine}
 
--- for an associative operation, on signed numbers
+-- for an associative operation `lo` on natural numbers, which is `op` on integers
 module _ (lo : ℕ → ℕ → ℕ) (op : ℤ → ℤ → ℤ) (as_number : (x y : ℕ) → pos (lo x y) ≡ op (pos x) (pos y)) (assoc : (x y z : ℕ) → lo x (lo y z) ≡ lo (lo x y) z) where
   one_after_another : (r d e f : ℕ) → lo r (lo (lo d e) f) ≡ lo (lo (lo r d) e) f
   one_after_another r d e f = assoc r (lo d e) f ∙ ap (λ z. lo z f) (assoc r d e)
@@ -27,14 +28,14 @@ lesser_number x y = grind arith
 pub greater_number : (x y : ℕ) → pos (max x y) ≡ int_max (pos x) (pos y)
 greater_number x y = grind arith
 
--- the least of nine, row by row, is the least of all
+-- the least of nine numbers, chosen row by row, is the least of all nine
 pub least_is_least : (a b c d e f g h i : ℕ) → pos (chosen_of_nine min a b c d e f g h i) ≡ least_of (pos a ∷ pos b ∷ pos c ∷ pos d ∷ pos e ∷ pos f ∷ pos g ∷ pos h ∷ pos i ∷ [])
 least_is_least = by_rows min int_min lesser_number assoc
   where
     assoc : (x y z : ℕ) → min x (min y z) ≡ min (min x y) z
     assoc x y z = grind arith
 
--- the greatest of nine, row by row, is the greatest of all
+-- the greatest of nine numbers, chosen row by row, is the greatest of all nine
 pub greatest_is_greatest : (a b c d e f g h i : ℕ) → pos (chosen_of_nine max a b c d e f g h i) ≡ greatest_of (pos a ∷ pos b ∷ pos c ∷ pos d ∷ pos e ∷ pos f ∷ pos g ∷ pos h ∷ pos i ∷ [])
 greatest_is_greatest = by_rows max int_max greater_number assoc
   where

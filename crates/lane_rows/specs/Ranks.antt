@@ -1,4 +1,4 @@
--- The choice from nine items, by choices of two, and the median of nine.
+-- The choice from nine items, by choices between two items, and the median of nine items.
 
 -- the choice from three items
 abbrev pub chosen_of_three : {A : Type 0} → (A → A → A) → A → A → A → A
@@ -12,8 +12,9 @@ chosen_of_nine op a b c d e f g h i = chosen_of_three op (chosen_of_three op a b
 abbrev pub middle_of_three : {A : Type 0} → (A → A → A) → (A → A → A) → A → A → A → A
 middle_of_three lo hi a b c = hi (lo a b) (lo (hi a b) c)
 
--- the median of nine items: for the columns a d g, b e h and c f i, the median of the greatest least, the least greatest and the middle
--- middle
+-- the median of nine items, from the columns a d g, b e h and c f i. Each column has a least, a
+-- middle and a greatest item. The result is the median of the greatest of the least items, the
+-- least of the greatest items and the middle of the middle items.
 abbrev pub middle_of_nine : {A : Type 0} → (A → A → A) → (A → A → A) → A → A → A → A → A → A → A → A → A → A
 middle_of_nine lo hi a b c d e f g h i =
     middle_of_three lo hi

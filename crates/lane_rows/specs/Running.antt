@@ -6,6 +6,6 @@ use Rattle.std.specs.List.{sum, range_with_len}
 abbrev pub sum_below : (above row : List ℕ) → ℕ → ℕ
 sum_below above row k = (slice_index above k + sum (take (k + 1) row)) % 2 ^ 32
 
--- such sums at all indices of the row
+-- `sum_below` at all indices of the row
 abbrev pub sums_below : (above row : List ℕ) → List ℕ
 sums_below above row = map (sum_below above row) (range_with_len 0 (length row))

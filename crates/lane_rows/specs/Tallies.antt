@@ -2,7 +2,7 @@
 use Rattle.std.specs.Prelude.{ℕ, ℤ, ◌+◌, ◌==◌, unsigned_abs, List, slice_index}
 use Rattle.std.specs.List.{count_by}
 
--- the number of items, which are bytes, that are v
+-- the number of items equal to v, where all items are bytes
 abbrev pub count_at : ℕ → List ℤ → ℕ
 count_at v items = count_by (λ z. unsigned_abs z == v) items
 

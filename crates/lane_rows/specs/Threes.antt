@@ -19,7 +19,7 @@ abbrev pub AreUpTo : ℕ → List ℤ → Type 0
 AreUpTo limit row = AreTaken (IsUpTo limit) row
 
 -- a function of three numbers, at each index of three rows
-abbrev pub zip3 : (ℤ → ℤ → ℤ → ℤ) → List ℤ → List ℤ → List ℤ → List ℤ
+abbrev pub zip3 : {A B : Type 0} → (A → A → A → B) → List A → List A → List A → List B
 zip3 f (x ∷ xs) (y ∷ ys) (z ∷ zs) = f x y z ∷ zip3 f xs ys zs
 zip3 f xs ys zs = []
 

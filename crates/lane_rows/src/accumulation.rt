@@ -10,8 +10,20 @@ ghost use Rattle.vx_base.specs.Pixelwise.{accumulated_sum, accumulated_square};
 use crate::item::Short;
 use crate::kernel::OfSum;
 use crate::rows::update_row;
-use crate::shorts::{accumulated_shorts, scaled_squares};
 use std::simd::prelude::*;
+
+/// Adds the numbers to 16 sums, each at most 32,767.
+///
+/// Each number is limited to 32,767 minus the sum. That difference fits 16 bits without a sign.
+fn add_lanes(numbers: u16x16, sums: &mut [i16])
+    requires { length sums.old ≡ 16 }
+    ensures { sums.new ≡ zip2 (accumulated_sum S16) (map pos numbers) sums.old }
+{
+    let before = i16::shorts(sums);
+    let room = u16x16::from_le_bytes((i16x16::splat(32767) - before).to_le_bytes());
+    let added = i16x16::from_le_bytes(numbers.simd_min(room).to_le_bytes());
+    (before + added).copy_to_slice(sums);
+}
 
 /// The sum plus the byte, at most 32,767.
 pub struct Accumulated;
@@ -24,8 +36,7 @@ impl OfSum<u8, i16> for Accumulated {
     }
 
     fn lanes(&self, row: &[u8], sums: &mut [i16]) {
-        let bytes = u8x16::from_slice(row).cast::<u16>();
-        accumulated_shorts(bytes, i16::shorts(sums)).copy_to_slice(sums);
+        add_lanes(u8x16::from_slice(row).cast::<u16>(), sums);
     }
 }
 
@@ -52,8 +63,8 @@ impl OfSum<u8, i16> for Squared {
     }
 
     fn lanes(&self, row: &[u8], sums: &mut [i16]) {
-        let squares = scaled_squares(u8x16::from_slice(row), self.amount);
-        accumulated_shorts(squares, i16::shorts(sums)).copy_to_slice(sums);
+        let bytes = u8x16::from_slice(row).cast::<u16>();
+        add_lanes((bytes * bytes) >> u16::from(self.amount), sums);
     }
 }
 

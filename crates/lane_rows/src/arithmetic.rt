@@ -1,5 +1,5 @@
 //! Kernels of two items, for the combinations of U8 and S16 that OpenVX allows.
-#![tactic(auto, using(crate::proofs::ShortLaws::fit_as_bits))]
+#![tactic(auto, using(crate::proofs::ShortLaws::read_bits))]
 
 ghost use Rattle.std.specs.Prelude.{◌≡◌, ℤ, pos, map, length, FitsSigned};
 ghost use Rattle.std.specs.Int.{w16};
@@ -7,7 +7,7 @@ ghost use Rattle.std.specs.Simd.Lanes.{zip2, Each1};
 ghost use Rattle.vx_base.specs.declared.format.Format.{Format};
 ghost use Rattle.vx_base.specs.declared.format.Format.TheVariants.{U8, S16};
 
-use crate::item::Short;
+use crate::item::{Short, bytes_of};
 use crate::kernel::OfPair;
 use crate::stores::{store_16_shorts, store_32_bytes};
 use std::simd::prelude::*;
@@ -52,7 +52,7 @@ impl<K: Arithmetic> OfPair<u8, u8, u8> for OfSamples<'_, K> {
     }
 
     fn lanes(&self, first: &[u8], second: &[u8], out: &mut [u8]) {
-        let (a, b) = (u8x32::from_slice(first), u8x32::from_slice(second));
+        let (a, b) = (bytes_of(first), bytes_of(second));
         store_32_bytes(self.0.bytes(a, b).to_array(), out);
     }
 }

@@ -1,9 +1,11 @@
 //! Bitwise kernels.
+#![tactic(auto, using(crate::proofs::ByteLaws::bit_lanes))]
+
 ghost use Rattle.std.specs.Prelude.{◌≡◌, pos, map, length};
 ghost use Rattle.std.specs.Simd.Lanes.{zip2};
 ghost use Rattle.vx_base.specs.Pixelwise.{and_bits, or_bits, xor_bits, not_bits};
 
-use crate::bytes::inverted_bytes;
+use crate::item::bytes_of;
 use crate::kernel::{LanesOfItem, OfItem, OfPair};
 use crate::rows::{map_row, zip_rows};
 use crate::stores::store_32_bytes;
@@ -20,7 +22,7 @@ impl OfPair<u8, u8, u8> for And {
     }
 
     fn lanes(&self, first: &[u8], second: &[u8], out: &mut [u8]) {
-        let bits = u8x32::from_slice(first) & u8x32::from_slice(second);
+        let bits = bytes_of(first) & bytes_of(second);
         store_32_bytes(bits.to_array(), out);
     }
 }
@@ -36,7 +38,7 @@ impl OfPair<u8, u8, u8> for Or {
     }
 
     fn lanes(&self, first: &[u8], second: &[u8], out: &mut [u8]) {
-        let bits = u8x32::from_slice(first) | u8x32::from_slice(second);
+        let bits = bytes_of(first) | bytes_of(second);
         store_32_bytes(bits.to_array(), out);
     }
 }
@@ -52,7 +54,7 @@ impl OfPair<u8, u8, u8> for Xor {
     }
 
     fn lanes(&self, first: &[u8], second: &[u8], out: &mut [u8]) {
-        let bits = u8x32::from_slice(first) ^ u8x32::from_slice(second);
+        let bits = bytes_of(first) ^ bytes_of(second);
         store_32_bytes(bits.to_array(), out);
     }
 }
@@ -70,7 +72,7 @@ impl OfItem<u8, u8> for Not {
 
 impl LanesOfItem<u8, u8> for Not {
     fn lanes(&self, row: &[u8], out: &mut [u8]) {
-        store_32_bytes(inverted_bytes(u8x32::from_slice(row)).to_array(), out);
+        store_32_bytes((!bytes_of(row)).to_array(), out);
     }
 }
 

@@ -5,8 +5,7 @@ ghost use Rattle.std.specs.Prelude.{◌≡◌, ◌≤◌, ◌^◌, ◌*ℤ◌, p
 ghost use Rattle.vx_base.specs.declared.format.Format.TheVariants.{U8};
 ghost use Rattle.vx_base.specs.Pixelwise.{depth_conversion};
 
-use crate::depth_lanes::{shifted_down, shifted_up};
-use crate::item::shorts_of;
+use crate::item::{bytes_of, shorts_of};
 use crate::kernel::{LanesOfItem, OfItem};
 use crate::overflow::{Overflow, Saturated, Wrapped, with_overflow};
 use crate::rows::map_row;
@@ -31,7 +30,7 @@ impl OfItem<u8, i16> for ShiftedUp {
 
 impl LanesOfItem<u8, i16> for ShiftedUp {
     fn lanes(&self, row: &[u8], out: &mut [i16]) {
-        let shorts = shifted_up(u8x32::from_slice(row), self.amount);
+        let shorts = bytes_of(row).cast::<i16>() << i16::from(self.amount);
         store_32_shorts(shorts.to_array(), out);
     }
 }
@@ -57,12 +56,19 @@ impl<P: Overflow> OfItem<i16, u8> for Narrowed<P> {
 
 impl<P: Overflow> LanesOfItem<i16, u8> for Narrowed<P> {
     fn lanes(&self, row: &[i16], out: &mut [u8]) {
-        let bytes = shifted_down(shorts_of(row), self.amount, self.overflow.policy());
+        let numbers = shorts_of(row) >> i16::from(self.amount);
+        let bytes = match self.overflow.policy() {
+            Policy::Wrap => (numbers & i16x32::splat(255)).cast::<u8>(),
+            Policy::Saturate => numbers
+                .simd_max(i16x32::splat(0))
+                .simd_min(i16x32::splat(255))
+                .cast::<u8>(),
+        };
         store_32_bytes(bytes.to_array(), out);
     }
 }
 
-/// Writes the same numbers as S16 samples.
+/// Writes the items as S16 samples of the same values.
 pub fn widen(row: &[u8], out: &mut [i16])
     requires { length row.now ≡ length out.old }
     ensures { out.new ≡ map pos row.now }

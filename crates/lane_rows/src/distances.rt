@@ -1,5 +1,5 @@
 //! Absolute differences. OpenVX 1.3, "Absolute Difference".
-#![tactic(auto, using(crate::proofs::ShortLaws::fit_as_bits))]
+#![tactic(auto, using(crate::proofs::ShortLanes::distance_lanes))]
 
 ghost use Rattle.std.specs.Prelude.{◌≡◌, pos, map, length};
 ghost use Rattle.std.specs.Simd.Lanes.{zip2};
@@ -7,10 +7,9 @@ ghost use Rattle.vx_base.specs.declared.format.Format.TheVariants.{U8, S16};
 ghost use Rattle.vx_base.specs.Pixelwise.{absolute_difference};
 
 use crate::arithmetic::{Arithmetic, OfSamples};
-use crate::bytes::byte_distances;
 use crate::item::Short;
 use crate::rows::zip_rows;
-use crate::shorts::{narrowed, short_distances};
+use crate::shorts::narrowed;
 use std::simd::prelude::*;
 use vx_base::Policy;
 
@@ -29,12 +28,14 @@ impl Arithmetic for Distance {
         a.abs_diff(b).min(32_767) as i16
     }
 
+    #[tactic(auto, using(crate::proofs::ByteLaws::distances_are))]
     fn bytes(&self, a: u8x32, b: u8x32) -> u8x32 {
-        byte_distances(a, b)
+        a.simd_max(b) - a.simd_min(b)
     }
 
     fn shorts(&self, a: i16x16, b: i16x16) -> i16x16 {
-        narrowed(short_distances(a, b), Policy::Saturate)
+        let distances = a.simd_max(b).cast::<i32>() - a.simd_min(b).cast::<i32>();
+        narrowed(distances, Policy::Saturate)
     }
 }
 
@@ -48,7 +49,7 @@ pub fn absdiff_u8(first: &[u8], second: &[u8], out: &mut [u8])
     zip_rows(&OfSamples(&Distance), first, second, out);
 }
 
-/// Writes the absolute differences of the items, each U8 or S16, at most 32,767.
+/// Writes the absolute differences of the items, at most 32,767. Each row is U8 or S16.
 pub fn absdiff_s16<A: Short, B: Short>(first: &[A], second: &[B], out: &mut [i16])
     requires first_len { length first.now ≡ length out.old }
     requires second_len { length second.now ≡ length out.old }

@@ -1,15 +1,13 @@
 //! The smaller and the greater of two items. OpenVX 1.3, "Min" and "Max".
-#![tactic(auto, using(crate::proofs::ShortLaws::fit_as_bits))]
+#![tactic(auto, using(crate::proofs::ShortLanes::extreme_lanes))]
 
 ghost use Rattle.std.specs.Prelude.{◌≡◌, pos, map, length};
 ghost use Rattle.std.specs.Simd.Lanes.{zip2};
 ghost use Rattle.vx_base.specs.Pixelwise.{smaller, greater};
 
 use crate::arithmetic::{Arithmetic, OfSamples};
-use crate::bytes::{greater_bytes, smaller_bytes};
 use crate::item::Short;
 use crate::rows::zip_rows;
-use crate::shorts::{greater_shorts, smaller_shorts};
 use std::simd::prelude::*;
 
 /// The smaller of the items.
@@ -27,12 +25,13 @@ impl Arithmetic for Smaller {
         a.min(b)
     }
 
+    #[tactic(auto, using(crate::proofs::ByteLaws::extreme_lanes))]
     fn bytes(&self, a: u8x32, b: u8x32) -> u8x32 {
-        smaller_bytes(a, b)
+        a.simd_min(b)
     }
 
     fn shorts(&self, a: i16x16, b: i16x16) -> i16x16 {
-        smaller_shorts(a, b)
+        a.simd_min(b)
     }
 }
 
@@ -51,12 +50,13 @@ impl Arithmetic for Greater {
         a.max(b)
     }
 
+    #[tactic(auto, using(crate::proofs::ByteLaws::extreme_lanes))]
     fn bytes(&self, a: u8x32, b: u8x32) -> u8x32 {
-        greater_bytes(a, b)
+        a.simd_max(b)
     }
 
     fn shorts(&self, a: i16x16, b: i16x16) -> i16x16 {
-        greater_shorts(a, b)
+        a.simd_max(b)
     }
 }
 

@@ -17,14 +17,15 @@ fn weighted_sum(items: ThreeItems) -> u16
     u16::from(items.0) + 2 * u16::from(items.1) + u16::from(items.2)
 }
 
-/// Returns the second three samples minus the first three, summed with weights 1, 2, 1.
+/// Returns the sum of the second three samples minus that of the first three, both with weights 1,
+/// 2, 1.
 fn change(from: ThreeItems, to: ThreeItems) -> i16
     ensures { result ≡ change from to }
 {
     weighted_sum(to) as i16 - weighted_sum(from) as i16
 }
 
-/// Writes d, e and f minus a, b and c, summed with weights 1, 2, 1, in each of 32 lanes.
+/// Writes (d - a) + 2 * (e - b) + (f - c) for each of 32 lanes.
 fn write_changes(a: u8x32, b: u8x32, c: u8x32, d: u8x32, e: u8x32, f: u8x32, out: &mut [i16])
     requires out_len { length out.old ≡ 32 }
     ensures { (g h i j k l : ℕ → ℕ) (place : ℕ) →

@@ -1,5 +1,5 @@
-//! Writes rows in blocks of 32 items, of which the last may overlap the one before. A row shorter
-//! than a block is written item by item.
+//! Writes rows in blocks of 32 items, of which the last block may overlap the block before. A row
+//! shorter than a block is written item by item.
 ghost use Rattle.std.specs.Prelude.{◌≡◌, ◌+◌, ◌-◌, ◌*◌, ◌<◌, ◌≤◌, ℕ, ℤ, map, take, length};
 ghost use Rattle.vx_base.specs.Image.{run};
 
@@ -37,8 +37,7 @@ fn write_blocks<T: Item, R: Indexed<T>>(row: &R, blocks: usize, out: &mut [T])
     }
 }
 
-/// Writes the last 32 items, once the items before them are written. Some of the 32 may be written
-/// already.
+/// Writes the last 32 items. The items before them have been written, and so may some of the 32.
 fn write_last<T: Item, R: Indexed<T>>(row: &R, out: &mut [T])
     requires count { R.count row.now ≡ length out.old }
     requires room { 32 ≤ length out.old }

@@ -58,6 +58,14 @@ impl Short for i16 {
     }
 }
 
+/// Returns the 32 bytes of a block.
+pub fn bytes_of(block: &[u8]) -> u8x32
+    requires { length block.now ≡ 32 }
+    ensures { result ≡ block.now }
+{
+    u8x32::from_slice(block)
+}
+
 /// Returns the 32 items of a block.
 pub fn shorts_of(block: &[i16]) -> i16x32
     requires { length block.now ≡ 32 }

@@ -46,11 +46,11 @@ pub trait OfSum<A: Item, T: Item> {
     /// The new sum, from the value of the row's item and the old sum at its index.
     ghost formula: { Self → ℤ → ℤ → ℤ };
 
-    /// Returns the new sum.
+    /// Returns the new sum, from an item and the old sum.
     fn item(&self, a: A, sum: T) -> T
         ensures { T.value result ≡ formula self.now (A.value a) (T.value sum) };
 
-    /// Updates 16 sums.
+    /// Updates 16 sums with 16 items of the row.
     fn lanes(&self, row: &[A], sums: &mut [T])
         requires row_len { length row.now ≡ 16 }
         requires sums_len { length sums.old ≡ 16 }

@@ -1,10 +1,10 @@
-//! Kernels over rows: functions of slices that have the same length, which may be any. The inputs
-//! come first, then the parameters, then the output.
+//! Kernels over rows: functions of slices of one length, which may be any length. The inputs come
+//! first, then the parameters, then the output.
 //!
 //! Each output item is computed from the input items at its index. A kernel that updates a row also
 //! reads the output item that it replaces. A kernel is a small type that computes one item, and a
-//! block of items in lanes (`std::simd`). One proof covers all kernels: it shows that a row is
-//! written as a whole, block by block and the rest item by item.
+//! block of items in lanes (`std::simd`). One proof covers all kernels: every item of a row is
+//! written, first block by block, and then the remaining items one by one.
 //!
 //! - `item`: the number types of items
 //! - `kernel`: the traits of kernels, for one row, for two rows, and for updates
@@ -18,9 +18,9 @@
 //!   item occurs, and its first index
 //! - `tallies`: a histogram of the bytes of a row
 //! - `running`: running sums of a row, added to the sums of the row above
-//! - `indexed`: rows that are written in blocks of 32 items; the last block may overlap the one
+//! - `indexed`: rows that are written in blocks of 32 items; the last block may overlap the block
 //!   before
-//! - `nine_rows`, `nine`: windows of 3 x 3 samples as nine rows, and kernels of them
+//! - `nine_rows`, `nine`: windows of 3 x 3 samples as nine rows, and kernels of such windows
 //! - `ranks`, `gradients`: the kernels of 3 x 3 windows, and minima and maxima of three rows
 //! - `threes`: sums and means of three rows of non-negative numbers
 //! - `columns`: kernels of three rows, with weighted sums and differences for gradients
@@ -28,14 +28,14 @@
 //! - `matrix_rows`: sums of rows of samples times the coefficients of a matrix, by `pairs` of
 //!   coefficients
 //! - `scales`: numbers divided by a power of two, rounded toward zero and clamped
-//! - `bytes`, `shorts`, `choices`, `depth_lanes`: arithmetic in lanes
+//! - `shorts`: S16 numbers in lanes
 //!
 //! The table lists the kernels and their formulas: a and b are the input items, c is the old output
 //! item, and p narrows to the output's format by the policy. Times are in picoseconds per item, for
 //! rows of 1920 items in the cache, on x86-64-v2 (registers of 16 bytes) and x86-64-v3 (32 bytes).
 //! A block of 32 items takes two registers of bytes or four of S16 items on v2, and half as many on
 //! v3. A kernel that updates a row has blocks of 16 items. Kernels without a time were not measured
-//! alone.
+//! on their own.
 //!
 //! | Kernel | Formula | Conditions | v2 | v3 |
 //! |---|---|---|---|---|
@@ -63,11 +63,8 @@ mod arithmetic;
 mod axpy;
 mod bits;
 mod blocks;
-mod bytes;
-mod choices;
 mod columns;
 mod compared;
-mod depth_lanes;
 mod depths;
 mod distances;
 mod extent;

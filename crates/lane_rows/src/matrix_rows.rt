@@ -20,14 +20,14 @@ pub struct MatrixRows<'a> {
     pub rows: &'a [i16],
     /// The length of a row in items.
     pub line: u16,
-    /// The coefficients: 80 items for each row, which hold its pairs of coefficients, each eight
-    /// times.
+    /// The coefficients: 80 items for each row, which hold each of the row's pairs of coefficients
+    /// eight times.
     pub tables: &'a [i16],
     /// The number of rows.
     pub count: u8,
     /// The number of pairs of coefficients in a row.
     pub pairs: usize,
-    /// The sums are divided by 2 to the power of this.
+    /// The exponent of the power of two by which the sums are divided.
     pub exponent: u8,
     ghost few: { (count ≤ 9) × (pairs ≤ 5) },
     ghost small: { exponent ≤ 31 },
@@ -51,8 +51,8 @@ fn row_of(items: &[i16], line: u16, l: u8) -> &[i16]
 impl MatrixRows<'_> {
     ghost use Rattle.lane_rows.specs.MatrixRows.{matrix_sum};
 
-    /// Returns the sums at 32 indices: at the even indices and at the odd ones, counted from
-    /// `place`.
+    /// Returns the sums at the 32 indices from `place` on: first the sums at an even distance from
+    /// `place`, then the sums at an odd distance.
     fn sum_rows(&self, place: usize) -> (i32x16, i32x16)
         requires { place + 2 * self.now.pairs + 31 ≤ self.now.line }
         ensures even { result.0 ≡ run 0 16 (λ i. matrix_sum self.now (place + 2 * i)) }
@@ -102,8 +102,8 @@ impl MatrixRows<'_> {
         }
     }
 
-    /// Writes the sums divided by 2^exponent, rounded toward zero and clamped. The rows are 48
-    /// items longer than `out`, since a block reads beyond the items that it writes.
+    /// Writes the sums divided by 2^exponent, rounded toward zero and clamped. The rows are at
+    /// least 48 items longer than `out`, since a block reads beyond the items that it writes.
     pub fn write<T: Clamped>(&self, out: &mut [T])
         requires { length out.old + 48 ≤ self.now.line }
         ensures { map T.value out.new ≡ run 0 (length out.old) (λ i.

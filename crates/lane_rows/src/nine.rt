@@ -28,7 +28,8 @@ pub trait OfNine<T: Item> {
 }
 
 impl<'a> Three<'a> {
-    /// Returns, for each item of a row except the last two, the item and the two to its right.
+    /// Returns, for each item of a row except the last two, the item and the two items to its
+    /// right.
     fn along(row: &'a [u8]) -> Three<'a>
         requires { 2 ≤ length row.now }
         ensures len { length result.left.now + 2 ≡ length row.now }
@@ -70,7 +71,7 @@ impl<'a> Nine<'a> {
     }
 }
 
-/// A kernel's results for nine rows.
+/// A kernel's results for each window of nine rows.
 #[derive(Drop)]
 struct NineAt<'a, 'b, K> {
     kernel: &'a K,

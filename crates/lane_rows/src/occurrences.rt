@@ -1,4 +1,7 @@
-//! The number of times that an item occurs in a row, and its first index.
+//! The number of times that an item occurs in a row, and its first index. `Compared::count_in`
+//! compares blocks in lanes (`std::simd`).
+#![tactic(auto, using(crate::proofs::CountLaws::counts))]
+
 ghost use Rattle.std.specs.Prelude.{◌≡◌, ◌*◌, ◌<◌, ◌≤◌, ◌^◌, pos, map, length, slice_range};
 ghost use Rattle.std.specs.Prelude.{slice_index_or};
 ghost use Rattle.vx_base.specs.Statistics.{count_of};

@@ -5,7 +5,8 @@ ghost use Rattle.vx_base.specs.declared.policy.Policy.TheVariants.{Wrap, Saturat
 
 use vx_base::Policy;
 
-/// An overflow policy as a type, known when a kernel is compiled, so that its loop doesn't test it.
+/// An overflow policy as a type, known when a kernel is compiled, so that the kernel's loop doesn't
+/// test the policy.
 pub trait Overflow {
     ghost policy: { Self → Value };
 

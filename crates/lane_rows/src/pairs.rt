@@ -33,10 +33,11 @@ fn pair_products(samples: i16x16, coefficients: i16x16) -> i32x8
                 .cast::<i32>()
 }
 
-/// Returns the sums of two coefficients at eight indices, every second one from `place` on.
+/// Returns a sum for each of eight indices: every second index from `place` on. The sum is the
+/// sample at the index times one coefficient, plus the next sample times another.
 ///
-/// The coefficients are read from a table here. If they were put in vectors before the loop, the
-/// compiler would widen them there, and then need a multiplication for each product.
+/// The coefficients are read from a table here. If a caller put them in vectors before its loop,
+/// the compiler would widen the vectors there, and then need a multiplication for each product.
 fn eight_places(row: &[i16], place: usize, table: &[i16], at: usize) -> i32x8
     requires room { place + 16 ≤ length row.now }
     requires limit { Each1 (IsNear 255) row.now }
@@ -52,7 +53,7 @@ fn eight_places(row: &[i16], place: usize, table: &[i16], at: usize) -> i32x8
     pair_products(samples, coefficients)
 }
 
-/// Returns the sums of two coefficients at 16 indices, every second one from `place` on.
+/// Returns such sums as `eight_places` does, for 16 indices: every second index from `place` on.
 ///
 /// The halves are joined before they are added to the sums. Otherwise the compiler adds the
 /// products one by one, which takes twice as many multiplications.
@@ -76,8 +77,8 @@ fn sixteen_places(row: &[i16], place: usize, table: &[i16], at: usize) -> i32x16
     )
 }
 
-/// Adds the sums of one matrix row to those at 32 indices. Returns the sums at the even indices and
-/// at the odd ones, counted from `place`.
+/// Adds the sums of one matrix row to the sums at the 32 indices from `place` on. Returns the new
+/// sums at an even distance from `place`, and the new sums at an odd distance.
 pub fn add_row(
     row: &[i16],
     place: usize,

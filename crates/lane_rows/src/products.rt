@@ -4,16 +4,15 @@
 ghost use Rattle.std.specs.Prelude.{◌≡◌, ◌≤◌, ◌^◌, ◌*ℤ◌, pos, int_div, map, length};
 ghost use Rattle.std.specs.Simd.Lanes.{zip2};
 ghost use Rattle.vx_base.specs.declared.format.Format.TheVariants.{U8, S16};
-ghost use Rattle.vx_base.specs.Sample.{IsSample};
+ghost use Rattle.vx_base.specs.Sample.{IsSample, narrow};
 ghost use Rattle.vx_base.specs.Pixelwise.{product};
 
 use crate::arithmetic::{Arithmetic, OfSamples};
-use crate::bytes::{byte_products, narrowed_bytes};
 use crate::item::Short;
 use crate::overflow::{Overflow, Saturated, Wrapped, with_overflow};
 use crate::rows::zip_rows;
-use crate::scales::scaled;
-use crate::shorts::multiplied;
+use crate::scales::{scaled, scaled_lanes};
+use crate::shorts::{narrowed, products, quarters_exchanged};
 use std::simd::prelude::*;
 use vx_base::{Policy, narrow_s16, narrow_u8};
 
@@ -23,6 +22,17 @@ fn scaled_product(a: i16, b: i16, amount: u8) -> i32
     ensures { result ≡ int_div (a *ℤ b) (pos (2 ^ amount)) }
 {
     scaled(i32::from(a) * i32::from(b), amount)
+}
+
+/// Returns the numbers narrowed to U8 by the policy.
+#[tactic(auto, using(crate::proofs::LaneLaws::narrow_lanes))]
+fn narrowed_bytes(numbers: u16x32, policy: Policy) -> u8x32
+    ensures { map pos result ≡ map (narrow U8 policy) (map pos numbers) }
+{
+    match policy {
+        Policy::Wrap => (numbers & u16x32::splat(255)).cast::<u8>(),
+        Policy::Saturate => numbers.simd_min(u16x32::splat(255)).cast::<u8>(),
+    }
 }
 
 /// The product over 2^amount, rounded toward zero and narrowed by the policy.
@@ -46,11 +56,13 @@ impl<P: Overflow> Arithmetic for Product<P> {
     }
 
     fn bytes(&self, a: u8x32, b: u8x32) -> u8x32 {
-        narrowed_bytes(byte_products(a, b, self.amount), self.overflow.policy())
+        let products = (a.cast::<u16>() * b.cast::<u16>()) >> u16::from(self.amount);
+        narrowed_bytes(products, self.overflow.policy())
     }
 
     fn shorts(&self, a: i16x16, b: i16x16) -> i16x16 {
-        multiplied(a, b, self.amount, self.overflow.policy())
+        let quotients = scaled_lanes(products(a, b), self.amount);
+        quarters_exchanged(narrowed(quotients, self.overflow.policy()))
     }
 }
 
@@ -68,8 +80,8 @@ pub fn mul_u8(first: &[u8], second: &[u8], amount: u8, policy: Policy, out: &mut
     })
 }
 
-/// Writes the products of the items, each U8 or S16, divided by 2^amount, rounded toward zero and
-/// narrowed by the policy.
+/// Writes the products of the items divided by 2^amount, rounded toward zero and narrowed by the
+/// policy. Each row is U8 or S16.
 pub fn mul_s16<A: Short, B: Short>(
     first: &[A],
     second: &[B],

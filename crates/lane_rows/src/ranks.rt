@@ -19,7 +19,8 @@ use crate::stores::store_32_bytes;
 use std::marker::PhantomData;
 use std::simd::prelude::*;
 
-/// The choice of the smaller of two samples, or of the greater, and so of three and of nine.
+/// A choice between two samples, of the smaller or of the greater; three and nine samples are
+/// chosen from two at a time.
 trait Choice {
     ghost choice: { ℕ → ℕ → ℕ };
 
@@ -56,6 +57,7 @@ impl Choice for Least {
         a.min(b)
     }
 
+    #[tactic(auto, using(crate::proofs::ByteLaws::rank_lanes))]
     fn of_two_lanes(a: u8x32, b: u8x32) -> u8x32 {
         a.simd_min(b)
     }
@@ -80,6 +82,7 @@ impl Choice for Greatest {
         a.max(b)
     }
 
+    #[tactic(auto, using(crate::proofs::ByteLaws::rank_lanes))]
     fn of_two_lanes(a: u8x32, b: u8x32) -> u8x32 {
         a.simd_max(b)
     }
@@ -117,7 +120,7 @@ impl<C: Choice> OfNine<u8> for C {
     }
 }
 
-/// The choices from three rows.
+/// The sample chosen from three rows, at each index.
 #[derive(Drop)]
 struct ChosenAt<'a, 'b, C> {
     choice: PhantomData<C>,
@@ -186,30 +189,16 @@ fn middle_lanes(items: ThreeLanes) -> u8x32
 
 /// The median of the nine samples of a window.
 ///
-/// It is computed from the least, the middle and the greatest sample of each column: the median of
-/// the greatest least, the middle middle and the least greatest.
+/// Each column has a least, a middle and a greatest sample. The median is that of three samples:
+/// the greatest of the least, the middle of the middle and the least of the greatest samples.
 pub struct Median;
 
 impl OfNine<u8> for Median {
     ghost formula = { λ _. median };
 
+    #[tactic(auto, using(crate::proofs::MedianLaws::median_of_numbers))]
     fn item(&self, above: ThreeItems, here: ThreeItems, below: ThreeItems) -> u8 {
-        let left = (above.0, here.0, below.0);
-        let centre = (above.1, here.1, below.1);
-        let right = (above.2, here.2, below.2);
-        let low = (
-            chosen::<Least>(left),
-            chosen::<Least>(centre),
-            chosen::<Least>(right),
-        );
-        let between = (middle(left), middle(centre), middle(right));
-        let high = (
-            chosen::<Greatest>(left),
-            chosen::<Greatest>(centre),
-            chosen::<Greatest>(right),
-        );
-        let (lowest, highest) = (chosen::<Greatest>(low), chosen::<Least>(high));
-        middle((lowest, highest, middle(between)))
+        median_of(above, here, below)
     }
 
     fn lanes(&self, nine: &Nine<'_>, place: usize, out: &mut [u8]) {
@@ -218,6 +207,29 @@ impl OfNine<u8> for Median {
         let below = three_lanes(&nine.below, place);
         store_32_bytes(medians(above, here, below).to_array(), out);
     }
+}
+
+/// Returns the median of a window.
+fn median_of(above: ThreeItems, here: ThreeItems, below: ThreeItems) -> u8
+    ensures { result ≡ middle_of_nine min max above.0 above.1 above.2 here.0 here.1 here.2 below.0
+        below.1 below.2 }
+{
+    let left = (above.0, here.0, below.0);
+    let centre = (above.1, here.1, below.1);
+    let right = (above.2, here.2, below.2);
+    let low = (
+        chosen::<Least>(left),
+        chosen::<Least>(centre),
+        chosen::<Least>(right),
+    );
+    let between = (middle(left), middle(centre), middle(right));
+    let high = (
+        chosen::<Greatest>(left),
+        chosen::<Greatest>(centre),
+        chosen::<Greatest>(right),
+    );
+    let (lowest, highest) = (chosen::<Greatest>(low), chosen::<Least>(high));
+    middle((lowest, highest, middle(between)))
 }
 
 /// Returns the medians of the windows in 32 lanes.
@@ -263,8 +275,8 @@ pub fn max9(nine: &Nine<'_>, out: &mut [u8])
     write_nine(&Greatest, nine, out);
 }
 
-/// Writes the median of each window: a sample with at most four smaller and at most four greater
-/// ones.
+/// Writes the median of each window: at most four samples are smaller, and at most four are
+/// greater.
 pub fn median9(nine: &Nine<'_>, out: &mut [u8])
     requires { window_count nine.now ≡ length out.old }
     ensures { map pos out.new ≡ run 0 (length out.old) (λ i. median (nine_at nine.now i)) }

@@ -1,4 +1,4 @@
-//! Writes or updates whole rows: complete blocks in lanes, and the rest item by item.
+//! Writes or updates whole rows: complete blocks in lanes, and the remaining items one by one.
 ghost use Rattle.std.specs.Prelude.{◌≡◌, map, length};
 ghost use Rattle.std.specs.Simd.Lanes.{zip2};
 

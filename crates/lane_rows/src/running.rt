@@ -8,8 +8,8 @@ use std::simd::prelude::*;
 /// Returns the running sums of 16 items.
 ///
 /// Each lane starts as the sum of a pair of neighbours. The steps add to each lane the lanes one,
-/// two and four before it, which gives the sums that end with a pair. The sums that end within a
-/// pair are those minus its second item.
+/// two and four before it, which gives the sums up to the end of each pair. A sum up to the middle
+/// of a pair is the sum up to its end minus the pair's second item.
 fn running(items: u8x16) -> u32x16
     ensures { result ≡ map (λ k. sum (take k items)) (range_with_len 1 16) }
 {
@@ -29,10 +29,10 @@ fn running(items: u8x16) -> u32x16
         .cast::<u32>()
 }
 
-/// Indices that repeat eight lanes in both halves of sixteen, which takes no instruction.
+/// Indices that repeat eight lanes in both halves of sixteen. Such a swizzle takes no instruction.
 const TWICE: [usize; 16] = [0, 1, 2, 3, 4, 5, 6, 7, 0, 1, 2, 3, 4, 5, 6, 7];
 
-/// Writes the sums of the first blocks, and returns the total of the row's items in them.
+/// Writes the sums of the first blocks, and returns the total of the row's items in these blocks.
 ///
 /// The total stays in lanes, so that the next block doesn't wait for the sums to be stored.
 fn write_block_sums(row: &[u8], above: &[u32], blocks: usize, out: &mut [u32]) -> u32
@@ -54,7 +54,8 @@ fn write_block_sums(row: &[u8], above: &[u32], blocks: usize, out: &mut [u32]) -
     total.to_array()[0]
 }
 
-/// Writes for each index the sum above it plus the row's items up to it, modulo 2^32.
+/// Writes, for each index, the sum of `above` at that index plus the row's items up to it, modulo
+/// 2^32.
 pub fn running_sums(row: &[u8], above: &[u32], out: &mut [u32])
     requires above_len { length above.now ≡ length row.now }
     requires out_len { length out.old ≡ length row.now }

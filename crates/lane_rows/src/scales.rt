@@ -34,7 +34,8 @@ pub fn scaled_lanes(numbers: i32x16, exponent: u8) -> i32x16
     requires exponent { exponent ≤ 31 }
     requires len { length numbers ≡ 16 }
     requires fits { Each1 (FitsSigned w32) numbers }
-    ensures { result ≡ map (λ z. int_div z (pos (2 ^ exponent))) numbers }
+    ensures value { result ≡ map (λ z. int_div z (pos (2 ^ exponent))) numbers }
+    ensures result_fits { Each1 (FitsSigned w32) result }
 {
     let rest = i32x16::splat(((1u32 << exponent) - 1) as i32);
     let none = i32x16::splat(0);
@@ -60,11 +61,11 @@ pub trait Clamped: Item {
     /// The format of the samples.
     ghost format: { Format };
 
-    /// Returns the nearest item.
+    /// Returns the item nearest to a number.
     fn nearest(number: i32) -> Self
         ensures { Self.value result ≡ clamp format number };
 
-    /// Writes the nearest items of 16 numbers.
+    /// Writes the item nearest to each of 16 numbers.
     fn store_nearest(numbers: i32x16, out: &mut [Self])
         requires len { length numbers ≡ 16 }
         requires fits { Each1 (FitsSigned w32) numbers }
@@ -109,6 +110,7 @@ pub struct Scale {
 
 impl Scale {
     /// Writes the results for 16 numbers.
+    #[tactic(auto, using(crate::proofs::NarrowLaws::scale_lanes))]
     fn write_sixteen<T: Clamped>(&self, row: &[i32], out: &mut [T])
         requires row_len { length row.now ≡ 16 }
         requires out_len { length out.old ≡ 16 }

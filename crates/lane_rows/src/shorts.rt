@@ -6,7 +6,7 @@ ghost use Rattle.std.specs.Prelude.{FitsSigned};
 ghost use Rattle.std.specs.Int.{w16, w32, int_div_euclid};
 ghost use Rattle.std.specs.Simd.Lanes.{zip2, Each1};
 ghost use Rattle.vx_base.specs.declared.format.Format.TheVariants.{S16};
-ghost use Rattle.vx_base.specs.declared.policy.Policy.TheVariants.{Wrap, Saturate};
+ghost use Rattle.vx_base.specs.declared.policy.Policy.TheVariants.{Saturate};
 ghost use Rattle.vx_base.specs.Sample.{narrow, distance};
 ghost use Rattle.vx_base.specs.Pixelwise.{product, smaller, greater, accumulated_sum};
 ghost use Rattle.lane_rows.specs.Quarters.{swap_quarters};
@@ -15,72 +15,19 @@ use crate::scales::scaled_lanes;
 use std::simd::prelude::*;
 use vx_base::Policy;
 
-/// Returns the sums.
-pub fn short_sums(a: i16x16, b: i16x16) -> i32x16
-    requires a_len { length a ≡ 16 }
-    requires b_len { length b ≡ 16 }
-    requires a_fits { Each1 (FitsSigned w16) a }
-    requires b_fits { Each1 (FitsSigned w16) b }
-    ensures { result ≡ zip2 ◌+ℤ◌ a b }
-{
-    a.cast::<i32>() + b.cast::<i32>()
-}
-
-/// Returns the first numbers minus the second.
-pub fn short_differences(a: i16x16, b: i16x16) -> i32x16
-    requires a_len { length a ≡ 16 }
-    requires b_len { length b ≡ 16 }
-    requires a_fits { Each1 (FitsSigned w16) a }
-    requires b_fits { Each1 (FitsSigned w16) b }
-    ensures { result ≡ zip2 ◌-ℤ◌ a b }
-{
-    a.cast::<i32>() - b.cast::<i32>()
-}
-
-/// Returns the absolute differences.
-pub fn short_distances(a: i16x16, b: i16x16) -> i32x16
-    requires a_len { length a ≡ 16 }
-    requires b_len { length b ≡ 16 }
-    requires a_fits { Each1 (FitsSigned w16) a }
-    requires b_fits { Each1 (FitsSigned w16) b }
-    ensures { result ≡ zip2 (λ x y. pos (distance x y)) a b }
-{
-    a.simd_max(b).cast::<i32>() - a.simd_min(b).cast::<i32>()
-}
-
-/// Returns the smaller number of each pair.
-pub fn smaller_shorts(a: i16x16, b: i16x16) -> i16x16
-    requires a_len { length a ≡ 16 }
-    requires b_len { length b ≡ 16 }
-    requires a_fits { Each1 (FitsSigned w16) a }
-    requires b_fits { Each1 (FitsSigned w16) b }
-    ensures { result ≡ zip2 smaller a b }
-{
-    a.simd_min(b)
-}
-
-/// Returns the greater number of each pair.
-pub fn greater_shorts(a: i16x16, b: i16x16) -> i16x16
-    requires a_len { length a ≡ 16 }
-    requires b_len { length b ≡ 16 }
-    requires a_fits { Each1 (FitsSigned w16) a }
-    requires b_fits { Each1 (FitsSigned w16) b }
-    ensures { result ≡ zip2 greater a b }
-{
-    a.simd_max(b)
-}
-
-/// Returns the products, with the second and third quarters exchanged.
+/// Returns the product of each pair, with the second and third quarters of the lanes exchanged.
 ///
 /// The low and high halves of each product are computed separately. A processor multiplies numbers
 /// of 16 bits and joins the halves faster than it widens the numbers and multiplies them in 32
-/// bits. With registers of 32 bytes it joins within each 16 bytes, which gives this order.
-fn products(a: i16x16, b: i16x16) -> i32x16
+/// bits. In registers of 32 bytes it joins halves within each 16 bytes, which gives the order with
+/// exchanged quarters.
+pub fn products(a: i16x16, b: i16x16) -> i32x16
     requires a_len { length a ≡ 16 }
     requires b_len { length b ≡ 16 }
     requires a_fits { Each1 (FitsSigned w16) a }
     requires b_fits { Each1 (FitsSigned w16) b }
-    ensures { result ≡ swap_quarters (zip2 ◌*ℤ◌ a b) }
+    ensures value { result ≡ swap_quarters (zip2 ◌*ℤ◌ a b) }
+    ensures fits { Each1 (FitsSigned w32) result }
 {
     let low = a * b;
     let high = ((a.cast::<i32>() * b.cast::<i32>()) >> 16).cast::<i16>();
@@ -94,7 +41,7 @@ fn products(a: i16x16, b: i16x16) -> i32x16
     i32x16::from_le_bytes(halves.to_le_bytes())
 }
 
-/// Returns the nearest S16 samples.
+/// Returns the S16 sample nearest to each number.
 pub fn clamped(numbers: i32x16) -> i16x16
     requires len { length numbers ≡ 16 }
     requires fits { Each1 (FitsSigned w32) numbers }
@@ -106,15 +53,6 @@ pub fn clamped(numbers: i32x16) -> i16x16
         .cast::<i16>()
 }
 
-/// Returns the numbers modulo 2^16, as S16 samples.
-fn wrapped(numbers: i32x16) -> i16x16
-    requires len { length numbers ≡ 16 }
-    requires fits { Each1 (FitsSigned w32) numbers }
-    ensures { result ≡ map (narrow S16 Wrap) numbers }
-{
-    ((numbers << 16) >> 16).cast::<i16>()
-}
-
 /// Returns the numbers narrowed to S16 by the policy.
 pub fn narrowed(numbers: i32x16, policy: Policy) -> i16x16
     requires len { length numbers ≡ 16 }
@@ -123,54 +61,22 @@ pub fn narrowed(numbers: i32x16, policy: Policy) -> i16x16
     ensures result_fits { Each1 (FitsSigned w16) result }
 {
     match policy {
-        Policy::Wrap => wrapped(numbers),
+        Policy::Wrap => ((numbers << 16) >> 16).cast::<i16>(),
         Policy::Saturate => clamped(numbers),
     }
 }
 
 /// Returns the numbers with the second and third quarters exchanged.
 ///
-/// A processor with registers of 32 bytes does this exchange itself when it narrows two of them. It
-/// is done in lanes of 64 bits here: the compiler would move an exchange of 16-bit lanes before the
-/// narrowing, which takes longer.
-fn quarters_exchanged(numbers: i16x16) -> i16x16
+/// A processor with registers of 32 bytes exchanges the quarters itself when it narrows two
+/// registers. This function exchanges lanes of 64 bits. The compiler would move an exchange of
+/// 16-bit lanes before the narrowing, which takes longer.
+pub fn quarters_exchanged(numbers: i16x16) -> i16x16
     requires len { length numbers ≡ 16 }
     requires fits { Each1 (FitsSigned w16) numbers }
-    ensures { result ≡ swap_quarters numbers }
+    ensures value { result ≡ swap_quarters numbers }
+    ensures result_fits { Each1 (FitsSigned w16) result }
 {
     let quarters = u64x4::from_le_bytes(numbers.to_le_bytes());
     i16x16::from_le_bytes(quarters.swizzle([0, 2, 1, 3]).to_le_bytes())
-}
-
-/// Returns the products divided by 2^amount, rounded toward zero and narrowed by the policy.
-pub fn multiplied(a: i16x16, b: i16x16, amount: u8, policy: Policy) -> i16x16
-    requires amount { amount ≤ 15 }
-    requires a_len { length a ≡ 16 }
-    requires b_len { length b ≡ 16 }
-    requires a_fits { Each1 (FitsSigned w16) a }
-    requires b_fits { Each1 (FitsSigned w16) b }
-    ensures { result ≡ zip2 (product S16 policy amount) a b }
-{
-    quarters_exchanged(narrowed(scaled_lanes(products(a, b), amount), policy))
-}
-
-/// Returns the squares of bytes divided by 2^amount, rounded down.
-pub fn scaled_squares(row: u8x16, amount: u8) -> u16x16
-    requires { amount ≤ 15 }
-    ensures { map pos result ≡ map (λ a. int_div_euclid (a *ℤ a) (pos (2 ^ amount))) (map pos row) }
-{
-    (row.cast::<u16>() * row.cast::<u16>()) >> u16::from(amount)
-}
-
-/// Returns the sums with the numbers added, at most 32,767.
-///
-/// Each number is limited to 32,767 minus the sum. That difference fits 16 bits without a sign.
-pub fn accumulated_shorts(numbers: u16x16, sums: i16x16) -> i16x16
-    requires len { length sums ≡ 16 }
-    requires fits { Each1 (FitsSigned w16) sums }
-    ensures value { result ≡ zip2 (accumulated_sum S16) (map pos numbers) sums }
-    ensures result_fits { Each1 (FitsSigned w16) result }
-{
-    let room = u16x16::from_le_bytes((i16x16::splat(32767) - sums).to_le_bytes());
-    sums + i16x16::from_le_bytes(numbers.simd_min(room).to_le_bytes())
 }

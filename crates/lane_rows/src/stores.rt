@@ -1,9 +1,9 @@
-//! Stores of lanes: one half after the other, in the order of their addresses; and bytes that are
-//! computed one by one and stored together.
+//! Stores of lanes, in halves, the half at the lower address first; and stores of bytes that are
+//! computed one by one.
 //!
 //! On processors with registers of 16 bytes, the compiler stores the second half of 32 bytes before
-//! the first. If a row doesn't begin at a cache line, such stores alternate between two lines. That
-//! is slower when the row isn't in the first-level cache.
+//! the first. If a row doesn't begin at a cache line, such stores alternate between two lines,
+//! which is slower when the row isn't in the first-level cache.
 ghost use Rattle.std.specs.Prelude.{◌≡◌, pos, map, length};
 
 use crate::items::map_items;

@@ -7,15 +7,14 @@ ghost use Rattle.vx_base.specs.declared.format.Format.TheVariants.{U8, S16};
 ghost use Rattle.vx_base.specs.Pixelwise.{sum, difference};
 
 use crate::arithmetic::{Arithmetic, OfSamples};
-use crate::bytes::{byte_differences, byte_sums};
 use crate::item::Short;
 use crate::overflow::{Overflow, Saturated, Wrapped, with_overflow};
 use crate::rows::zip_rows;
-use crate::shorts::{narrowed, short_differences, short_sums};
+use crate::shorts::narrowed;
 use std::simd::prelude::*;
 use vx_base::{Policy, narrow_s16};
 
-/// The sum, narrowed by the policy.
+/// The sum of two items, narrowed by the policy.
 #[derive(Drop)]
 pub struct Sum<P>(pub P);
 
@@ -33,16 +32,21 @@ impl<P: Overflow> Arithmetic for Sum<P> {
         narrow_s16(i32::from(a) + i32::from(b), self.0.policy())
     }
 
+    #[tactic(auto, using(crate::proofs::ByteLaws::sum_lanes))]
     fn bytes(&self, a: u8x32, b: u8x32) -> u8x32 {
-        byte_sums(a, b, self.0.policy())
+        match self.0.policy() {
+            Policy::Wrap => a + b,
+            Policy::Saturate => a.saturating_add(b),
+        }
     }
 
+    #[tactic(auto, using(crate::proofs::ShortLanes::sum_lanes))]
     fn shorts(&self, a: i16x16, b: i16x16) -> i16x16 {
-        narrowed(short_sums(a, b), self.0.policy())
+        narrowed(a.cast::<i32>() + b.cast::<i32>(), self.0.policy())
     }
 }
 
-/// The first minus the second, narrowed by the policy.
+/// The first item minus the second, narrowed by the policy.
 #[derive(Drop)]
 pub struct Difference<P>(pub P);
 
@@ -60,12 +64,17 @@ impl<P: Overflow> Arithmetic for Difference<P> {
         narrow_s16(i32::from(a) - i32::from(b), self.0.policy())
     }
 
+    #[tactic(auto, using(crate::proofs::ByteLaws::difference_lanes))]
     fn bytes(&self, a: u8x32, b: u8x32) -> u8x32 {
-        byte_differences(a, b, self.0.policy())
+        match self.0.policy() {
+            Policy::Wrap => a - b,
+            Policy::Saturate => a.simd_max(b) - b,
+        }
     }
 
+    #[tactic(auto, using(crate::proofs::ShortLanes::difference_lanes))]
     fn shorts(&self, a: i16x16, b: i16x16) -> i16x16 {
-        narrowed(short_differences(a, b), self.0.policy())
+        narrowed(a.cast::<i32>() - b.cast::<i32>(), self.0.policy())
     }
 }
 
@@ -80,7 +89,7 @@ pub fn add_u8(first: &[u8], second: &[u8], policy: Policy, out: &mut [u8])
     })
 }
 
-/// Writes the sums of the items, each U8 or S16, narrowed by the policy.
+/// Writes the sums of the items, narrowed by the policy. Each row is U8 or S16.
 pub fn add_s16<A: Short, B: Short>(first: &[A], second: &[B], policy: Policy, out: &mut [i16])
     requires first_len { length first.now ≡ length out.old }
     requires second_len { length second.now ≡ length out.old }
@@ -91,7 +100,7 @@ pub fn add_s16<A: Short, B: Short>(first: &[A], second: &[B], policy: Policy, ou
     })
 }
 
-/// Writes the items of the first row minus those of the second, narrowed by the policy.
+/// Writes the items of the first row minus the items of the second, narrowed by the policy.
 pub fn sub_u8(first: &[u8], second: &[u8], policy: Policy, out: &mut [u8])
     requires first_len { length first.now ≡ length out.old }
     requires second_len { length second.now ≡ length out.old }
@@ -103,8 +112,8 @@ pub fn sub_u8(first: &[u8], second: &[u8], policy: Policy, out: &mut [u8])
     })
 }
 
-/// Writes the items of the first row minus those of the second, each U8 or S16, narrowed by the
-/// policy.
+/// Writes the items of the first row minus the items of the second, narrowed by the policy. Each
+/// row is U8 or S16.
 pub fn sub_s16<A: Short, B: Short>(first: &[A], second: &[B], policy: Policy, out: &mut [i16])
     requires first_len { length first.now ≡ length out.old }
     requires second_len { length second.now ≡ length out.old }

@@ -1,4 +1,4 @@
-//! Histograms of rows of bytes.
+//! Histograms of rows of bytes: plain loops, since `std::simd` can't add to counts at 32 indices.
 ghost use Rattle.std.specs.Prelude.{◌≡◌, ◌==◌, ◌+◌, ◌<◌, ◌^◌, ℕ, pos, if◌then◌else◌, map, length};
 ghost use Rattle.std.specs.Prelude.{slice_index, unsigned_abs};
 ghost use Rattle.std.specs.List.{All};
@@ -13,8 +13,9 @@ fn count_one(counts: &mut [u32; 256], value: u8)
     counts[usize::from(value)] += 1;
 }
 
-/// Adds the histogram of a row to four tables, which together hold the counts. Successive items go
-/// to different tables, so that equal neighbours don't wait for each other.
+/// Adds the histogram of a row to the counts, each of which is the sum of its entries in four
+/// tables. Successive items go to different tables, so that equal neighbours don't wait for each
+/// other.
 pub fn tally_row(
     row: &[u8],
     first: &mut [u32; 256],

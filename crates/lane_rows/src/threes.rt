@@ -1,5 +1,5 @@
 //! Sums and means of three rows of non-negative numbers, for separable windows: first down the
-//! columns of three rows of samples, then across three of the sums.
+//! columns of three rows of samples, then across three of these sums.
 ghost use Rattle.std.specs.Prelude.{◌≡◌, ◌+◌, ◌≤◌, ◌+ℤ◌, ◌*ℤ◌, ℕ, ℤ, pos, map, length};
 ghost use Rattle.std.specs.Int.{int_div_euclid};
 ghost use Rattle.std.specs.List.{range_with_len};
@@ -79,7 +79,7 @@ impl SumItem for i16 {
 
 /// A kernel of three numbers.
 trait OfThree<T: SumItem> {
-    /// The greatest number that it accepts; the least is 0.
+    /// The greatest number that the kernel accepts; the least is 0.
     ghost limit: { ℕ };
 
     ghost formula: { ℤ → ℤ → ℤ → ℤ };
@@ -241,7 +241,7 @@ impl OfThree<u8> for Sixteenth {
     ghost small = { greatest_weighted_sum };
 }
 
-/// Writes the sums of three numbers, which are from 0 to 8,191.
+/// Writes the sum of the three numbers at each index. The numbers are from 0 to 8,191.
 pub fn sum3<A: Addend>(first: &[A], second: &[A], third: &[A], out: &mut [i16])
     requires first_len { length first.now ≡ length out.old }
     requires second_len { length second.now ≡ length out.old }
@@ -255,7 +255,8 @@ pub fn sum3<A: Addend>(first: &[A], second: &[A], third: &[A], out: &mut [i16])
     SumOfThree::write(first, second, third, out);
 }
 
-/// Writes the sums of three numbers with weights 1, 2, 1. The numbers are from 0 to 8,191.
+/// Writes the sum of the three numbers at each index, with weights 1, 2, 1. The numbers are from 0
+/// to 8,191.
 pub fn weighted3<A: Addend>(first: &[A], second: &[A], third: &[A], out: &mut [i16])
     requires first_len { length first.now ≡ length out.old }
     requires second_len { length second.now ≡ length out.old }

@@ -1,7 +1,7 @@
 //! Thresholds. OpenVX 1.3, "Thresholding".
 #![tactic(auto, using(crate::proofs::ShortLaws::fit_as_bits))]
 
-ghost use Rattle.std.specs.Prelude.{◌≡◌, IsTrue, pos, int_lt, int_le, map, length};
+ghost use Rattle.std.specs.Prelude.{◌≡◌, IsTrue, pos, map, length};
 ghost use Rattle.vx_base.specs.declared.format.Format.{Format};
 ghost use Rattle.vx_base.specs.declared.format.Format.TheVariants.{U8, S16};
 ghost use Rattle.vx_base.specs.declared.threshold.ThresholdKind.TheVariants.{Binary, Range};
@@ -9,8 +9,7 @@ ghost use Rattle.vx_base.specs.Threshold.{is_sample};
 ghost use Rattle.vx_base.specs.Pixelwise.{threshold_result};
 ghost use Rattle.lane_rows.specs.Chosen.{threshold_choice};
 
-use crate::choices::{bytes_above, bytes_between, shorts_above, shorts_between};
-use crate::item::{Item, shorts_of};
+use crate::item::{Short, bytes_of, shorts_of};
 use crate::kernel::{LanesOfItem, OfItem};
 use crate::rows::map_row;
 use crate::stores::store_32_bytes;
@@ -18,7 +17,7 @@ use std::simd::prelude::*;
 use vx_base::{ThresholdKind, ThresholdRule};
 
 /// An item type that a threshold can test: `u8` or `i16`.
-pub trait Tested: Item {
+pub trait Tested: Short {
     /// The format of the samples.
     ghost format: { Format };
 
@@ -26,14 +25,6 @@ pub trait Tested: Item {
     fn from_short(number: i16) -> Self
         requires { IsTrue (is_sample format number) }
         ensures { Self.value result ≡ number };
-
-    /// Returns whether the item is less than the other.
-    fn is_below(self, other: Self) -> bool
-        ensures { result ≡ int_lt (Self.value self) (Self.value other) };
-
-    /// Returns whether the item is less than the other, or equal to it.
-    fn is_at_most(self, other: Self) -> bool
-        ensures { result ≡ int_le (Self.value self) (Self.value other) };
 
     /// Returns, for each of 32 items, `true_value` if it is above the limit, else `false_value`.
     fn above(row: &[Self], limit: Self, true_value: u8, false_value: u8) -> u8x32
@@ -58,26 +49,21 @@ impl Tested for u8 {
         number as u8
     }
 
-    fn is_below(self, other: u8) -> bool {
-        self < other
-    }
-
-    fn is_at_most(self, other: u8) -> bool {
-        self <= other
-    }
-
+    #[tactic(auto, using(crate::proofs::ThresholdLaws::byte_thresholds))]
     fn above(row: &[u8], limit: u8, true_value: u8, false_value: u8) -> u8x32 {
-        bytes_above(u8x32::from_slice(row), limit, true_value, false_value)
+        let row = bytes_of(row);
+        row.simd_gt(u8x32::splat(limit))
+            .select(u8x32::splat(true_value), u8x32::splat(false_value))
     }
 
+    #[tactic(auto, using(crate::proofs::ThresholdLaws::byte_thresholds))]
     fn between(row: &[u8], lower: u8, upper: u8, true_value: u8, false_value: u8) -> u8x32 {
-        bytes_between(
-            u8x32::from_slice(row),
-            lower,
-            upper,
-            true_value,
-            false_value,
-        )
+        let row = bytes_of(row);
+        let up_to = row
+            .simd_gt(u8x32::splat(upper))
+            .select(u8x32::splat(false_value), u8x32::splat(true_value));
+        row.simd_lt(u8x32::splat(lower))
+            .select(u8x32::splat(false_value), up_to)
     }
 }
 
@@ -88,20 +74,24 @@ impl Tested for i16 {
         number
     }
 
-    fn is_below(self, other: i16) -> bool {
-        self < other
-    }
-
-    fn is_at_most(self, other: i16) -> bool {
-        self <= other
-    }
-
+    #[tactic(auto, using(crate::proofs::ThresholdLaws::short_thresholds))]
     fn above(row: &[i16], limit: i16, true_value: u8, false_value: u8) -> u8x32 {
-        shorts_above(shorts_of(row), limit, true_value, false_value)
+        let row = shorts_of(row);
+        row.simd_gt(i16x32::splat(limit))
+            .cast::<i8>()
+            .select(u8x32::splat(true_value), u8x32::splat(false_value))
     }
 
+    #[tactic(auto, using(crate::proofs::ThresholdLaws::short_thresholds))]
     fn between(row: &[i16], lower: i16, upper: i16, true_value: u8, false_value: u8) -> u8x32 {
-        shorts_between(shorts_of(row), lower, upper, true_value, false_value)
+        let row = shorts_of(row);
+        let up_to = row
+            .simd_gt(i16x32::splat(upper))
+            .cast::<i8>()
+            .select(u8x32::splat(false_value), u8x32::splat(true_value));
+        row.simd_lt(i16x32::splat(lower))
+            .cast::<i8>()
+            .select(u8x32::splat(false_value), up_to)
     }
 }
 
@@ -123,7 +113,7 @@ impl<A: Tested> OfItem<A, u8> for Above<A> {
     }) };
 
     fn item(&self, a: A) -> u8 {
-        if self.limit.is_below(a) {
+        if self.limit.short() < a.short() {
             self.true_value
         } else {
             self.false_value
@@ -138,7 +128,8 @@ impl<A: Tested> LanesOfItem<A, u8> for Above<A> {
     }
 }
 
-/// The true value if an item is between the limits or equal to one, and the false value if not.
+/// The true value if an item is between the limits or equal to one of them, and the false value if
+/// not.
 #[derive(Drop)]
 pub struct Between<A> {
     pub lower: A,
@@ -157,7 +148,8 @@ impl<A: Tested> OfItem<A, u8> for Between<A> {
     }) };
 
     fn item(&self, a: A) -> u8 {
-        if self.lower.is_at_most(a) && a.is_at_most(self.upper) {
+        let number = a.short();
+        if self.lower.short() <= number && number <= self.upper.short() {
             self.true_value
         } else {
             self.false_value
@@ -178,7 +170,8 @@ impl<A: Tested> LanesOfItem<A, u8> for Between<A> {
     }
 }
 
-/// Writes the values of a rule that tests items of this type.
+/// Writes the rule's true value where an item passes, and its false value elsewhere. The rule tests
+/// items of type `A`.
 fn write_tested<A: Tested>(row: &[A], rule: ThresholdRule, out: &mut [u8])
     requires len { length row.now ≡ length out.old }
     requires format { rule.format ≡ A.format }

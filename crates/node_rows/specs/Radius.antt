@@ -5,13 +5,15 @@ use Rattle.vx_base.specs.declared.function.Function.TheVariants.{Box, Gaussian, 
 use Rattle.vx_base.specs.Convolution.{ConvolutionValue}
 use Rattle.vx_base.specs.Object.{ObjectValue, ConvolutionObject}
 
--- the matrix that is a node's second operand, if it is one
+-- a node's second operand, if it is a matrix
 abbrev pub matrix_in : Option ObjectValue → Option ConvolutionValue
 matrix_in (Some (ConvolutionObject matrix)) = Some matrix
 matrix_in other = None
 
--- a function's vertical radius: how many rows above and below an output row it reads in its first input. Half the rows of its matrix, 1 for
--- a 3x3 window, 0 if it is pixel-wise; None if it reads all rows or writes no image. Of another image it reads the output row alone.
+-- a function's vertical radius: the number of rows of its first input that it reads above an output
+-- row, and as many below. Half the rows of a matrix, 1 for a 3x3 window, 0 for a pixel-wise
+-- function; None if the function reads all rows or writes no image. Of a second image or an
+-- accumulator only the output row is read.
 abbrev pub window_radius : Function → Option ConvolutionValue → Option ℕ
 window_radius function (Some matrix) = Some (matrix.rows / 2)
 window_radius Box None = Some 1

@@ -5,11 +5,11 @@ ghost use Rattle.node_rows.specs.Radius.{window_radius};
 
 use vx_base::{Convolution, Function};
 
-/// Returns a function's vertical radius in rows: how far above and below an output row it reads in
-/// its first input (OpenVX 1.3, "Vision Functions"). It is half the rows of the matrix if there is
-/// one, 1 for a 3x3 window, and 0 for a pixel-wise function. Of a second image or an accumulator
-/// only the output row is read. `None` if the function reads all rows, as for an integral image, or
-/// writes no image.
+/// Returns a function's vertical radius: the number of rows of its first input that it reads above
+/// an output row, and as many below (OpenVX 1.3, "Vision Functions"). The radius is half the rows
+/// of the matrix if there is one, 1 for a 3x3 window, and 0 for a pixel-wise function. Of a second
+/// image or an accumulator only the output row is read. `None` if the function reads all rows, as
+/// for an integral image, or writes no image.
 pub fn window_radius(function: Function, matrix: Option<&Convolution>) -> Option<u16>
     ensures { result ≡ window_radius function (option_copied matrix.entry) }
 {

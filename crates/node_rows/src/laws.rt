@@ -10,8 +10,8 @@ ghost use Rattle.vx_base.specs.Outputs.{node_image};
 ghost use Rattle.node_rows.specs.Radius.{matrix_in, window_radius};
 ghost use Rattle.node_rows.specs.Rows.{AreAlike, AgreeInRows, SecondsAgree};
 
-/// Images that agree in some rows agree in any subset of them. Two images that agree in all rows
-/// are equal.
+/// Images that agree in some rows agree in any subset of these rows. Two images that agree in all
+/// rows are equal.
 pub fn rows_of_images()
     ensures fewer { (above first last below : ℕ) (a b : ImageValue) → above ≤ first → last ≤ below →
         AgreeInRows above below a b → AgreeInRows first last a b }
@@ -44,8 +44,9 @@ pub fn rows_in_radius_decide()
         ≡ pixel_at (node_image n output format b other) x y }
 {}
 
-/// Therefore a band of the inputs with its halo decides the same band of the output. The halo is
-/// the vertical radius, in rows, above and below the band.
+/// A band of the output is decided by a band of each input: of the first input the same band with
+/// its halo, of a second image or an accumulator the same band. The halo is as many rows as the
+/// vertical radius, above and below the band.
 pub fn bands_in_radius_decide()
     ensures { (n : Node) (output : Output) (format : Format) (a b : ImageValue)
         (second other : Option ObjectValue) (rows first last : ℕ) → IsImage a →

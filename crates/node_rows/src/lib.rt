@@ -1,4 +1,4 @@
-//! The rows of its inputs that a node reads for a row of its output.
+//! The input rows that a node reads for one output row.
 //!
 //! An output row depends only on the input rows within the vertical radius, `window_radius`. Given
 //! only a band of the input, the output can be computed for the band except for `window_radius`

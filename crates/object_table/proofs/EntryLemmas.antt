@@ -120,14 +120,14 @@ IsTable-written next charge entries name old object after t found then nodes byt
 pub IsTable-inserted : (next charge : ℕ) (entries : List (ℕ × Entry)) (new : Entry) → IsTable next charge entries → next < 4294967296 → length entries < 1024
     → new.live ≡ true → new.uses ≡ 0 → nodes_in new.object ≡ [] → object_bytes new.object ≤ GREATEST_SLOTS * GREATEST_BYTES → IsStrictlyIncreasing (keys_of (entries ++ (next, new) ∷ []))
     → IsTable (next + 1) (charge + object_bytes new.object) (entries ++ (next, new) ∷ [])
-IsTable-inserted next charge entries new t left room live uses nodes limit increasing =
+IsTable-inserted next charge entries new t left capacity live uses nodes limit increasing =
     let one : List (ℕ × Entry) = (next, new) ∷ [] in
     let used : names_used (map entry_object (entries ++ one)) ≡ names_used (map entry_object entries) = map_used entries in
     record {
       names = increasing;
       below = All-push (λ e. e.0 < next + 1) entries (next, new) (All-weaker (λ e. e.0 < next) (λ e. e.0 < next + 1) (λ e h. omega (arith, h)) entries t.below) (omega arith);
       left = omega (arith, left);
-      count = omega (arith, room, length-append entries one);
+      count = omega (arith, capacity, length-append entries one);
       each = All-push (λ e. object_bytes e.1.object ≤ GREATEST_SLOTS * GREATEST_BYTES) entries (next, new) t.each limit;
       nodes = All-push (λ e. length (nodes_in e.1.object) ≤ 256) entries (next, new) t.nodes (subst (λ l. length l ≤ 256) (sym nodes) (omega arith));
       charged = omega (arith, t.charged, charge_is entries, charge_is (entries ++ one), sum_by_push (λ e. object_bytes e.1.object) entries (next, new));
@@ -147,8 +147,8 @@ module _ (t : Context) (next : ℕ) (entries : List (ℕ × Entry)) (view : ◌�
   objects_are = ap (λ (c : Context). c.objects) view
 
   -- where one more object can be held
-  pub room_left : can_insert t ≡ true → (next < 4294967296) × (length entries < 1024)
-  room_left h = grind (arith, and_parts (nat_lt t.next 4294967296) (nat_lt (length t.objects) 1024) h, length-map entries entry_object)
+  pub capacity_left : can_insert t ≡ true → (next < 4294967296) × (length entries < 1024)
+  capacity_left h = grind (arith, and_parts (nat_lt t.next 4294967296) (nat_lt (length t.objects) 1024) h, length-map entries entry_object)
 
   -- nothing is held under a name that isn't found
   pub none_held : (name : ℕ) → lookup (is_at (nat_cmp name)) entries ≡ None → object_held t.objects name ≡ None
@@ -209,3 +209,6 @@ module _ (t : Context) (next : ℕ) (entries : List (ℕ × Entry)) (view : ◌�
 
   pub kind_under : (wanted : Kind) (name : ℕ) (old : Entry) → lookup (is_at (nat_cmp name)) entries ≡ Some old → IsUnder t.objects wanted name → object_kind old.object ≡ wanted
   kind_under wanted name old found h = grind (arith, held_under t next entries view name old found)
+
+-- what is held under a name or in a cell whose entry was looked up
+pub ruleset entry_steps = (held_is, held_under, none_held, under_is, nothing_under, kind_under, nothing_held, found_under, image_is, image_there)

@@ -291,7 +291,7 @@ module _ (next charge : ℕ) (entries : List (ℕ × Entry)) (h : IsTable next c
 
   pub IsTable-added : new.object ≡ GraphObject (with_node (graph_value old.object) node) → IsTrue (can_add (graph_value old.object)) → All (λ n. n < next) (used_names node)
       → IsTable next charge (used_more (used_names node) (set_value (is_at (nat_cmp name)) entries new))
-  IsTable-added is room below =
+  IsTable-added is capacity below =
       let g = graph_value old.object in
       let added : Numbered = record { number = g.next; node = node } in
       let then : List (ℕ × Entry) = set_value (is_at (nat_cmp name)) entries new in
@@ -299,7 +299,7 @@ module _ (next charge : ℕ) (entries : List (ℕ × Entry)) (h : IsTable next c
       let few : length (nodes_in new.object) ≤ 256 =
       omega (
         arith,
-        ltb-true (length g.nodes) 256 (and_parts (nat_lt g.next 4294967296) (nat_lt (length g.nodes) 256) room).1,
+        ltb-true (length g.nodes) 256 (and_parts (nat_lt g.next 4294967296) (nat_lt (length g.nodes) 256) capacity).1,
         ap (λ o. length (nodes_in o)) is,
         length-map (g.nodes ++ added ∷ []) (λ (n : Numbered). n.node),
         length-append g.nodes (added ∷ []),

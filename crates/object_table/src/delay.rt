@@ -114,7 +114,7 @@ impl Delay {
     pub fn set_valid(&mut self, k: u8, valid: Rect)
         requires within { k < length self.old }
         requires image { IsImage (image_in self.old k) }
-        requires room { IsWithin valid (image_in self.old k).width (image_in self.old k).height }
+        requires inside { IsWithin valid (image_in self.old k).width (image_in self.old k).height }
         ensures value { self.new ≡ slice_set self.old k (with_valid valid (image_in self.old k)) }
         ensures bytes { sum_by image_bytes self.new ≡ sum_by image_bytes self.old }
     {

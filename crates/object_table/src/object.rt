@@ -178,7 +178,7 @@ impl Object {
     pub fn set_valid(&mut self, slot: Option<u8>, valid: Rect)
         requires there { HasImage slot self.old }
         requires object { IsObject self.old }
-        requires room { IsWithin valid (image_value (object_in slot self.old)).width
+        requires inside { IsWithin valid (image_value (object_in slot self.old)).width
             (image_value (object_in slot self.old)).height }
         ensures value { self.new ≡ with_slot slot
             (ImageObject (with_valid valid (image_value (object_in slot self.old)))) self.old }
@@ -278,7 +278,7 @@ impl Object {
         requires { object_kind self.old ≡ kind.Graph }
         ensures number { IfOk result (λ number. number ≡ (graph_value self.old).next) }
         ensures ok { OnOk result (self.new ≡ GraphObject (with_node (graph_value self.old) node)) }
-        ensures room { OnOk result (IsTrue (can_add (graph_value self.old))) }
+        ensures capacity { OnOk result (IsTrue (can_add (graph_value self.old))) }
         ensures fault { IfErr result (λ fault. fault
             ≡ (if can_add (graph_value self.old) then NoMemory else NoResources)) }
         ensures err { OnErr result (self.new ≡ self.old) }

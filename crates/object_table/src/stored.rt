@@ -119,7 +119,7 @@ impl Stored {
     /// Sets the valid rectangle, and each sample outside the rectangle to 0.
     pub fn set_valid(&mut self, valid: Rect)
         requires image { IsImage self.old }
-        requires room { IsWithin valid self.old.width self.old.height }
+        requires inside { IsWithin valid self.old.width self.old.height }
         ensures { self.new ≡ with_valid valid self.old }
     {
         let _limits = self.desc.height();
@@ -155,7 +155,7 @@ impl Stored {
 fn clear_outside(samples: &mut Samples, valid: Rect, width: u16, rows: Band)
     requires rows { rows.start + rows.count < 2 ^ 16 }
     requires size { length (values samples.old) ≡ rows.count * width }
-    requires room { valid.x1 ≤ width }
+    requires inside { valid.x1 ≤ width }
     ensures format { samples_format samples.new ≡ samples_format samples.old }
     ensures value { values samples.new ≡ band width rows.start rows.count
         (zero_outside valid (sample_from width rows.start (values samples.old))) }

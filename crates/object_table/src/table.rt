@@ -1,4 +1,5 @@
 //! Objects by name, with their charge.
+#![tactic(auto, using(crate::proofs::EntryLemmas::entry_steps))]
 ghost use Rattle.std.specs.Prelude.{◌≡◌, ◌*◌, ◌≤◌, IsTrue, IsSome, is_none, Some, None, []};
 ghost use Rattle.std.specs.Prelude.{if◌then◌else◌, length, map, IfOk, IfErr, OnOk, OnErr};
 ghost use Rattle.std.specs.Option.{option_map};
@@ -127,7 +128,7 @@ impl Table {
         requires { nodes_in object ≡ [] }
         ensures name { IfOk result (λ name. name ≡ self.old.next) }
         ensures ok { OnOk result (self.new ≡ with_new self.old object) }
-        ensures room { OnOk result (IsTrue (can_insert self.old)) }
+        ensures capacity { OnOk result (IsTrue (can_insert self.old)) }
         ensures fault { IfErr result (λ e. e.fault
             ≡ (if can_insert self.old then NoMemory else NoResources)) }
         ensures err { OnErr result (self.new ≡ self.old) }
@@ -215,7 +216,7 @@ impl Table {
     pub fn set_valid(&mut self, cell: ObjRef, valid: Rect)
         requires there { HoldsImage self.old.objects cell }
         requires object { IsObject (object_under self.old.objects cell.name) }
-        requires room { IsWithin valid (image_held self.old.objects cell).width
+        requires inside { IsWithin valid (image_held self.old.objects cell).width
             (image_held self.old.objects cell).height }
         ensures { self.new ≡ with_objects self.old
             (with_object self.old.objects cell

@@ -13,7 +13,7 @@ use Rattle.pgm_images.specs.Raster.{all_up_to}
 
 -- ---- gaps and numbers
 
--- the rest of a comment after its `#`: bytes other than CR and LF, and then one of these
+-- the part of a comment after its `#`: bytes other than CR and LF, and then a CR or an LF
 abbrev pub IsTail : List ℕ → Type 0
 IsTail [] = ⊥
 IsTail (b ∷ text) = ((ends_line b ≡ true) × (text ≡ [])) ⊎ ((ends_line b ≡ false) × IsTail text)
@@ -29,7 +29,7 @@ pub record IsBlanks (text : List ℕ) : Type 0 where
   pub each : All IsBlank parts
   pub spelled : text ≡ flat_map (λ part. part) parts
 
--- a gap, which is at least one whitespace byte or comment, and a number of at least one decimal digit
+-- a gap of at least one whitespace byte or comment, and then a number of at least one decimal digit
 pub record IsSpaced (text : List ℕ) (n : ℕ) : Type 0 where
   pub gap : List ℕ
   pub digits : List ℕ
@@ -40,7 +40,7 @@ pub record IsSpaced (text : List ℕ) (n : ℕ) : Type 0 where
   pub one : 0 < length digits
   pub value : digits_value 10 digits ≡ n
 
--- such gaps and numbers, one after the other
+-- these numbers, one after the other, each after a gap
 abbrev pub AreSpaced : List ℕ → List ℕ → Type 0
 AreSpaced text [] = text ≡ []
 AreSpaced text (n ∷ numbers) = (first rest : List ℕ) × IsSpaced first n × AreSpaced rest numbers × (text ≡ first ++ rest)
@@ -52,23 +52,24 @@ abbrev pub ArePairs : List ℕ → List ℕ → Type 0
 ArePairs bytes [] = bytes ≡ []
 ArePairs bytes (n ∷ numbers) = (a b : ℕ) × (rest : List ℕ) × (bytes ≡ a ∷ b ∷ rest) × (n ≡ 256 * a + b) × ArePairs rest numbers
 
--- a byte for each number where the maxval is below 256, else two
+-- one byte for each number if the maxval is below 256, else two bytes
 abbrev pub IsRaster : (maxval : ℕ) → List ℕ → List ℕ → Type 0
 IsRaster maxval bytes numbers = ((maxval < 256) × (bytes ≡ numbers)) ⊎ ((256 ≤ maxval) × ArePairs bytes numbers)
 
 -- ---- a header, and the samples after it
 
--- the second byte of a text, after `P`: `2` of a plain one, `5` of a raw one
+-- the second byte of a text, after `P`: `2` in a plain text, `5` in a raw text
 abbrev pub magic : Encoding → ℕ
 magic Plain = 50
 magic Raw = 53
 
--- how a header ends after its maxval: a plain one where no digit follows, a raw one with a whitespace byte
+-- how a header ends after its maxval: in a plain text no digit follows, in a raw text one
+-- whitespace byte does
 abbrev pub EndsHeader : Encoding → (after rest : List ℕ) → Type 0
 EndsHeader Plain after rest = (after ≡ rest) × (begins_digit rest ≡ false)
 EndsHeader Raw after rest = (space : ℕ) × (is_space space ≡ true) × (after ≡ space ∷ rest)
 
--- the text is this header, followed by the rest
+-- the text is this header, followed by `rest`
 pub record IsHeader (text : List ℕ) (header : HeaderValue) (rest : List ℕ) : Type 0 where
   pub body : List ℕ
   pub after : List ℕ
@@ -76,7 +77,7 @@ pub record IsHeader (text : List ℕ) (header : HeaderValue) (rest : List ℕ) :
   pub end : EndsHeader header.encoding after rest
   pub spelled : text ≡ 80 ∷ magic header.encoding ∷ (body ++ after)
 
--- the rest after a header encodes exactly these samples
+-- `rest`, the text after a header, encodes exactly these samples
 abbrev pub HasSamples : Encoding → (maxval : ℕ) → List ℕ → List ℕ → Type 0
 HasSamples Plain maxval rest samples = (body end : List ℕ) × AreSpaced body samples × IsBlanks end × (rest ≡ body ++ end)
 HasSamples Raw maxval rest samples = IsRaster maxval rest samples

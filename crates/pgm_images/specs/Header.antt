@@ -11,14 +11,14 @@ use Rattle.pgm_images.specs.declared.header.Encoding.TheVariants.{Plain, Raw}
 use Rattle.pgm_images.specs.declared.header.Header.{Header}
 use Rattle.pgm_images.specs.Marks.{BeginsWith, then_take, is_space, take_next}
 
--- the fields of a header as the text has them, of any size
+-- the fields of a header, with the numbers that the text has, however great
 pub record HeaderValue : Type 0 where
   pub encoding : Encoding
   pub width : ℕ
   pub height : ℕ
   pub maxval : ℕ
 
--- the encoding that `P2` or `P5` at the front says
+-- the encoding that `P2` or `P5` at the front of a text stands for
 abbrev pub take_magic : List ℕ → BeginsWith Encoding
 take_magic [] = None
 take_magic (a ∷ []) = None
@@ -26,7 +26,7 @@ take_magic (a ∷ b ∷ text) =
     if (a == 80) && (b == 50) then Some (Plain, text) else if (a == 80) && (b == 53) then Some (Raw, text) else None
 
 -- The text after the header, given the text after its maxval. One whitespace byte ends a header of
--- P5, and no comment may come before it.
+-- P5, and no comment may come before that byte.
 abbrev pub past_header : Encoding → List ℕ → Option (List ℕ)
 past_header Plain text = Some text
 past_header Raw [] = None
@@ -50,14 +50,15 @@ is_maxval n = nat_le 1 n && nat_le n 32767
 abbrev pub format_up_to : ℕ → Format
 format_up_to maxval = if nat_lt maxval 256 then U8 else S16
 
--- the description of a picture with such a header, or the header's fault
+-- the description of a picture with these numbers in its header, or the header's fault
 abbrev pub header_description : (width height maxval : ℕ) → Result Description PgmFault
 header_description width height maxval =
     if is_side width && is_side height
     then (if is_maxval maxval then Ok (record { width = width; height = height; format = format_up_to maxval }) else Err InvalidFormat)
     else Err InvalidDimension
 
--- The code read this header, and `rest` is the text after it. It keeps each number as `Kept` says.
+-- The code read this header, and `rest` is the text after it. A number above 65535 is read as
+-- 65535.
 pub record TakesHeader (taken : BeginsWith HeaderValue) (header : Header) (rest : List ℕ) : Type 0 where
   pub value : HeaderValue
   pub is : taken ≡ Some (value, rest)

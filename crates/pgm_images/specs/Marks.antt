@@ -4,11 +4,11 @@ use Rattle.std.specs.Option.{option_and_then}
 use Rattle.std.specs.Char.{is_ascii_digit}
 use Rattle.std.specs.Int.{bit_at}
 
--- a token's value and the text after it, or none where the text doesn't begin with such a token
+-- a token's value and the text after the token, or None if the text doesn't begin with such a token
 abbrev pub BeginsWith : Type 0 → Type 0
 BeginsWith A = Option (A × List ℕ)
 
--- one token after the other
+-- what `next` gives for a token and the text after it, or None if there is no such token
 abbrev pub then_take : {A B : Type 0} → BeginsWith A → (A → List ℕ → Option B) → Option B
 then_take None next = None
 then_take (Some taken) next = next taken.0 taken.1
@@ -25,8 +25,8 @@ is_space b = (b == 32) || (b == 9) || ends_line b
 abbrev pub begins_comment : ℕ → Bool
 begins_comment b = b == 35
 
--- The text after all whitespace and comments at its front, or none where a comment doesn't end.
--- `within` says whether the text begins inside a comment.
+-- What follows all whitespace and comments at the front of a text, or None if a comment doesn't
+-- end. `within` says whether the text begins inside a comment.
 abbrev pub past_blanks : (within : Bool) → List ℕ → Option (List ℕ)
 past_blanks true [] = None
 past_blanks true (b ∷ text) = past_blanks (not (ends_line b)) text
@@ -67,8 +67,8 @@ ends text = nothing (past_blanks false text)
     nothing (Some []) = true
     nothing (Some (b ∷ text)) = false
 
--- The code read a number from the front, and `rest` is the text after it. It keeps a number above
--- 65535 as 65535, which is above all limits of a PGM text too.
+-- The code read a number from the front of a text, and `rest` is the text after it. A number above
+-- 65535 is read as 65535, which is above all limits of a PGM text too.
 pub record TakesNumber (taken : BeginsWith ℕ) (kept : ℕ) (rest : List ℕ) : Type 0 where
   pub number : ℕ
   pub is : taken ≡ Some (number, rest)
@@ -79,8 +79,9 @@ abbrev pub begins_space : List ℕ → Bool
 begins_space [] = false
 begins_space (b ∷ text) = is_space b
 
--- The code examined the front of the text. Either no number begins there, and `bytes` is 0, or the
--- text begins with one whitespace byte and a number up to the maxval, of `bytes` bytes in all.
+-- The code examined the front of the text, which begins with whitespace or a digit. If `bytes`
+-- isn't 0, the text begins with one whitespace byte and a number up to the maxval, which have
+-- `bytes` bytes together. If `bytes` is 0, the text doesn't begin with whitespace and a digit.
 pub record FindsNumber (maxval number bytes : ℕ) (text : List ℕ) : Type 0 where
   pub few : bytes ≤ length text
   pub is : 0 < bytes → TakesNumber (take_next text) number (drop bytes text)
@@ -90,16 +91,16 @@ pub record FindsNumber (maxval number bytes : ℕ) (text : List ℕ) : Type 0 wh
   pub kind : begins_digit text ≡ false → begins_space text ≡ true
   pub none : bytes ≡ 0 → begins_space text ≡ true → begins_digit (drop 1 text) ≡ false
 
--- the same at each of the first `count` positions of a text
+-- the code examined each of the first `count` positions of a text, as `FindsNumber` says
 abbrev pub FindNumbers : (maxval count : ℕ) (numbers bytes text : List ℕ) → Type 0
 FindNumbers maxval count numbers bytes text = (place : ℕ) → place < count → FindsNumber maxval (slice_index numbers place) (slice_index bytes place) (drop place text)
 
--- bit k of `begins` is set where a number begins at position k, for 64 positions
+-- for each of 64 positions k, bit k of `begins` is 1 exactly if a number begins at position k
 abbrev pub AreBegins : (begins : ℕ) (bytes : List ℕ) → Type 0
 AreBegins begins bytes = (place : ℕ) → place < 64 → bit_at begins place ≡ (if nat_lt 0 (slice_index bytes place) then 1 else 0)
 
--- The code examined the first 64 positions, the first of which isn't inside a number, and marked
--- those where a number begins.
+-- The code examined the first 64 positions of a text and marked the positions where a number
+-- begins. The first position isn't inside a number.
 pub record IsBlock (maxval : ℕ) (numbers bytes : List ℕ) (begins : ℕ) (text : List ℕ) : Type 0 where
   pub told : FindNumbers maxval 64 numbers bytes text
   pub marked : AreBegins begins bytes

@@ -31,9 +31,9 @@ abbrev pub take_count : (take : List ℕ → BeginsWith ℕ) (is_end : List ℕ 
 take_count take is_end zero text = if is_end text then Some [] else None
 take_count take is_end (suc count) text = then_take (take text) (λ number rest. option_map (λ numbers. number ∷ numbers) (take_count take is_end count rest))
 
--- The numbers of the text after a header, or none if there are fewer than `count`, or anything
--- follows them. In a plain text each comes after a gap, and whitespace and comments may follow the
--- last.
+-- The `count` numbers in the text after a header, or None if the text has fewer numbers, or
+-- anything else after them. In a plain text each number comes after a gap, and whitespace and
+-- comments may follow the last number.
 abbrev pub numbers_in : Encoding → (maxval count : ℕ) → List ℕ → Option (List ℕ)
 numbers_in Plain maxval count text = take_count take_next ends count text
 numbers_in Raw maxval count text = take_count (take_raw maxval) nothing_left count text
@@ -42,30 +42,33 @@ numbers_in Raw maxval count text = take_count (take_raw maxval) nothing_left cou
 abbrev pub all_up_to : ℕ → List ℕ → Bool
 all_up_to maxval numbers = list_all (λ n. nat_le n maxval) numbers
 
--- the numbers as samples, or InvalidValue where one is above the maxval; without numbers InvalidFormat
+-- the numbers as samples; InvalidValue if one is above the maxval, InvalidFormat if there are no
+-- numbers to convert
 abbrev pub samples_up_to : ℕ → Option (List ℕ) → Result (List ℤ) PgmFault
 samples_up_to maxval None = Err InvalidFormat
 samples_up_to maxval (Some numbers) = if all_up_to maxval numbers then Ok (map pos numbers) else Err InvalidValue
 
--- The code wrote these samples over existing ones, or returned the fault.
+-- The code wrote the samples of `told` over existing samples, or returned the fault of `told`.
 pub record Reads {A : Type 0} (told : Result (List ℤ) PgmFault) (samples : List ℤ) (result : Result A PgmFault) : Type 0 where
   pub ok : OnOk result (told ≡ Ok samples)
   pub err : IfErr result (λ fault. told ≡ Err fault)
 
--- The samples are these numbers of a text, unless one is above the maxval. The code reads a number
--- above 65535 as 65535.
+-- `high` says whether one of these numbers is above the maxval. If none is, `written` are the
+-- numbers as samples.
 pub record HoldsNumbers (maxval : ℕ) (high : Bool) (written : List ℤ) (numbers : List ℕ) : Type 0 where
   pub above : high ≡ not (all_up_to maxval numbers)
   pub samples : high ≡ false → written ≡ map pos numbers
 
--- these numbers, followed by the others
+-- the numbers `done`, followed by the numbers of `o`; None if `o` is None
 abbrev pub prepend : List ℕ → Option (List ℕ) → Option (List ℕ)
 prepend done o = option_map (λ others. done ++ others) o
 
--- `left` numbers of the whole text are still to be written, and `rest` is the text with them
+-- the samples hold the first numbers of the whole text; `left` more are to be written, and are read
+-- from `rest`
 abbrev pub LeftToFill : (take : List ℕ → BeginsWith ℕ) (is_end : List ℕ → Bool) (maxval : ℕ) (above : Bool) (samples : List ℤ) (left : ℕ) (rest : List ℕ) (whole : Option (List ℕ)) → Type 0
 LeftToFill take is_end maxval above samples left rest whole = (numbers : List ℕ) × HoldsNumbers maxval above samples numbers × (whole ≡ prepend numbers (take_count take is_end left rest))
 
--- the same for a plain text, whose first `index` numbers are written
+-- the first `index` samples hold the first numbers of a plain text; the remaining numbers are to be
+-- read from `rest`
 abbrev pub PlainUpTo : {T : Type 0} (value : T → ℤ) (maxval index : ℕ) (above : Bool) (samples : List T) (rest : List ℕ) (whole : Option (List ℕ)) → Type 0
 PlainUpTo value maxval index above samples rest whole = LeftToFill take_next ends maxval above (map value (take index samples)) (length samples - index) rest whole

@@ -14,12 +14,14 @@ abbrev pub picture_with : Description → Result (List ℤ) PgmFault → Result 
 picture_with d (Ok samples) = Ok (record { description = d; samples = samples })
 picture_with d (Err fault) = Err fault
 
--- the picture in the text after a header, or its fault; a fault of the header comes first
+-- the picture with this header and the samples in the text after it, or the first fault: the
+-- header's, then that of the samples
 abbrev pub picture_under : HeaderValue → Result Description PgmFault → List ℕ → Result PictureValue PgmFault
 picture_under header (Err fault) text = Err fault
 picture_under header (Ok d) text = picture_with d (samples_up_to header.maxval (numbers_in header.encoding header.maxval (sample_count d) text))
 
--- the picture of a text whose header was taken, or the first fault; without a header InvalidFormat
+-- the picture of a text whose header was taken, or the first fault; InvalidFormat if there is no
+-- header
 abbrev pub picture_after : BeginsWith HeaderValue → Result PictureValue PgmFault
 picture_after None = Err InvalidFormat
 picture_after (Some taken) = picture_under taken.0 (header_description taken.0.width taken.0.height taken.0.maxval) taken.1
@@ -37,7 +39,7 @@ fault_of (Err fault) = Some fault
 abbrev pub fault : List ℕ → Option PgmFault
 fault text = fault_of (read_result text)
 
--- the description that a header gives, or the header's fault; without a header InvalidFormat
+-- the description that a header gives, or the header's fault; InvalidFormat if there is no header
 abbrev pub description_after : BeginsWith HeaderValue → Result Description PgmFault
 description_after None = Err InvalidFormat
 description_after (Some taken) = header_description taken.0.width taken.0.height taken.0.maxval
@@ -46,7 +48,7 @@ description_after (Some taken) = header_description taken.0.width taken.0.height
 abbrev pub description_in : List ℕ → Result Description PgmFault
 description_in text = description_after (take_header text)
 
--- The text's header is accepted, and the samples have the format and number that it states.
+-- The text's header is accepted, and the samples have the format and number that the header states.
 pub record SamplesFitHeader (text : List ℕ) (samples : Samples) : Type 0 where
   pub description : Description
   pub told : description_in text ≡ Ok description

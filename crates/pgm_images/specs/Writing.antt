@@ -1,4 +1,4 @@
--- The PGM text of a picture of U8.
+-- The PGM text of a U8 picture.
 use Rattle.std.specs.Prelude.{ℕ, List, ◌++◌, map, codes, decimal, unsigned_abs}
 use Rattle.vx_base.specs.Description.{Description}
 use Rattle.vx_base.specs.Picture.{PictureValue}

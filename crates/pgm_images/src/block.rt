@@ -1,10 +1,10 @@
 //! Reads many numbers of a text at a time, with SIMD lanes.
 //!
-//! The length of a number is known only once it is read, and the next number begins where it ends,
-//! so numbers that are read in turn wait for each other. The number that would begin at a given
-//! position depends only on the bytes there. `ShortNumbers` therefore computes it for 64 positions
-//! in parallel, and keeps a bit mask of the positions where a number does begin. Going through the
-//! bits of the mask gives the numbers in order.
+//! A number's length is known only after the number is read, and the next number begins at its end.
+//! So a loop that reads number by number can't start on the next number early. But the number that
+//! would begin at a given position depends only on the bytes there. `ShortNumbers` computes this
+//! number for 64 positions in parallel, and a bit mask of the positions where a number does begin.
+//! Going through the bits of the mask gives the numbers in order.
 ghost use Rattle.std.specs.Prelude.{◌≡◌, ◌≤◌, ◌<◌, ℕ, List, Option, Bool, true, length, drop};
 ghost use Rattle.pgm_images.specs.Marks.{FindNumbers, AreBegins, IsBlock};
 ghost use Rattle.pgm_images.specs.Raster.{PlainUpTo};
@@ -25,7 +25,7 @@ pub struct ShortNumbers {
 }
 
 impl ShortNumbers {
-    /// Returns a block of no text.
+    /// Returns a block in which no number begins.
     pub fn new() -> ShortNumbers {
         ShortNumbers {
             numbers: [0; PLACES],
@@ -66,7 +66,8 @@ impl ShortNumbers {
     }
 
     /// Fills the block from the front of a text, and returns the mask of the positions where
-    /// numbers begin. 0 says nothing about the text: the numbers have to be read one by one.
+    /// numbers begin. A mask of 0 says nothing about the text: its numbers have to be read one by
+    /// one.
     pub fn renew(&mut self, maxval: u16, text: &[u8]) -> u64
         ensures { 0 < result → IsBlock maxval self.new.numbers self.new.bytes result text.now }
     {

@@ -36,7 +36,7 @@ pub fn raw()
         }) }
 {}
 
-/// A sample of S16, and one with leading zeros before it and a comment after it.
+/// An S16 sample, and a U8 sample with leading zeros before it and a comment after it.
 pub fn plain()
     ensures short { read_result (codes "P2 1 1 300 5")
         ≡ Ok (record {
@@ -52,9 +52,9 @@ pub fn plain()
         }) }
 {}
 
-/// Texts without a header: a magic number alone, one without a gap after it, a comment that doesn't
-/// end, a maxval of P5 without the one whitespace byte after it, and a byte that isn't whitespace
-/// in PGM.
+/// Texts without a header. They have a magic number alone, a magic number without a gap after it,
+/// or a comment that doesn't end. Or they lack the whitespace byte after the maxval of P5, or have
+/// a byte that isn't whitespace in PGM.
 pub fn headers()
     ensures empty { read_result [] ≡ Err InvalidFormat }
     ensures magic { read_result (codes "P5") ≡ Err InvalidFormat }
@@ -78,8 +78,8 @@ pub fn limits()
     ensures too_great { read_result (codes "P5 1 1 32768\n" ++ 0 ∷ 0 ∷ []) ≡ Err InvalidFormat }
 {}
 
-/// Too few or too many samples, or one above the maxval. A sample above the maxval is reported only
-/// if the rest of the text is well formed.
+/// Too few or too many samples, or a sample above the maxval, which is reported only if the text
+/// has no other fault.
 pub fn samples()
     ensures too_few { read_result (codes "P5 1 1 255\n") ≡ Err InvalidFormat }
     ensures too_many { read_result (codes "P5 1 1 255\n" ++ 10 ∷ 20 ∷ []) ≡ Err InvalidFormat }
@@ -92,7 +92,7 @@ pub fn samples()
     ensures above_and_stray { read_result (codes "P2 1 1 255 256 x") ≡ Err InvalidFormat }
 {}
 
-/// Two samples, 10 and 20, as they are written.
+/// The text that is written for two samples, 10 and 20.
 pub fn written_text()
     ensures { pgm_text (record {
       description = record { width = 2; height = 1; format = U8 };

@@ -16,7 +16,7 @@ pub enum Encoding {
     Raw,
 }
 
-/// The fields of a header. A number above 65535 is kept as 65535, which is above every limit too.
+/// The fields of a header. A number above 65535 is stored as 65535, which is above every limit too.
 #[derive(Clone, Copy, Debug)]
 pub struct Header {
     pub encoding: Encoding,
@@ -25,7 +25,8 @@ pub struct Header {
     pub maxval: u16,
 }
 
-/// Returns the encoding that `P2` or `P5` at the front says, and the text after it.
+/// Returns the encoding that `P2` or `P5` at the front stands for, and the text after these two
+/// bytes.
 fn take_magic(text: &[u8]) -> Option<(Encoding, &[u8])>
     ensures some { IfSome result (λ taken. take_magic text.now ≡ Some (taken.0, taken.1.now)) }
     ensures none { IfNone result (take_magic text.now ≡ None) }
@@ -38,7 +39,7 @@ fn take_magic(text: &[u8]) -> Option<(Encoding, &[u8])>
 }
 
 /// Returns the text after the header, given the text after the maxval. One whitespace byte ends a
-/// header of P5, and no comment may come before it.
+/// header of P5, and no comment may come before that byte.
 fn past_header(encoding: Encoding, text: &[u8]) -> Option<&[u8]>
     ensures some { IfSome result (λ rest. past_header encoding text.now ≡ Some rest.now) }
     ensures none { IfNone result (past_header encoding text.now ≡ None) }

@@ -28,8 +28,8 @@ pub fn faults_by_grammar()
     ensures memory { (text : List ℕ) → fault text ≢ Some NoMemory }
 {}
 
-/// `take_header` gives a header and the rest exactly where the grammar says that the text is that
-/// header and that rest. So a text begins with at most one header.
+/// `take_header` gives a header and a rest exactly if the grammar says that the text is this header
+/// followed by this rest. So a text begins with at most one header.
 pub fn headers_by_grammar()
     ensures found { (text : List ℕ) (header : HeaderValue) (rest : List ℕ) →
         take_header text ≡ Some (header, rest) → IsHeader text header rest }
@@ -67,7 +67,7 @@ pub fn first_faults()
         all_up_to header.maxval samples ≡ false → fault text ≡ Some InvalidValue }
 {}
 
-/// The text that is written for a picture of U8 encodes that picture, and is read back as it.
+/// The text that is written for a U8 picture encodes that picture, and reading the text returns it.
 pub fn text_is_read_back()
     ensures stands { (p : PictureValue) → IsPicture p → p.description.format ≡ U8 →
         Encodes (pgm_text p) p }

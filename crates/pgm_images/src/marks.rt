@@ -79,7 +79,7 @@ fn begins_gap(text: &[u8]) -> bool
     }
 }
 
-/// Returns the value of a byte as a digit: below 10 exactly where the byte is a digit.
+/// Returns the value of a byte as a digit: below 10 exactly if the byte is a digit.
 #[inline(always)]
 fn digit(byte: u8) -> u8
     ensures below { nat_lt result 10 ≡ is_ascii_digit byte }
@@ -88,7 +88,7 @@ fn digit(byte: u8) -> u8
     byte.wrapping_sub(b'0')
 }
 
-/// Appends a decimal digit to a number if the byte was one. The result wraps around above 255.
+/// Appends a decimal digit to a number if `is_digit` is true, and returns the number modulo 256.
 #[inline(always)]
 fn with_digit(number: u8, digit: u8, is_digit: bool) -> u8
     ensures { result ≡ (if is_digit then number * 10 + digit else number) % 256 }
@@ -97,10 +97,10 @@ fn with_digit(number: u8, digit: u8, is_digit: bool) -> u8
     number.wrapping_add(u8::from(is_digit) * more)
 }
 
-/// Reads a whitespace byte and a number of one to three digits from five bytes. Returns the number
-/// and the length of both in bytes, which is 0 where no number begins. The third value says whether
-/// the bytes are anything else: a longer number, one above the maxval, or a byte that is neither
-/// whitespace nor a digit.
+/// Reads a whitespace byte and a number of one to three digits from five bytes. Returns the number,
+/// and the length of whitespace and number together in bytes, 0 if no number begins here. The third
+/// value is true in all cases that this function can't read: a longer number or one above the
+/// maxval begins here, or the first byte is neither whitespace nor a digit.
 ///
 /// The processor can't predict the number of digits, so nothing here branches on it.
 #[inline(always)]
@@ -130,8 +130,8 @@ pub fn short_number(
     (number, bytes, is_other)
 }
 
-/// Returns the number that comes after a gap at the front, and the text after both. `None`: the
-/// text does not begin with a gap and a number.
+/// Returns the number that comes after a gap at the front, and the text after the number. `None`:
+/// the text does not begin with a gap and a number.
 pub fn take_next(text: &[u8]) -> Option<(u16, &[u8])>
     ensures some { IfSome result (λ taken. TakesNumber (take_next text.now) taken.0 taken.1.now) }
     ensures none { IfNone result (take_next text.now ≡ None) }

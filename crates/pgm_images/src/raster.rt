@@ -18,8 +18,8 @@ use vx_base::Samples;
 /// How many numbers are read one by one before a block is tried again.
 const SINGLES: usize = 16;
 
-/// Reads numbers one by one and writes them over the samples `from..to`. Returns whether one is
-/// above the maxval, and the text after them. `None`: there are fewer numbers.
+/// Reads numbers one by one and writes them over the samples `from..to`. Returns whether a number
+/// is above the maxval, and the text after the numbers. `None`: the text has fewer numbers.
 fn read_singly<'a, T: TextSample>(
     maxval: u16,
     text: &'a [u8],
@@ -49,9 +49,9 @@ fn read_singly<'a, T: TextSample>(
     Some((high, rest))
 }
 
-/// Reads one decimal number for each sample; only whitespace and comments may follow the last. A
-/// number above the maxval is reported only once the whole text is read, and is written as the
-/// maxval.
+/// Reads one decimal number for each sample; only whitespace and comments may follow the last
+/// number. A number above the maxval is reported only once the whole text is read, and is written
+/// as the maxval.
 fn read_plain<T: TextSample>(maxval: u16, text: &[u8], samples: &mut [T]) -> Result<(), PgmFault>
     requires limit { maxval ≤ T.limit }
     requires maxval { maxval ≤ 32767 }
@@ -98,7 +98,7 @@ fn greatest_byte(bytes: &[u8]) -> u8
     greatest
 }
 
-/// Reads one byte for each sample; nothing may follow.
+/// Reads one byte for each sample; nothing may follow the last byte.
 fn read_bytes(maxval: u16, bytes: &[u8], samples: &mut [u8]) -> Result<(), PgmFault>
     ensures { Reads (samples_up_to maxval
         (take_count take_short_sample nothing_left (length samples.old) bytes.now))
@@ -129,7 +129,7 @@ fn take_pair(bytes: &[u8]) -> Option<(u16, &[u8])>
     Some((u16::from_be_bytes([*high, *low]), rest))
 }
 
-/// Reads two bytes for each sample; nothing may follow.
+/// Reads two bytes for each sample; nothing may follow the last byte.
 fn read_pairs<T: TextSample>(maxval: u16, bytes: &[u8], samples: &mut [T]) -> Result<(), PgmFault>
     requires limit { maxval ≤ T.limit }
     requires maxval { maxval ≤ 32767 }
@@ -156,8 +156,8 @@ fn read_pairs<T: TextSample>(maxval: u16, bytes: &[u8], samples: &mut [T]) -> Re
     }
 }
 
-/// Reads the samples of the text after a header over existing samples of the header's format. The
-/// text has exactly one number for each. After a fault the samples may have any value.
+/// Writes the samples in the text after a header over existing samples of the header's format. The
+/// text has exactly one number for each sample. After a fault the samples may have any value.
 /// `InvalidFormat`: the text has fewer numbers, or more. `InvalidValue`: a sample is above the
 /// maxval.
 pub fn read_samples(header: Header, text: &[u8], samples: &mut Samples) -> Result<(), PgmFault>

@@ -31,8 +31,8 @@ pub fn read_description(text: &[u8]) -> Result<Desc, PgmFault>
     header.read_description()
 }
 
-/// Reads the samples of a text over existing ones, which have the format and number that
-/// `described` returns. It allocates nothing.
+/// Writes the samples of a text over existing samples, which have the format and number that
+/// `read_description` returns. Allocates nothing.
 ///
 /// After a fault the samples may have any value. `InvalidFormat`: the header isn't followed by
 /// exactly the number of samples that it states. `InvalidValue`: otherwise, a sample is above the

@@ -3,7 +3,7 @@ ghost use Rattle.std.specs.Prelude.{◌≡◌, ◌≤◌, ℕ, pos};
 
 use image_core::Number;
 
-/// A number type of the samples of pictures that texts encode.
+/// A number type of the samples that texts encode: `u8` or `i16`.
 pub trait TextSample: Number {
     /// The greatest number that fits in a sample.
     ghost limit: { ℕ };

@@ -16,7 +16,7 @@ const LONGEST_HEADER: usize = 17;
 /// The header of a text that is written: `P5`, the sides and the maxval 255.
 #[derive(Debug, Drop)]
 pub struct WrittenHeader {
-    /// The header is at the end of these bytes; those before `start` have no meaning.
+    /// The header is at the end of these bytes; the bytes before `start` have no meaning.
     bytes: [u8; LONGEST_HEADER],
     start: usize,
 }
@@ -32,8 +32,8 @@ impl Model for WrittenHeader {
 }
 
 impl WrittenHeader {
-    /// Returns the header of a picture of U8 with these sides. It is built from its end, and
-    /// allocates nothing.
+    /// Returns the header of a U8 picture with these sides. The header is built from its end.
+    /// Allocates nothing.
     pub fn new(desc: Desc) -> WrittenHeader
         ensures { result ≡ written_header desc }
     {
@@ -58,7 +58,7 @@ impl WrittenHeader {
 
 /// Writes bytes so that they end right before `end`, and returns where they begin.
 fn put_before(bytes: &mut [u8], end: usize, part: &[u8]) -> usize
-    requires room { length part.now ≤ end }
+    requires fits { length part.now ≤ end }
     requires within { end ≤ length bytes.old }
     ensures start { result + length part.now ≡ end }
     ensures written { drop result bytes.new ≡ part.now ++ drop end bytes.old }
@@ -68,8 +68,9 @@ fn put_before(bytes: &mut [u8], end: usize, part: &[u8]) -> usize
     start
 }
 
-/// Returns the PGM text of an image of U8: a raw one (P5) with maxval 255 and all samples, whether
-/// valid or not. It is read back as the same picture (Netpbm, pgm(5)).
+/// Returns the PGM text of a U8 image (Netpbm, pgm(5)): a raw text (P5) with maxval 255 and all
+/// samples, whether valid or not. `read` returns the same picture from it. An error means that
+/// there is no memory for the text.
 pub fn write(alloc: Global, image: &Image<'_>) -> Result<Vec<u8>, AllocError>
     requires { image.now.format ≡ FormatU8 }
     ensures { IfOk result (λ text. text.items ≡ pgm_text (picture_of image.now)) }

@@ -1,5 +1,5 @@
 -- Formats of outputs, tables and thresholds.
-use Rattle.std.proofs.Common.{◌≡◌, ℕ, ℤ, List, refl, rules, IsTrue, ap, ◌∙◌, arith, w16, FitsSigned}
+use Rattle.std.proofs.Common.{◌≡◌, ℕ, ℤ, List, refl, rules, IsTrue, arith, w16, FitsSigned}
 use Rattle.std.proofs.lemmas.Int.{ints}
 use Rattle.std.proofs.lemmas.Bool.Decides.{nat_tests}
 use Rattle.vx_base.specs.Threshold.{has_limits}
@@ -25,18 +25,12 @@ short_output U32 b U32 takes other = search rules
 
 -- a table by its parts
 pub table_is : (lut : LutValue) (format : Format) (entries : List ℤ) → format ≡ lut.format → entries ≡ lut.entries → record { format = format; entries = entries } ≡ lut
-table_is lut format entries f e =
-    ap (λ g. let t : LutValue = record { format = g; entries = entries } in t) f
-    ∙ ap (λ es. let t : LutValue = record { format = lut.format; entries = es } in t) e
+table_is lut format entries f e = rw (f, e) refl
 
 -- a threshold by its parts
 pub rule_is : (rule : ThresholdValue) (format : Format) (kind : ThresholdKind) (t f : ℕ) → format ≡ rule.format → kind ≡ rule.kind → t ≡ rule.true_value → f ≡ rule.false_value
     → record { format = format; kind = kind; true_value = t; false_value = f } ≡ rule
-rule_is rule format kind t f a b c d =
-    ap (λ g. let r : ThresholdValue = record { format = g; kind = kind; true_value = t; false_value = f } in r) a
-    ∙ ap (λ k. let r : ThresholdValue = record { format = rule.format; kind = k; true_value = t; false_value = f } in r) b
-    ∙ ap (λ v. let r : ThresholdValue = record { format = rule.format; kind = rule.kind; true_value = v; false_value = f } in r) c
-    ∙ ap (λ v. let r : ThresholdValue = record { format = rule.format; kind = rule.kind; true_value = rule.true_value; false_value = v } in r) d
+rule_is rule format kind t f a b c d = rw (a, b, c, d) refl
 
 -- the limits of a threshold are numbers of 16 bits
 pub limit_fits : (format : Format) (t : ℤ) → IsTrue (has_limits format (Binary t)) → FitsSigned w16 t

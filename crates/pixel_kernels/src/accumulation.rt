@@ -1,4 +1,4 @@
-//! Samples that are added to those of the output.
+//! Functions that add an image's samples to the output's earlier samples.
 ghost use Rattle.std.specs.Prelude.{◌≡◌, ◌≤◌, None};
 ghost use Rattle.vx_base.specs.declared.format.Format.TheVariants.{U8, S16};
 ghost use Rattle.vx_base.specs.declared.function.Function.TheVariants.{Accumulate};
@@ -41,7 +41,7 @@ impl<K: OfSum<u8, i16>> RowUpdate<i16> for Added<'_, '_, K> {
 }
 
 /// Updates sums with an image of the same size, where both are valid: `kernel` computes each new
-/// sum. The other sums become 0.
+/// sum. All other sums become 0.
 fn add_to_sums<K: OfSum<u8, i16>>(kernel: &K, image: &Image<'_>, sums: &mut ImageMut<'_>)
     requires target { IsTarget sums.old }
     requires size { HaveSameSize (target_image sums.old) image.now }
@@ -61,8 +61,8 @@ fn add_to_sums<K: OfSum<u8, i16>>(kernel: &K, image: &Image<'_>, sums: &mut Imag
     sums.update::<i16, _>(&update);
 }
 
-/// Adds the samples of a U8 image to those of an S16 image where both are valid (OpenVX 1.3,
-/// "Accumulate"); sums above 32,767 become 32,767. In the contract `old` is any image that has the
+/// Adds the samples of a U8 image to the samples of an S16 image where both are valid (OpenVX 1.3,
+/// "Accumulate"). Sums above 32,767 become 32,767. In the contract `old` is any image that has the
 /// earlier sums in the band's rows.
 pub fn accumulate(image: &Image<'_>, sums: &mut ImageMut<'_>)
     requires fits { Fits Accumulate image.now None sums.old }
@@ -74,9 +74,9 @@ pub fn accumulate(image: &Image<'_>, sums: &mut ImageMut<'_>)
     add_to_sums(&Accumulated, image, sums);
 }
 
-/// Adds the squares of a U8 image's samples over 2^amount, rounded down, to the samples of an S16
-/// image where both are valid (OpenVX 1.3, "Accumulate Squared"). Sums above 32,767 become 32,767.
-/// In the contract `old` is any image that has the earlier sums in the band's rows.
+/// Adds the squares of a U8 image's samples, divided by 2^amount and rounded down, to the samples
+/// of an S16 image where both are valid (OpenVX 1.3, "Accumulate Squared"). Sums above 32,767
+/// become 32,767. In the contract `old` is any image that has the earlier sums in the band's rows.
 pub fn accumulate_square(image: &Image<'_>, sums: &mut ImageMut<'_>, amount: u8)
     requires fits { Fits AccumulateSquare image.now None sums.old }
     requires room { IsWithin (target_image sums.old).valid (target_image sums.old).width

@@ -11,8 +11,8 @@ use image_core::{Image, ImageMut};
 use lane_rows::{Arithmetic, OfSamples};
 use vx_base::Format;
 
-/// Writes the results of a lane kernel for two images to a third one of their size: U8 and U8 to
-/// U8, or U8 or S16 inputs to S16.
+/// Writes the results of a lane kernel for two images to a third image of their size. Either all
+/// images are U8, or the inputs are each U8 or S16 and the output is S16.
 pub fn write_arithmetic<K: Arithmetic>(
     kernel: &K,
     first: &Image<'_>,

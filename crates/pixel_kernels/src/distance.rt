@@ -10,8 +10,8 @@ use crate::arithmetic::write_arithmetic;
 use image_core::{Image, ImageMut};
 use lane_rows::Distance;
 
-/// Writes the distances of the samples, at most the format's greatest sample (OpenVX 1.3, "Absolute
-/// Difference"); all images are U8, or all S16.
+/// Writes the distances between the samples, at most the format's greatest sample (OpenVX 1.3,
+/// "Absolute Difference"); all images are U8, or all S16.
 pub fn absolute_difference(first: &Image<'_>, second: &Image<'_>, output: &mut ImageMut<'_>)
     requires { Fits AbsoluteDifference first.now (Some (ImageObject second.now)) output.old }
     ensures { Writes (from_two (target_image output.old).format

@@ -1,11 +1,12 @@
 //! Pixel-wise functions: each output sample depends on the input samples at the same pixel.
 //!
-//! Each writes a whole output: the formula of OpenVX 1.3 where the inputs are valid, 0 elsewhere,
-//! and as the valid rectangle the intersection of those of the inputs. A function chooses a kernel
-//! of lane_rows by formats and policy, so the loop over a row has no case for either. `write_one`
-//! and `write_two` prove once that any such kernel writes a whole image. The accumulating functions
-//! also read their output and update it in place: by their formula where both the input and the
-//! earlier output are valid, to 0 elsewhere.
+//! Each function writes a whole output: the formula of OpenVX 1.3 where the inputs are valid, 0
+//! elsewhere. The output's valid rectangle is the intersection of the inputs' valid rectangles. A
+//! function chooses a kernel of lane_rows by formats and policy, so the loop over a row tests
+//! neither formats nor policy. `write_one` and `write_two` prove once that any such kernel writes a
+//! whole image. The accumulating functions also read their output and update it in place. Where
+//! both the input and the earlier output are valid they apply their formula; elsewhere they write
+//! 0.
 #![tactic(auto)]
 
 mod accumulation;

@@ -6,7 +6,7 @@ use lane_rows::Item;
 
 /// A sample of an image that is also an item of a lane row.
 pub trait Pixel: Sample + Item {
-    /// Its value as an item is its value as a sample.
+    /// The value as an item equals the value as a sample.
     ghost same: { (a : Self) → Self.Item.value a ≡ Self.Number.value a };
 }
 

@@ -12,7 +12,8 @@ use lane_rows::{Product, Saturated, Wrapped};
 use vx_base::Policy;
 
 /// Writes the products of the samples divided by 2^amount, rounded toward zero and narrowed by the
-/// policy (OpenVX 1.3, "Pixel-wise Multiplication"): U8 and U8 to U8, or U8 or S16 inputs to S16.
+/// policy (OpenVX 1.3, "Pixel-wise Multiplication"). Either all images are U8, or the inputs are
+/// each U8 or S16 and the output is S16.
 pub fn multiply(
     first: &Image<'_>,
     second: &Image<'_>,

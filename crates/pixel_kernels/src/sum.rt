@@ -11,8 +11,8 @@ use image_core::{Image, ImageMut};
 use lane_rows::{Difference, Saturated, Sum, Wrapped};
 use vx_base::Policy;
 
-/// Writes the sums of the samples, narrowed by the policy (OpenVX 1.3, "Arithmetic Addition"): U8
-/// and U8 to U8, or U8 or S16 inputs to S16.
+/// Writes the sums of the samples, narrowed by the policy (OpenVX 1.3, "Arithmetic Addition").
+/// Either all images are U8, or the inputs are each U8 or S16 and the output is S16.
 pub fn add(first: &Image<'_>, second: &Image<'_>, output: &mut ImageMut<'_>, policy: Policy)
     requires { Fits Add first.now (Some (ImageObject second.now)) output.old }
     ensures { Writes (from_two (target_image output.old).format
@@ -25,7 +25,8 @@ pub fn add(first: &Image<'_>, second: &Image<'_>, output: &mut ImageMut<'_>, pol
 }
 
 /// Writes the first image's samples minus the second's, narrowed by the policy (OpenVX 1.3,
-/// "Arithmetic Subtraction"): U8 and U8 to U8, or U8 or S16 inputs to S16.
+/// "Arithmetic Subtraction"). Either all images are U8, or the inputs are each U8 or S16 and the
+/// output is S16.
 pub fn subtract(first: &Image<'_>, second: &Image<'_>, output: &mut ImageMut<'_>, policy: Policy)
     requires { Fits Subtract first.now (Some (ImageObject second.now)) output.old }
     ensures { Writes (from_two (target_image output.old).format

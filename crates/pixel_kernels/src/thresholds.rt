@@ -13,7 +13,8 @@ use image_core::{Image, ImageMut};
 use lane_rows::{Above, Between, Tested};
 use vx_base::{Format, ThresholdKind, ThresholdRule};
 
-/// Writes the rule's values for samples of type `A`.
+/// Writes the rule's true value where a sample passes, its false value elsewhere. The samples are
+/// of type `A`.
 fn write_threshold<A: Pixel + Tested>(
     image: &Image<'_>,
     output: &mut ImageMut<'_>,

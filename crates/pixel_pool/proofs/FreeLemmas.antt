@@ -6,7 +6,7 @@ use Rattle.std.proofs.Math.ListN.{get_or-map}
 use Rattle.std.proofs.lemmas.List.Sums.{sum_by-cons, get_or-le-sum_by}
 use Rattle.pixel_pool.specs.Classes.{class_capacity, class_count, FitsIn}
 use Rattle.pixel_pool.specs.Free.{free_count, HasCapacity, GetsFree, IsTrim, capacity_below}
-use Rattle.pixel_pool.proofs.ClassLemmas.{room_mono, room_small, room_steps}
+use Rattle.pixel_pool.proofs.ClassLemmas.{capacity_mono, capacity_small, capacity_steps}
 use Rattle.pixel_pool.specs.Shelf.{lengths, no_stack, stack_at}
 use Rattle.pixel_pool.specs.declared.stacks.Stack.{Stack}
 
@@ -45,7 +45,7 @@ unfolding capacity_below
 below_more free class = rw add-one refl
 
 -- the lengths of stacks, for loops over their classes
-pub ruleset stack_steps = (none_free, free_within, length_at, room_steps)
+pub ruleset stack_steps = (none_free, free_within, length_at, capacity_steps)
 
 below_or : (free : List ℕ) (class : ℕ) → (class < length free) ⊎ (length free ≤ class)
 below_or [] class = inr (omega arith)
@@ -64,45 +64,45 @@ no_len : (free : List ℕ) → free_count free ≡ 0 → (class : ℕ) → get_o
 no_len free none class =
     omega (arith, class_within free class, none)
 
-pub no_room : (free : List ℕ) → free_count free ≡ 0 → (class : ℕ) → capacity_below free class ≡ 0
-no_room free none zero = below_zero free
-no_room free none (suc class) =
-    rw (← add-one) (below_more free class ∙ rw (no_room free none class, no_len free none class) (omega arith))
+pub no_capacity : (free : List ℕ) → free_count free ≡ 0 → (class : ℕ) → capacity_below free class ≡ 0
+no_capacity free none zero = below_zero free
+no_capacity free none (suc class) =
+    rw (← add-one) (below_more free class ∙ rw (no_capacity free none class, no_len free none class) (omega arith))
 
 -- without free blocks the limits are kept
 pub none_is_trim : (free : List ℕ) → free_count free ≡ 0 → IsTrim free
-none_is_trim free none = record { blocks = omega (arith, none); room = omega (arith, no_room free none class_count) }
+none_is_trim free none = record { blocks = omega (arith, none); capacity = omega (arith, no_capacity free none class_count) }
 
 -- the total capacity of the free blocks can't overflow
-pub room_bound : (free : List ℕ) (class : ℕ) → class ≤ class_count → capacity_below free class ≤ class * (free_count free * 2 ^ 31)
-room_bound free zero within = omega (arith, below_zero free)
-room_bound free (suc class) within =
+pub capacity_bound : (free : List ℕ) (class : ℕ) → class ≤ class_count → capacity_below free class ≤ class * (free_count free * 2 ^ 31)
+capacity_bound free zero within = omega (arith, below_zero free)
+capacity_bound free (suc class) within =
     let each : get_or free class 0 * class_capacity class ≤ free_count free * 2 ^ 31 =
-    mul-le-mul (class_within free class) (omega (arith, room_small class (omega arith))) in
+    mul-le-mul (class_within free class) (omega (arith, capacity_small class (omega arith))) in
     let more : capacity_below free (suc class) ≡ capacity_below free class + get_or free class 0 * class_capacity class = rw (← add-one) (below_more free class) in
-    omega (arith, more, each, room_bound free class (omega arith))
+    omega (arith, more, each, capacity_bound free class (omega arith))
 
-room_elsewhere : (free : List ℕ) (class n top : ℕ) → top ≤ class → capacity_below (set free class n) top ≡ capacity_below free top
-room_elsewhere free class n zero within = below_zero (set free class n) ∙ sym (below_zero free)
-room_elsewhere free class n (suc top) within =
+capacity_elsewhere : (free : List ℕ) (class n top : ℕ) → top ≤ class → capacity_below (set free class n) top ≡ capacity_below free top
+capacity_elsewhere free class n zero within = below_zero (set free class n) ∙ sym (below_zero free)
+capacity_elsewhere free class n (suc top) within =
     let e : get_or (set free class n) top 0 ≡ get_or free top 0 = get_or-set_other free class top n 0 (λ e. absurd (omega (arith, e))) in
     let more : capacity_below (set free class n) (top + 1) ≡ capacity_below (set free class n) top + get_or free top 0 * class_capacity top = rw e at (below_more (set free class n) top) in
-    rw (← add-one) (omega (arith, more, below_more free top, room_elsewhere free class n top (omega arith)))
+    rw (← add-one) (omega (arith, more, below_more free top, capacity_elsewhere free class n top (omega arith)))
 
 -- the total capacity of the free blocks after their number in one class changes
-pub room_set : (free : List ℕ) (class n top : ℕ) → class < length free → class < top
+pub capacity_set : (free : List ℕ) (class n top : ℕ) → class < length free → class < top
     → capacity_below (set free class n) top + get_or free class 0 * class_capacity class ≡ capacity_below free top + n * class_capacity class
-room_set free class n zero inside below = absurd (omega arith)
-room_set free class n (suc top) inside below =
+capacity_set free class n zero inside below = absurd (omega arith)
+capacity_set free class n (suc top) inside below =
     elim (same_or_not top class) [
       | inl same ↦
           let e : get_or (set free class n) class 0 ≡ n = get_or-set_same free class n 0 inside in
           let more : capacity_below (set free class n) (class + 1) ≡ capacity_below (set free class n) class + n * class_capacity class = rw e at (below_more (set free class n) class) in
-          rw (← add-one, same) (omega (arith, more, below_more free class, room_elsewhere free class n class (omega arith)))
+          rw (← add-one, same) (omega (arith, more, below_more free class, capacity_elsewhere free class n class (omega arith)))
       | inr other ↦
           let e : get_or (set free class n) top 0 ≡ get_or free top 0 = get_or-set_other free class top n 0 other in
           let more : capacity_below (set free class n) (top + 1) ≡ capacity_below (set free class n) top + get_or free top 0 * class_capacity top = rw e at (below_more (set free class n) top) in
-          rw (← add-one) (omega (arith, more, below_more free top, room_set free class n top inside (omega arith)))
+          rw (← add-one) (omega (arith, more, below_more free top, capacity_set free class n top inside (omega arith)))
     ]
 
 -- where no class has a free block, none is free
@@ -111,8 +111,8 @@ pub none_left : (found : Option ℕ) (stacks : List Stack) (class : ℕ) → 193
 none_left None stacks class all long none = none_free (lengths stacks) (λ k inside. none k (omega (arith, length-map stacks (λ (s : Stack). s.len), inside)))
 none_left (Some k) stacks class all long none = tt
 
--- what was given back has room again for as many samples
-pub room_again : (count room : ℕ) (old new : List ℕ) → count ≤ class_capacity 192 → FitsIn count room → GetsFree room old new → HasCapacity new count
-room_again count room old new small fits gets =
+-- a block that was given back fits as many samples again
+pub fits_again : (count capacity : ℕ) (old new : List ℕ) → count ≤ class_capacity 192 → FitsIn count capacity → GetsFree capacity old new → HasCapacity new count
+fits_again count capacity old new small fits gets =
     let x = fits small in
-    (gets.class, gets.free, omega (arith, x.2, room_mono x.0 gets.class (gets.is_class.greatest x.0 x.1 x.3)))
+    (gets.class, gets.free, omega (arith, x.2, capacity_mono x.0 gets.class (gets.is_class.greatest x.0 x.1 x.3)))

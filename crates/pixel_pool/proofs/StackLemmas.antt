@@ -5,7 +5,7 @@ use Rattle.std.proofs.lemmas.List.Sums.{sum_by-set, get_or-le-sum_by}
 use Rattle.std.proofs.lemmas.List.Folds.{sum_by-replicate}
 use Rattle.slab.specs.Slab.{Slab, get, slab_len, Updates}
 use Rattle.pixel_pool.specs.Classes.{class_capacity, class_count, IsClassOf}
-use Rattle.pixel_pool.proofs.FreeLemmas.{same_or_not, length_at, lengths_set, free_within, no_room, room_set}
+use Rattle.pixel_pool.proofs.FreeLemmas.{same_or_not, length_at, lengths_set, free_within, no_capacity, capacity_set}
 use Rattle.pixel_pool.specs.Free.{free_count, capacity_below, HasFree, without_one, GetsFree}
 use Rattle.pixel_pool.specs.Shelf.{ShelfValue, block_count, lengths, no_stack, stack_at, IsTopOf, IsStack, IsStacked, AreStacks}
 use Rattle.pixel_pool.specs.declared.shelf.Free.{Free}
@@ -17,11 +17,11 @@ pub counted_set : (stacks : List Stack) (class : ℕ) (stack : Stack) → class 
 counted_set stacks class stack inside =
     rw (lengths_set stacks class stack, ← length_at stacks class) (sum_by-set (λ n. n) (lengths stacks) class stack.len 0 (simp length-map inside))
 
--- the room of free blocks after a stack is changed
-pub room_changed : (stacks : List Stack) (class : ℕ) (stack : Stack) → class < length stacks → length stacks ≡ class_count
+-- the capacity of free blocks after a stack is changed
+pub capacity_changed : (stacks : List Stack) (class : ℕ) (stack : Stack) → class < length stacks → length stacks ≡ class_count
     → capacity_below (lengths (set stacks class stack)) class_count + (stack_at stacks class).len * class_capacity class ≡ capacity_below (lengths stacks) class_count + stack.len * class_capacity class
-room_changed stacks class stack inside all =
-    rw (lengths_set stacks class stack, ← length_at stacks class) (room_set (lengths stacks) class stack.len class_count (simp length-map inside) (omega (arith, inside, all)))
+capacity_changed stacks class stack inside all =
+    rw (lengths_set stacks class stack, ← length_at stacks class) (capacity_set (lengths stacks) class stack.len class_count (simp length-map inside) (omega (arith, inside, all)))
 
 -- a stack has no more blocks than are free
 pub stack_counted : (stacks : List Stack) (class : ℕ) → class < length stacks → (stack_at stacks class).len ≤ free_count (lengths stacks)
@@ -41,8 +41,8 @@ empty_lengths (suc n) = ap (λ l. 0 ∷ l) (empty_lengths n)
 pub empty_count : (n : ℕ) → free_count (replicate n 0) ≡ 0
 empty_count n = omega (arith, sum_by-replicate (λ m. m) n 0)
 
-pub empty_room : capacity_below (lengths (replicate 193 no_stack)) class_count ≡ 0
-empty_room = no_room (lengths (replicate 193 no_stack)) (ap free_count (empty_lengths 193) ∙ empty_count 193) class_count
+pub empty_capacity : capacity_below (lengths (replicate 193 no_stack)) class_count ≡ 0
+empty_capacity = no_capacity (lengths (replicate 193 no_stack)) (ap free_count (empty_lengths 193) ∙ empty_count 193) class_count
 
 module _ {T : Type 0} where
   -- a stack that has a block has a top block
@@ -55,12 +55,12 @@ module _ {T : Type 0} where
       → ◌≡◌ {A = ShelfValue} (record { lent = lent; free = lengths stacks }) was → AreStacks stacks free → HasFree was.free class
       → get free (stack_at stacks class).top ≡ Some block
       → (class < length stacks) × (0 < (stack_at stacks class).len) × IsTopOf class (stack_at stacks class).len block
-      × (class_capacity class ≤ vec_capacity block.samples) × (block.room ≡ class_capacity class)
+      × (class_capacity class ≤ vec_capacity block.samples) × (block.capacity ≡ class_capacity class)
   top_free stacks free lent class was block is are some found =
       let has : HasFree (lengths stacks) class = rw (← is) at some in
       let some_there : 0 < (stack_at stacks class).len = rw (← length_at stacks class) has in
       let top : IsTopOf class (stack_at stacks class).len block = top_of free class (stack_at stacks class) block (are.tops class) some_there found in
-      (simp length-map at (free_within (lengths stacks) class has), some_there, top, rw top.0 at (are.each _ block found).room, rw top.0 at (are.each _ block found).room_known)
+      (simp length-map at (free_within (lengths stacks) class has), some_there, top, rw top.0 at (are.each _ block found).capacity, rw top.0 at (are.each _ block found).capacity_known)
 
   -- a stack whose top block isn't one key's hasn't this key
   pub not_top : (free : Slab (Free T)) (class key : ℕ) (stack : Stack) (block : Free T) → IsStack free class stack → 0 < stack.len
@@ -113,8 +113,8 @@ module _ {T : Type 0} where
       let was = kept_value old new key k b gone h in
       let is = are.each k b was in
       record {
-        room = is.room;
-        room_known = is.room_known;
+        capacity = is.capacity;
+        capacity_known = is.capacity_known;
         within = elim (same_or_not b.class class) [
           | inl same ↦
               let e : stack_at (set stacks class block.under) b.class ≡ block.under = rw same (get_or-set_same stacks class block.under no_stack inside) in
@@ -168,24 +168,24 @@ module _ {T : Type 0} where
       ]
 
   pushed_each : (stacks : List Stack) (old new : Slab (Free T)) (key : ℕ) (block : Free T) (k : ℕ) (b : Free T) → AreStacks stacks old → block.class < length stacks
-      → class_capacity block.class ≤ vec_capacity block.samples → block.room ≡ class_capacity block.class → block.under ≡ stack_at stacks block.class → get old key ≡ None
+      → class_capacity block.class ≤ vec_capacity block.samples → block.capacity ≡ class_capacity block.class → block.under ≡ stack_at stacks block.class → get old key ≡ None
       → Updates old new key (Some block) → get new k ≡ Some b
       → IsStacked (set stacks block.class (record { top = key; len = block.under.len + 1 })) new b
-  pushed_each stacks old new key block k b are inside room known under vacant came h =
+  pushed_each stacks old new key block k b are inside capacity known under vacant came h =
       let on : Stack = record { top = key; len = block.under.len + 1 } in
       let here : stack_at (set stacks block.class on) block.class ≡ on = get_or-set_same stacks block.class on no_stack inside in
       elim (came_or_was old new key block k b came h) [
         | inl new_one ↦ rw new_one.1 (record {
-          room = room;
-          room_known = known;
+          capacity = capacity;
+          capacity_known = known;
           within = rw here (omega arith);
           linked = still_stack old new key block block.class block.under vacant came (rw under (are.tops block.class));
         })
         | inr was ↦
             let is = are.each k b was in
             record {
-              room = is.room;
-              room_known = is.room_known;
+              capacity = is.capacity;
+              capacity_known = is.capacity_known;
               within = elim (same_or_not b.class block.class) [
                 | inl same ↦
                     let below : b.under.len < (stack_at stacks block.class).len = rw same at is.within in
@@ -240,31 +240,31 @@ module _ {T : Type 0} where
 
   -- the stacks once a block has come
   pub pushed : (stacks : List Stack) (old new : Slab (Free T)) (key : ℕ) (block : Free T) → AreStacks stacks old → block.class < length stacks
-      → class_capacity block.class ≤ vec_capacity block.samples → block.room ≡ class_capacity block.class → block.under ≡ stack_at stacks block.class → get old key ≡ None
+      → class_capacity block.class ≤ vec_capacity block.samples → block.capacity ≡ class_capacity block.class → block.under ≡ stack_at stacks block.class → get old key ≡ None
       → Updates old new key (Some block) → slab_len new ≡ slab_len old + 1
       → AreStacks (set stacks block.class (record { top = key; len = block.under.len + 1 })) new
-  pushed stacks old new key block are inside room known under vacant came more =
+  pushed stacks old new key block are inside capacity known under vacant came more =
       record {
         all = length-set stacks block.class (record { top = key; len = block.under.len + 1 }) ∙ are.all;
         tops = λ c. pushed_tops stacks old new key block c are inside under vacant came;
-        each = λ k b h. pushed_each stacks old new key block k b are inside room known under vacant came h;
+        each = λ k b h. pushed_each stacks old new key block k b are inside capacity known under vacant came h;
         alone = λ k j b d hk hj same level. pushed_alone stacks old new key block k j b d are under came hk hj same level;
         counted = omega (arith, counted_set stacks block.class (record { top = key; len = block.under.len + 1 }) inside, are.counted, ap (λ (s : Stack). s.len) under);
       }
 
-  -- more room leaves as many values
-  pub len_with_room : (old new : Slab (Free T)) → new ≡ record old { capacity = new.capacity } → slab_len new ≡ slab_len old
-  len_with_room old new same = rw same refl
+  -- a slab with more capacity has as many values
+  pub len_with_capacity : (old new : Slab (Free T)) → new ≡ record old { capacity = new.capacity } → slab_len new ≡ slab_len old
+  len_with_capacity old new same = rw same refl
 
-  -- stacks stay when their slab gets more room
-  pub with_room : (stacks : List Stack) (old new : Slab (Free T)) → AreStacks stacks old → new ≡ record old { capacity = new.capacity } → AreStacks stacks new
-  with_room stacks old new are same =
+  -- stacks are unchanged when the capacity of their slab grows
+  pub with_capacity : (stacks : List Stack) (old new : Slab (Free T)) → AreStacks stacks old → new ≡ record old { capacity = new.capacity } → AreStacks stacks new
+  with_capacity stacks old new are same =
       rw same (record {
         all = are.all;
         tops = are.tops;
         each = λ key block is.
             let x = are.each key block is in
-            record { room = x.room; room_known = x.room_known; within = x.within; linked = x.linked };
+            record { capacity = x.capacity; capacity_known = x.capacity_known; within = x.within; linked = x.linked };
         alone = are.alone;
         counted = are.counted;
       })
@@ -300,10 +300,10 @@ module _ {T : Type 0} where
       rw (← is) (omega (arith, counted_set stacks class block.under inside, top.1))
 
 -- the view of a shelf after a block is added to a class
-pub back_value : (stacks : List Stack) (class lent room key : ℕ) (was : ShelfValue) → ◌≡◌ {A = ShelfValue} (record { lent = lent; free = lengths stacks }) was
-    → IsClassOf room class → class < length stacks
-    → GetsFree room was.free (lengths (set stacks class (record { top = key; len = (stack_at stacks class).len + 1 })))
-back_value stacks class lent room key was is in_class inside =
+pub back_value : (stacks : List Stack) (class lent capacity key : ℕ) (was : ShelfValue) → ◌≡◌ {A = ShelfValue} (record { lent = lent; free = lengths stacks }) was
+    → IsClassOf capacity class → class < length stacks
+    → GetsFree capacity was.free (lengths (set stacks class (record { top = key; len = (stack_at stacks class).len + 1 })))
+back_value stacks class lent capacity key was is in_class inside =
     let on : Stack = record { top = key; len = (stack_at stacks class).len + 1 } in
     rw (← is) (record {
       class = class;

@@ -1,8 +1,8 @@
 -- Size classes of blocks. A capacity is a number of samples.
 use Rattle.std.specs.Prelude.{ℕ, zero, suc, ◌+◌, ◌-◌, ◌/◌, ◌^◌, ◌≤◌, ◌<◌}
 
--- the difference between the capacities of the next class and this one: 1 up to 16 samples, then an
--- eighth of the power of two below
+-- the capacity of the next class minus the capacity of this class. It is 1 up to 16 samples, and
+-- then an eighth of the greatest power of two that isn't above this class's capacity.
 abbrev pub class_step : ℕ → ℕ
 class_step class = 2 ^ (class / 8 - 1)
 
@@ -15,14 +15,14 @@ class_capacity (suc class) = class_capacity class + class_step class
 abbrev pub class_count : ℕ
 class_count = 193
 
--- the class of a block with capacity `room`: the greatest whose capacity isn't above it
-pub record IsClassOf (room class : ℕ) : Type 0 where
+-- the class of a block with this capacity: the greatest class whose capacity isn't above it
+pub record IsClassOf (capacity class : ℕ) : Type 0 where
   pub class_known : class < class_count
-  pub within : class_capacity class ≤ room
-  pub greatest : (other : ℕ) → other < class_count → class_capacity other ≤ room → other ≤ class
+  pub within : class_capacity class ≤ capacity
+  pub greatest : (other : ℕ) → other < class_count → class_capacity other ≤ capacity → other ≤ class
 
--- the capacity `room` is at least that of a class that fits `count` samples, if there is such a
+-- the capacity `capacity` is at least that of a class that fits `count` samples, if there is such a
 -- class
 abbrev pub FitsIn : ℕ → ℕ → Type 0
-FitsIn count room =
-    count ≤ class_capacity 192 → (class : ℕ) × (class < class_count) × (count ≤ class_capacity class) × (class_capacity class ≤ room)
+FitsIn count capacity =
+    count ≤ class_capacity 192 → (class : ℕ) × (class < class_count) × (count ≤ class_capacity class) × (class_capacity class ≤ capacity)

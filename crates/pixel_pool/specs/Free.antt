@@ -30,10 +30,15 @@ pub record UsesSmallest (count : ℕ) (old new : List ℕ) : Type 0 where
   pub smallest : (other : ℕ) → HasFree old other → count ≤ class_capacity other → class ≤ other
   pub used : new ≡ without_one old class
 
+-- a block for `count` samples was lent: the smallest free one that fits, or if none does, a new one
+pub record LendsSmallest (count : ℕ) (old new : List ℕ) : Type 0 where
+  pub used : HasCapacity old count → UsesSmallest count old new
+  pub added : (HasCapacity old count → ⊥) → new ≡ old
+
 -- a block of this capacity became free
-pub record GetsFree (room : ℕ) (old new : List ℕ) : Type 0 where
+pub record GetsFree (capacity : ℕ) (old new : List ℕ) : Type 0 where
   pub class : ℕ
-  pub is_class : IsClassOf room class
+  pub is_class : IsClassOf capacity class
   pub added : new ≡ with_one old class
   pub free : HasFree new class
 
@@ -45,7 +50,7 @@ capacity_below free (suc class) = capacity_below free class + slice_index free c
 -- the number of free blocks and their total capacity are within the limits
 pub record IsTrim (free : List ℕ) : Type 0 where
   pub blocks : free_count free ≤ 16384
-  pub room : capacity_below free class_count ≤ 67108864
+  pub capacity : capacity_below free class_count ≤ 67108864
 
 -- no class has more free blocks than before
 abbrev pub IsFewer : List ℕ → List ℕ → Type 0

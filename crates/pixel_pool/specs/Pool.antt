@@ -5,7 +5,7 @@ use Rattle.vx_base.specs.declared.format.Format.TheVariants.{U8, S16, U32}
 use Rattle.vx_base.specs.declared.samples.Samples.{Samples}
 use Rattle.vx_base.specs.declared.samples.Samples.TheVariants as samples
 use Rattle.vx_base.specs.Sample.{same_format}
-use Rattle.pixel_pool.specs.Free.{free_count}
+use Rattle.pixel_pool.specs.Free.{free_count, HasCapacity, LendsSmallest}
 use Rattle.pixel_pool.specs.declared.pool.Pool.{Pool}
 
 -- the capacity of a block's memory
@@ -20,7 +20,7 @@ lent_of p U8 = p.u8s.lent
 lent_of p S16 = p.s16s.lent
 lent_of p U32 = p.u32s.lent
 
--- the number of free blocks of each class, of a format
+-- the number of free blocks of a format, for each class
 abbrev pub free_of : Pool → Format → List ℕ
 free_of p U8 = p.u8s.free
 free_of p S16 = p.s16s.free
@@ -30,8 +30,7 @@ free_of p U32 = p.u32s.free
 abbrev pub blocks_of : Pool → Format → ℕ
 blocks_of p format = lent_of p format + free_count (free_of p format)
 
--- 1 if the formats are equal, else 0: what one block of the first format adds to the count of the
--- other
+-- 1 if the formats are equal, else 0; added up over blocks, this counts the blocks of a format
 abbrev pub one_of : Format → Format → ℕ
 one_of format other = if same_format format other then 1 else 0
 
@@ -43,7 +42,19 @@ HasLent p format = 1 ≤ lent_of p format
 abbrev pub Lends : Pool → Pool → Format → Type 0
 Lends old new format = (f : Format) → lent_of new f ≡ lent_of old f + one_of format f
 
--- one block of this format less is lent
+-- the free blocks of the other formats are unchanged
+abbrev pub KeepsOtherFree : Pool → Pool → Format → Type 0
+KeepsOtherFree old new format = (f : Format) → f ≢ format → free_of new f ≡ free_of old f
+
+-- a block of the format for `count` samples was lent: a free one that fits, or if none does, a new one
+pub record LendsBlock (format : Format) (count : ℕ) (old new : Pool) : Type 0 where
+  pub lends : Lends old new format
+  pub smallest : LendsSmallest count (free_of old format) (free_of new format)
+  pub most : blocks_of new format ≤ blocks_of old format + 1
+  pub none : HasCapacity (free_of old format) count → blocks_of new format ≡ blocks_of old format
+  pub other_free : KeepsOtherFree old new format
+
+-- one block fewer of this format is lent
 abbrev pub GetsBack : Pool → Pool → Format → Type 0
 GetsBack old new format = (f : Format) → lent_of new f + one_of format f ≡ lent_of old f
 
@@ -54,7 +65,3 @@ KeepsLent old new = (f : Format) → lent_of new f ≡ lent_of old f
 -- the numbers of blocks, lent and free, are unchanged
 abbrev pub KeepsBlockCounts : Pool → Pool → Type 0
 KeepsBlockCounts old new = (f : Format) → blocks_of new f ≡ blocks_of old f
-
--- the free blocks of the other formats are unchanged
-abbrev pub KeepsOtherFree : Pool → Pool → Format → Type 0
-KeepsOtherFree old new format = (f : Format) → f ≢ format → free_of new f ≡ free_of old f

@@ -32,20 +32,21 @@ module _ {T : Type 0} where
   abbrev pub IsTopOf : ℕ → ℕ → Free T → Type 0
   IsTopOf class len block = (block.class ≡ class) × (block.under.len + 1 ≡ len)
 
-  -- the key of a stack that isn't empty is that of its top block
+  -- if the stack isn't empty, `top` is the key of a free block of the class, and the stack's other
+  -- blocks are under this block
   abbrev pub IsStack : Slab (Free T) → ℕ → Stack → Type 0
   IsStack free class stack = 0 < stack.len → IsSomeAnd (get free stack.top) (IsTopOf class stack.len)
 
-  -- a block's memory has at least its class's capacity, and the block is linked to the rest of the
-  -- stack of its class
+  -- a block's memory has at least its class's capacity, and the block is linked to the part of its
+  -- class's stack below it
   pub record IsStacked (stacks : List Stack) (free : Slab (Free T)) (block : Free T) : Type 0 where
-    pub room : class_capacity block.class ≤ vec_capacity block.samples
-    pub room_known : block.room ≡ class_capacity block.class
+    pub capacity : class_capacity block.class ≤ vec_capacity block.samples
+    pub capacity_known : block.capacity ≡ class_capacity block.class
     pub within : block.under.len < (stack_at stacks block.class).len
     pub linked : IsStack free block.class block.under
 
-  -- a stack for each class, linked by the keys of top blocks; no two blocks of a class are at one height,
-  -- and the stacks have as many blocks as the slab
+  -- a stack for each class, linked by the keys of top blocks. No two blocks of a class are at one
+  -- height, and the stacks together have as many blocks as the slab.
   pub record AreStacks (stacks : List Stack) (free : Slab (Free T)) : Type 0 where
     pub all : length stacks ≡ class_count
     pub tops : (class : ℕ) → IsStack free class (stack_at stacks class)

@@ -5,8 +5,8 @@ ghost use Rattle.vx_base.specs.Picture.{values, samples_format};
 use std::marker::Model;
 use vx_base::{Format, Samples};
 
-/// A block that a pool has lent, with its samples. Only a pool makes one, and it can't be copied,
-/// so it has one owner. The owner gives it back to the pool that lent it.
+/// A block that a pool has lent, with its samples. Only a pool makes blocks, and a block can't be
+/// copied, so it has one owner. The owner gives it back to the pool that lent it.
 #[derive(Drop)]
 pub struct Block {
     samples: Samples,
@@ -42,7 +42,7 @@ impl Block {
         self.samples.format()
     }
 
-    /// Returns the samples, as many as were requested.
+    /// Returns the samples: as many as were requested, or none between `lift` and `put`.
     pub fn samples(&self) -> &Samples
         ensures { result.now ≡ self.now }
     {
@@ -60,7 +60,7 @@ impl Block {
         self.samples.take()
     }
 
-    /// Puts samples back into the block, after `lift`. They have the block's format.
+    /// Puts samples of the block's format into the block, after `lift`.
     pub fn put(&mut self, samples: Samples)
         requires { samples_format samples ≡ samples_format self.old }
         ensures { self.new ≡ samples }

@@ -1,5 +1,5 @@
 //! The size classes of blocks.
-ghost use Rattle.std.specs.Prelude.{◌≡◌, ◌<◌, ◌≤◌, ◌^◌};
+ghost use Rattle.std.specs.Prelude.{◌≡◌, ℕ, ◌<◌, ◌≤◌, ◌^◌};
 ghost use Rattle.pixel_pool.specs.Classes.{class_count, class_capacity, class_step, IsClassOf};
 ghost use Rattle.pixel_pool.specs.Classes.{FitsIn};
 
@@ -17,17 +17,17 @@ pub fn step(class: usize) -> usize
     1 << (class / 8).saturating_sub(1)
 }
 
-/// Returns the class of a block with a capacity of `room` samples, which is the greatest whose
-/// capacity isn't above it, and that class's capacity.
-#[tactic(auto, using(crate::proofs::ClassLemmas::room_steps))]
-pub fn class_of(room: usize) -> (usize, usize)
-    ensures class { IsClassOf room result.0 }
-    ensures room { result.1 ≡ class_capacity result.0 }
+/// Returns the class of a block with this capacity, in samples, and the capacity of the class. The
+/// class is the greatest one whose capacity isn't above the block's capacity.
+#[tactic(auto, using(crate::proofs::ClassLemmas::capacity_steps))]
+pub fn class_of(capacity: usize) -> (usize, usize)
+    ensures class { IsClassOf capacity result.0 }
+    ensures capacity { result.1 ≡ class_capacity result.0 }
 {
     let mut class = 0;
     let mut within = 0;
     let mut next = 1;
-    while class + 1 < CLASSES && next <= room {
+    while class + 1 < CLASSES && next <= capacity {
         class += 1;
         within = next;
         next += step(class);
@@ -35,19 +35,21 @@ pub fn class_of(room: usize) -> (usize, usize)
     (class, within)
 }
 
-/// Returns the capacity of a new block for `count` samples: that of the smallest class that fits
-/// them, or `count` if none does.
-#[tactic(auto, using(crate::proofs::ClassLemmas::room_steps))]
-pub fn room_for(count: usize) -> usize
+/// Returns the capacity of a new block for `count` samples: the capacity of the smallest class that
+/// fits them, or `count` if no class does.
+#[tactic(auto, using(crate::proofs::ClassLemmas::capacity_steps))]
+pub fn capacity_for(count: usize) -> usize
     ensures enough { count ≤ result }
     ensures class { FitsIn count result }
+    ensures least { (class : ℕ) → class < class_count → count ≤ class_capacity class →
+        result ≤ class_capacity class }
 {
-    let mut room = 0;
+    let mut capacity = 0;
     for class in 0..CLASSES {
-        if count <= room {
-            return room;
+        if count <= capacity {
+            return capacity;
         }
-        room += step(class);
+        capacity += step(class);
     }
     count
 }

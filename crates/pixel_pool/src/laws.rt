@@ -31,7 +31,7 @@ pub fn taken_and_given_back(pool: &mut Pool, format: Format, count: usize) -> Re
     requires { count ≤ 67108864 }
     ensures lent { KeepsLent pool.old pool.new }
     ensures blocks { blocks_of pool.new format ≤ blocks_of pool.old format + 1 }
-    ensures room { OnOk result (HasCapacity (free_of pool.new format) count) }
+    ensures capacity { OnOk result (HasCapacity (free_of pool.new format) count) }
 {
     let block = pool.take(format, count)?;
     pool.give_back(block);

@@ -3,9 +3,9 @@ ghost use Rattle.std.specs.Prelude.{◌≡◌, ◌≤◌, ◌+◌, length, pos, 
 ghost use Rattle.std.specs.Prelude.{IfOk, IsOk, OnErr, OnOk};
 ghost use Rattle.vx_base.specs.Picture.{values, samples_format};
 ghost use Rattle.pixel_pool.specs.Classes.{class_count, FitsIn};
-ghost use Rattle.pixel_pool.specs.Free.{HasCapacity, UsesSmallest, IsTrim, IsFewer, GetsFree};
+ghost use Rattle.pixel_pool.specs.Free.{HasCapacity, IsTrim, IsFewer, GetsFree};
 ghost use Rattle.pixel_pool.specs.Free.{free_count};
-ghost use Rattle.pixel_pool.specs.Pool.{lent_of, free_of, blocks_of, capacity_of, HasLent, Lends};
+ghost use Rattle.pixel_pool.specs.Pool.{lent_of, free_of, blocks_of, capacity_of, HasLent, LendsBlock};
 ghost use Rattle.pixel_pool.specs.Pool.{GetsBack, KeepsLent, KeepsBlockCounts, KeepsOtherFree};
 
 use crate::block::Block;
@@ -45,16 +45,8 @@ impl Pool {
     pub fn take(&mut self, format: Format, count: usize) -> Result<Block, AllocError>
         ensures format { IfOk result (λ taken. samples_format taken ≡ format) }
         ensures count { IfOk result (λ taken. length (values taken) ≡ count) }
-        ensures room { IfOk result (λ taken. FitsIn count (capacity_of taken)) }
-        ensures lends { OnOk result (Lends self.old self.new format) }
-        ensures used { OnOk result (HasCapacity (free_of self.old format) count →
-            UsesSmallest count (free_of self.old format) (free_of self.new format)) }
-        ensures added { (HasCapacity (free_of self.old format) count → ⊥) →
-            free_of self.new format ≡ free_of self.old format }
-        ensures most { blocks_of self.new format ≤ blocks_of self.old format + 1 }
-        ensures none { HasCapacity (free_of self.old format) count →
-            blocks_of self.new format ≡ blocks_of self.old format }
-        ensures other_free { KeepsOtherFree self.old self.new format }
+        ensures capacity { IfOk result (λ taken. FitsIn count (capacity_of taken)) }
+        ensures lends { OnOk result (LendsBlock format count self.old self.new) }
         ensures err { OnErr result (self.new ≡ self.old) }
 
         // A free block that fits is lent without allocating.
@@ -71,15 +63,7 @@ impl Pool {
     pub fn take_zeros(&mut self, format: Format, count: usize) -> Result<Block, AllocError>
         ensures format { IfOk result (λ taken. samples_format taken ≡ format) }
         ensures zero { IfOk result (λ taken. values taken ≡ replicate count (pos 0)) }
-        ensures lends { OnOk result (Lends self.old self.new format) }
-        ensures used { OnOk result (HasCapacity (free_of self.old format) count →
-            UsesSmallest count (free_of self.old format) (free_of self.new format)) }
-        ensures added { (HasCapacity (free_of self.old format) count → ⊥) →
-            free_of self.new format ≡ free_of self.old format }
-        ensures most { blocks_of self.new format ≤ blocks_of self.old format + 1 }
-        ensures none { HasCapacity (free_of self.old format) count →
-            blocks_of self.new format ≡ blocks_of self.old format }
-        ensures other_free { KeepsOtherFree self.old self.new format }
+        ensures lends { OnOk result (LendsBlock format count self.old self.new) }
         ensures err { OnErr result (self.new ≡ self.old) }
         ensures fits { HasCapacity (free_of self.old format) count → IsOk result }
     {
@@ -107,8 +91,8 @@ impl Pool {
         }
     }
 
-    /// Drops free blocks of each format, the largest first, until at most 16,384 with a total
-    /// capacity of at most 67,108,864 samples are left.
+    /// Drops free blocks of each format, the largest first, until at most 16,384 remain, with a
+    /// total capacity of at most 67,108,864 samples.
     pub fn trim(&mut self)
         ensures lent { KeepsLent self.old self.new }
         ensures trim { (format : Format) → IsTrim (free_of self.new format) }

@@ -3,45 +3,47 @@ ghost use Rattle.std.specs.Prelude.{◌≡◌, ℕ, ◌+◌, ◌≤◌, ◌<◌,
 ghost use Rattle.std.specs.Prelude.{OnOk};
 ghost use Rattle.std.specs.Prelude.{IsOk, IsTrue, ◌↔◌, IfSome, IfNone, vec_capacity, slice_index};
 ghost use Rattle.pixel_pool.specs.Classes.{class_count, class_capacity, FitsIn};
-ghost use Rattle.pixel_pool.specs.Free.{HasFree, HasCapacity, UsesSmallest, IsTrim, IsFewer};
+ghost use Rattle.pixel_pool.specs.Free.{HasFree, HasCapacity, LendsSmallest, IsTrim, IsFewer};
 ghost use Rattle.pixel_pool.specs.Free.{free_count};
 ghost use Rattle.pixel_pool.specs.Free.{without_one, GetsFree};
 ghost use Rattle.pixel_pool.specs.Shelf.{block_count};
 
-use crate::classes::{CLASSES, class_of, room_for};
+use crate::classes::{CLASSES, capacity_for, class_of};
 use crate::stacks::{EMPTY, Stack, largest, smallest};
 use slab::Slab;
 use std::alloc::{AllocError, Global};
 use std::marker::Model;
 
 /// Blocks up to this capacity, 4,096 bytes in the widest format, are never shrunk.
-const SMALL_ROOM: usize = 1024;
+const SMALL_CAPACITY: usize = 1024;
 
 /// The greatest total capacity, in samples, of the free blocks that `trim` keeps.
-const KEPT_ROOM: u128 = 67_108_864;
+const KEPT_CAPACITY: u128 = 67_108_864;
 
-/// The greatest number of free blocks that `trim` keeps: as many as one client can leave.
+/// The greatest number of free blocks that `trim` keeps. One client can have as many images, in
+/// 1,024 delays of 16 images.
 const KEPT_BLOCKS: usize = 16_384;
 
-/// A free block, its class, the capacity of the class, and the stack of the class below this block.
+/// A free block: its memory, its class, the class's capacity, and the part of the class's stack
+/// below this block.
 #[derive(Drop)]
 struct Free<T> {
     samples: Vec<T>,
     class: usize,
-    room: usize,
+    capacity: usize,
     under: Stack,
 }
 
-/// The blocks of one format: the number of lent ones, and the free ones in a slab, stacked by their
-/// classes. `room` is the total capacity of the free blocks in samples, each counted with the
-/// capacity of its class.
+/// The blocks of one format: the number of lent blocks, and the free blocks in a slab, with one
+/// stack for each class. `capacity` is the total capacity of the free blocks in samples, where each
+/// block counts with its class's capacity.
 #[derive(Drop)]
 pub struct Shelf<T> {
     alloc: Global,
     lent: usize,
     free: Slab<Free<T>>,
     stacks: [Stack; CLASSES],
-    room: u128,
+    capacity: u128,
 }
 
 impl<T> Model for Shelf<T> {
@@ -58,7 +60,7 @@ impl<T> Model for Shelf<T> {
     // The slab has a reserved entry for each lent block, so that giving it back allocates nothing.
     ghost invariant = { λ s. (s.lent + slab_len s.free ≤ s.free.capacity)
         × AreStacks s.stacks s.free
-        × (s.room ≡ capacity_below (lengths s.stacks) class_count) };
+        × (s.capacity ≡ capacity_below (lengths s.stacks) class_count) };
 }
 
 impl<T: Copy + Drop> Shelf<T> {
@@ -71,7 +73,7 @@ impl<T: Copy + Drop> Shelf<T> {
             lent: 0,
             free: Slab::new(alloc),
             stacks: [EMPTY; CLASSES],
-            room: 0,
+            capacity: 0,
         }
     }
 
@@ -101,11 +103,9 @@ impl<T: Copy + Drop> Shelf<T> {
     /// class. An error means that there is no memory for a new block; the shelf is then unchanged.
     pub fn take(&mut self, zero: T, count: usize) -> Result<Vec<T>, AllocError>
         ensures count { IfOk result (λ samples. length samples.items ≡ count) }
-        ensures room { IfOk result (λ samples. FitsIn count (vec_capacity samples)) }
+        ensures capacity { IfOk result (λ samples. FitsIn count (vec_capacity samples)) }
         ensures lent { OnOk result (self.new.lent ≡ self.old.lent + 1) }
-        ensures used { OnOk result (HasCapacity self.old.free count →
-            UsesSmallest count self.old.free self.new.free) }
-        ensures added { (HasCapacity self.old.free count → ⊥) → self.new.free ≡ self.old.free }
+        ensures smallest { OnOk result (LendsSmallest count self.old.free self.new.free) }
         ensures most { block_count self.new ≤ block_count self.old + 1 }
         ensures none { HasCapacity self.old.free count →
             block_count self.new ≡ block_count self.old }
@@ -122,7 +122,7 @@ impl<T: Copy + Drop> Shelf<T> {
     /// blocks, so that giving it back allocates nothing.
     fn add(&mut self, zero: T, count: usize) -> Result<Vec<T>, AllocError>
         ensures count { IfOk result (λ samples. length samples.items ≡ count) }
-        ensures room { IfOk result (λ samples. FitsIn count (vec_capacity samples)) }
+        ensures capacity { IfOk result (λ samples. FitsIn count (vec_capacity samples)) }
         ensures ok { OnOk result
             (self.new ≡ record { lent = self.old.lent + 1; free = self.old.free }) }
         ensures err { OnErr result (self.new ≡ self.old) }
@@ -137,7 +137,7 @@ impl<T: Copy + Drop> Shelf<T> {
     /// Lends the top block of a class's stack.
     fn lend(&mut self, class: usize) -> Vec<T>
         requires { HasFree self.old.free class }
-        ensures room { class_capacity class ≤ vec_capacity result }
+        ensures capacity { class_capacity class ≤ vec_capacity result }
         ensures value { self.new ≡ record {
           lent = self.old.lent + 1;
           free = without_one self.old.free class;
@@ -147,7 +147,7 @@ impl<T: Copy + Drop> Shelf<T> {
         let _fit = self.free.capacity();
         let block = self.free.remove(self.stacks[class].top);
         self.stacks[class] = block.under;
-        self.room -= block.room as u128;
+        self.capacity -= block.capacity as u128;
         self.lent += 1;
         block.samples
     }
@@ -160,12 +160,12 @@ impl<T: Copy + Drop> Shelf<T> {
         ensures blocks { block_count self.new ≡ block_count self.old }
     {
         let _fit = self.free.capacity();
-        let (class, room) = class_of(samples.capacity());
+        let (class, capacity) = class_of(samples.capacity());
         let under = self.stacks[class];
         let block = Free {
             samples,
             class,
-            room,
+            capacity,
             under,
         };
         let top = self.free.insert_reserved(block);
@@ -173,7 +173,7 @@ impl<T: Copy + Drop> Shelf<T> {
             top,
             len: under.len + 1,
         };
-        self.room += room as u128;
+        self.capacity += capacity as u128;
         self.lent -= 1;
     }
 
@@ -183,7 +183,7 @@ impl<T: Copy + Drop> Shelf<T> {
     {
         self.free.clear();
         self.stacks = [EMPTY; CLASSES];
-        self.room = 0;
+        self.capacity = 0;
     }
 
     /// Drops free blocks, the largest first, until their number and their total capacity are within
@@ -199,15 +199,15 @@ impl<T: Copy + Drop> Shelf<T> {
         }
     }
 
-    /// Whether the number of free blocks and their total capacity are within the limits.
+    /// Checks whether the number of free blocks and their total capacity are within the limits.
     fn is_trim(&self) -> bool
         ensures { IsTrue result ↔ IsTrim self.now.free }
     {
-        self.free.len() <= KEPT_BLOCKS && self.room <= KEPT_ROOM
+        self.free.len() <= KEPT_BLOCKS && self.capacity <= KEPT_CAPACITY
     }
 
-    /// Drops a free block of the greatest class that has one. There is one, because the limits are
-    /// exceeded.
+    /// Drops a free block of the greatest class that has any. Some block is free, because the
+    /// limits are exceeded.
     #[tactic(auto, using(crate::proofs::FreeLemmas::none_is_trim))]
     fn drop_largest(&mut self)
         requires { IsTrim self.old.free → ⊥ }
@@ -225,31 +225,32 @@ impl<T: Copy + Drop> Shelf<T> {
     }
 }
 
-/// New memory with `count` samples and the capacity of the smallest class that fits them.
+/// Returns new memory with `count` samples and the capacity of the smallest class that fits them.
 fn new_samples<T: Copy + Drop>(alloc: Global, zero: T, count: usize) -> Result<Vec<T>, AllocError>
     ensures count { IfOk result (λ samples. length samples.items ≡ count) }
-    ensures room { IfOk result (λ samples. FitsIn count (vec_capacity samples)) }
+    ensures capacity { IfOk result (λ samples. FitsIn count (vec_capacity samples)) }
 {
-    let mut samples = Vec::with_capacity(alloc, room_for(count))?;
+    let mut samples = Vec::with_capacity(alloc, capacity_for(count))?;
     let _fits = samples.resize(count, zero);
     Ok(samples)
 }
 
-/// The same memory with `count` samples, which fit. Memory that is far too large is shrunk to the
-/// capacity of their class; if the system refuses, it stays as it is.
+/// Returns the same memory with `count` samples, which fit. Memory that is far too large is shrunk
+/// to the capacity of a new block; if the system refuses, it isn't shrunk.
 fn resized<T: Copy + Drop>(mut samples: Vec<T>, zero: T, count: usize) -> Vec<T>
     requires { count ≤ vec_capacity samples }
     ensures count { length result.items ≡ count }
-    ensures room { FitsIn count (vec_capacity samples) → FitsIn count (vec_capacity result) }
+    ensures capacity { FitsIn count (vec_capacity samples) → FitsIn count (vec_capacity result) }
 {
     let _fits = samples.resize(count, zero);
     if is_far_too_large(samples.capacity(), count) {
-        samples.shrink_to(room_for(count));
+        samples.shrink_to(capacity_for(count));
     }
     samples
 }
 
-/// Whether a capacity is more than twice the requested one, and isn't small.
-fn is_far_too_large(room: usize, count: usize) -> bool {
-    room > SMALL_ROOM && room / 2 > count
+/// Checks whether a capacity is above `SMALL_ROOM` and more than twice the requested number of
+/// samples.
+fn is_far_too_large(capacity: usize, count: usize) -> bool {
+    capacity > SMALL_CAPACITY && capacity / 2 > count
 }

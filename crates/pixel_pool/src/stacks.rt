@@ -27,12 +27,12 @@ pub fn smallest(stacks: &[Stack; CLASSES], count: usize) -> Option<usize>
     ensures none { IfNone result ((other : ℕ) → HasFree (lengths stacks.now) other →
         count ≤ class_capacity other → ⊥) }
 {
-    let mut room = 0;
+    let mut capacity = 0;
     for class in 0..CLASSES {
-        if count <= room && stacks[class].len > 0 {
+        if count <= capacity && stacks[class].len > 0 {
             return Some(class);
         }
-        room += step(class);
+        capacity += step(class);
     }
     None
 }

@@ -12,12 +12,12 @@ use vx_base::{Format, Samples};
 fn give_back(pool: &mut Pool, block: Block) -> usize
     requires { HasLent pool.old (samples_format block) }
 {
-    let room = match block.samples() {
+    let capacity = match block.samples() {
         Samples::U8(samples) => samples.capacity(),
         _ => 0,
     };
     pool.give_back(block);
-    room
+    capacity
 }
 
 #[test]
@@ -129,7 +129,7 @@ fn free_blocks_are_given_up(rt: HostRuntime) -> Result<(), Fail> {
 }
 
 #[test]
-fn the_room_of_free_blocks_is_trimmed(rt: HostRuntime) -> Result<(), Fail> {
+fn the_capacity_of_free_blocks_is_trimmed(rt: HostRuntime) -> Result<(), Fail> {
     for (count, kept) in [(33_554_432, 2), (33_554_433, 1)] {
         let mut pool = Pool::new(rt.alloc());
         let first = pool.take(Format::U8, count)?;

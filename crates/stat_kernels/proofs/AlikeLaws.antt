@@ -1,12 +1,12 @@
 -- Rows of an image that equal rows of another one, at different heights.
-use Rattle.std.proofs.Common.{◌≡◌, ◌∙◌, ℕ, ℤ, ◌+◌, ◌-◌, ◌<◌, ◌≤◌, true, false, ◌&&◌, nat_le, nat_lt, [], if◌then◌else◌, inl, inr, ap, sym, subst, arith}
+use Rattle.std.proofs.Common.{refl, ◌≡◌, ◌∙◌, ℕ, ℤ, ◌+◌, ◌-◌, ◌<◌, ◌≤◌, true, false, ◌&&◌, nat_le, nat_lt, [], if◌then◌else◌, inl, inr, ap, sym, subst, arith}
 use Rattle.stat_kernels.proofs.Common.{cases_Bool, nat_tests, ImageValue, Rectangle, pixel_at, extremes, rectangle_pixels, row_pixels, Band, band_of, valid_in}
 use Rattle.vx_base.specs.Rectangle.{has_pixel}
 use Rattle.stat_kernels.specs.Extreme.{added_extremes}
 use Rattle.stat_kernels.specs.Sums.{AreRowsOf}
 use Rattle.stat_kernels.proofs.FirstPixelLaws.{AreLowered, extremes_joined, lowered_none, lowered_row}
 use Rattle.stat_kernels.proofs.BandLaws.{places_lowered, row_of, rows_at, rows_follow}
-use Rattle.stat_kernels.proofs.NextRowLaws.{inside_from, inside_parts, same_columns}
+use Rattle.stat_kernels.proofs.PlaceLaws.{inside_from, inside_parts, same_columns}
 
 -- the places of a row that has a valid place, and of one that has none
 row_some : (r : Rectangle) (y : ℕ) → r.y0 ≤ y → y < r.y1 → row_of r y ≡ row_pixels r.x0 (r.x1 - r.x0) y
@@ -36,44 +36,32 @@ row_lowered r s f g y down width same samples within = elim (cases_Bool (has_pix
       let columns = same_columns r s y (y + down) same (omega (arith, one.right)) one.top one.bottom in
       let row_is : row_of r y ≡ row_pixels s.x0 (s.x1 - s.x0) y =
       row_some r y one.top one.bottom ∙ ap (λ n. row_pixels n (r.x1 - n) y) columns.first ∙ ap (λ n. row_pixels s.x0 (n - s.x0) y) columns.last in
-      subst (λ ps. AreLowered down f g ps (row_of s (y + down))) (sym row_is)
-      (subst (λ qs. AreLowered down f g (row_pixels s.x0 (s.x1 - s.x0) y) qs) (sym (row_some s (y + down) columns.top columns.bottom))
-      (lowered_row down f g s.x0 (s.x1 - s.x0) y (λ x from to. samples x (omega (arith, from, to, within))))))
+      rw (row_is, row_some s (y + down) columns.top columns.bottom) (lowered_row down f g s.x0 (s.x1 - s.x0) y (λ x from to. samples x (omega (arith, from, to, within)))))
   | inr none ↦
       (let nowhere = none_inside r y none in
-      subst (λ ps. AreLowered down f g ps (row_of s (y + down))) (sym (row_none r y nowhere))
-      (subst (λ qs. AreLowered down f g [] qs) (sym (row_none s (y + down) (λ x. sym (same x) ∙ nowhere x))) (lowered_none down f g)))
+      rw (row_none r y nowhere, row_none s (y + down) (λ x. sym (same x) ∙ nowhere x)) (lowered_none down f g))
 ]
 
--- the places of a band of such rows, and its samples
-band_lowered : (part whole : ImageValue) (rows : Band) (line down : ℕ) → rows.start + down ≡ line → AreRowsOf part rows whole line
-    → AreLowered down (pixel_at part) (pixel_at whole) (rectangle_pixels (band_of rows part.valid)) (rectangle_pixels (band_of (rows_at line rows.count) whole.valid))
-band_lowered part whole rows line down at_line are =
-    places_lowered part whole down rows.start line rows.count
-    (λ j below.
-    let row = are.each j below in
-    let there : line + j ≡ rows.start + j + down = omega (arith, at_line) in
-    subst (λ z. AreLowered down (pixel_at part) (pixel_at whole) (row_of part.valid (rows.start + j)) (row_of whole.valid z)) (sym there)
-    (row_lowered part.valid whole.valid (pixel_at part) (pixel_at whole) (rows.start + j) down whole.width
-    (λ x. row.valid x ∙ ap (has_pixel whole.valid x) there) (λ x inside_it. row.samples x inside_it ∙ ap (pixel_at whole x) there) are.is.room.columns))
+-- the extremes of rows of one image and of a band of another, whose rows equal those below them, `down` rows lower
+module _ (part whole : ImageValue) (rows : Band) (start first down width : ℕ) (at_line : rows.start + down ≡ start + first) (across : whole.valid.x1 ≤ width)
+    (valid : (x k : ℕ) → k < rows.count → has_pixel part.valid x (rows.start + k) ≡ has_pixel whole.valid x (start + first + k))
+    (same : (x k : ℕ) → x < width → k < rows.count → pixel_at part x (rows.start + k) ≡ pixel_at whole x (start + first + k)) where
+  located : added_extremes down (extremes (valid_in (rows_at start first) whole)) (extremes (valid_in rows part)) ≡ extremes (valid_in (rows_at start (first + rows.count)) whole)
+  located =
+      extremes_joined down (pixel_at part) (pixel_at whole) (rectangle_pixels (band_of (rows_at start first) whole.valid)) _ _
+      (places_lowered part whole down rows.start (start + first) rows.count (λ k below.
+      let there : start + first + k ≡ rows.start + k + down = omega arith in
+      subst (λ z. AreLowered down (pixel_at part) (pixel_at whole) (row_of part.valid (rows.start + k)) (row_of whole.valid z)) (sym there)
+      (row_lowered part.valid whole.valid (pixel_at part) (pixel_at whole) (rows.start + k) down width
+      (λ x. valid x k below ∙ ap (has_pixel whole.valid x) there) (λ x inside. same x k inside below ∙ ap (pixel_at whole x) there) across)))
+      ∙ cc (rows_follow whole.valid start first rows.count)
 
--- the extremes of two adjacent bands
 pub parts_located : (part whole : ImageValue) (rows : Band) (start first down : ℕ) → rows.start + down ≡ start + first → AreRowsOf part rows whole (start + first)
     → added_extremes down (extremes (valid_in (rows_at start first) whole)) (extremes (valid_in rows part)) ≡ extremes (valid_in (rows_at start (first + rows.count)) whole)
 parts_located part whole rows start first down at_line are =
-    extremes_joined down (pixel_at part) (pixel_at whole) (rectangle_pixels (band_of (rows_at start first) whole.valid)) (rectangle_pixels (band_of rows part.valid))
-    (rectangle_pixels (band_of (rows_at (start + first) rows.count) whole.valid)) (band_lowered part whole rows (start + first) down at_line are)
-    ∙ cc (rows_follow whole.valid start first rows.count)
+    located part whole rows start first down whole.width at_line are.is.room.columns (λ x k below. (are.each k below).valid x) (λ x k inside below. (are.each k below).samples x inside)
 
--- for two bands of one image
+-- two bands of one image
 pub bands_joined : (image : ImageValue) (start first second : ℕ)
     → added_extremes 0 (extremes (valid_in (rows_at start first) image)) (extremes (valid_in (rows_at (start + first) second) image)) ≡ extremes (valid_in (rows_at start (first + second)) image)
-bands_joined image start first second =
-    extremes_joined 0 (pixel_at image) (pixel_at image) (rectangle_pixels (band_of (rows_at start first) image.valid)) _ _
-    (places_lowered image image 0 (start + first) (start + first) second
-    (λ j below.
-    let y = start + first + j in
-    let here : y ≡ y + 0 = omega arith in
-    subst (λ z. AreLowered 0 (pixel_at image) (pixel_at image) (row_of image.valid y) (row_of image.valid z)) (sym here)
-    (row_lowered image.valid image.valid (pixel_at image) (pixel_at image) y 0 image.valid.x1 (λ x. ap (has_pixel image.valid x) here) (λ x h. ap (pixel_at image x) here) (omega arith))))
-    ∙ cc (rows_follow image.valid start first second)
+bands_joined image start first second = located image image (rows_at (start + first) second) start first 0 image.valid.x1 (omega arith) (omega arith) (λ x k below. refl) (λ x k inside below. refl)

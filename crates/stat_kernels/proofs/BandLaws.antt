@@ -1,11 +1,11 @@
 -- The samples of bands of rows, and what is counted of them.
-use Rattle.std.proofs.Common.{Bool, ◌≡◌, set, ℕ, zero, suc, ℤ, ◌+◌, ◌-◌, ◌*◌, ◌<◌, ◌≤◌, List, [], ◌++◌, length, map, slice_index, cond, replicate, inl, inr, refl, ap, sym, ◌∙◌, arith, ◌&&◌, nat_le, nat_lt, if◌then◌else◌, min, max, unsigned_abs, length-append, append-nil, append_assoc, get_or-set_same, get_or-set_other, length-set}
-use Rattle.stat_kernels.proofs.Common.{int_min, int_max, cases_Bool, cases_eq, cases_lt, nat_tests, side, rectangle_ordered, length-map, map-append, get_or_past, length-replicate, get_or-replicate, length-map-range_with_len, get_or-map-range_with_len, fill_by_all, count_by-le-length, sum_by-append, ImageValue, IsImage, pixel_at, Rectangle, BinsValue, bin_of, is_bin, histogram, samples_in, tallies, valid_samples, rectangle_pixels, row_pixels, extremes, Band, all_rows, bin_sums, band_of, valid_in, extremes_of, found_in}
+use Rattle.std.proofs.Common.{Bool, ◌≡◌, ℕ, zero, suc, ℤ, ◌+◌, ◌-◌, ◌*◌, ◌<◌, ◌≤◌, List, [], ◌++◌, length, map, slice_index, cond, replicate, inl, inr, refl, ap, sym, ◌∙◌, arith, ◌&&◌, nat_le, nat_lt, if◌then◌else◌, min, max, unsigned_abs, append-nil, append_assoc}
+use Rattle.vx_base.specs.Image.{description_of}
+use Rattle.stat_kernels.proofs.Common.{Description, int_min, int_max, cases_Bool, cases_lt, nat_tests, side, rectangle_ordered, length-map, map-append, get_or_past, length-replicate, get_or-replicate, length-map-range_with_len, get_or-map-range_with_len, fill_by_all, count_by-le-length, sum_by-append, ImageValue, IsImage, pixel_at, Rectangle, BinsValue, bin_of, is_bin, histogram, samples_in, tallies, valid_samples, rectangle_pixels, row_pixels, extremes, Band, all_rows, bin_sums, band_of, valid_in, extremes_of, found_in}
 use Rattle.std.specs.List.{count_by}
-use Rattle.stat_kernels.proofs.PlaceLaws.{area_fits, length-samples, places_more, places_none}
+use Rattle.stat_kernels.proofs.PlaceLaws.{length-samples, places_more, places_none}
 use Rattle.vx_base.specs.Object.{no_extremes}
-use Rattle.stat_kernels.specs.Extreme.{added_extremes}
-use Rattle.stat_kernels.proofs.FirstPixelLaws.{at_most, AreLowered, extremes_joined, lowered_more, lowered_none}
+use Rattle.stat_kernels.proofs.FirstPixelLaws.{at_most, AreLowered, lowered_more, lowered_none}
 use Rattle.stat_kernels.proofs.Rows.{above}
 
 abbrev pub rows_at : ℕ → ℕ → Band
@@ -81,6 +81,9 @@ all_valid image is =
     let top : max r.y0 0 ≡ r.y0 = grind (arith, nat_tests) in
     rw (bottom, top) refl
 
+pub whole_valid : (image : ImageValue) (rows : Band) (d : Description) → IsImage image → rows ≡ all_rows d.height → d ≡ description_of image → valid_in rows image ≡ image
+whole_valid image rows d is whole same = ap (λ (b : Band). valid_in b image) (whole ∙ ap (λ (d : Description). all_rows d.height) same) ∙ all_valid image is
+
 -- ---- counts of bands
 
 -- samples after others are counted bin by bin
@@ -118,48 +121,6 @@ tally_few b zs k =
       | inr past ↦ omega (arith, get_or_past (tallies b zs) k 0 (omega (arith, past, length-map-range_with_len count 0 b.bins)))
     ]
 
--- ---- counts that are added one after the other
-
--- counts to which the first k of more are added
-pub record AreAdded (before more now : List ℕ) (k : ℕ) : Type 0 where
-  pub size : length now ≡ length before
-  pub each : (j : ℕ) → slice_index now j ≡ slice_index before j + (if nat_lt j k then slice_index more j else 0)
-
-pub added_none : (before more : List ℕ) → AreAdded before more before 0
-added_none before more = record { size = refl; each = λ j. grind (arith, nat_tests) }
-
-pub added_next : (before more now next : List ℕ) (k : ℕ) → k < length now → next ≡ set now k (slice_index now k + slice_index more k) → AreAdded before more now k → AreAdded before more next (k + 1)
-added_next before more now next k below is so_far =
-    let sum = slice_index now k + slice_index more k in
-    record {
-      size = ap length is ∙ length-set now k sum ∙ so_far.size;
-      each = λ j. ap (λ l. slice_index l j) is
-          ∙ grind (arith, nat_tests, cases_eq j k, get_or-set_same now k sum 0 below, get_or-set_other now k j sum 0, so_far.each j);
-    }
-
-pub added_all : (before more now : List ℕ) (k : ℕ) → length before ≤ k → AreAdded before more now k → now ≡ bin_sums before more
-added_all before more now k past so_far =
-    fill_by_all (λ j. slice_index before j + slice_index more j) now (length before)
-    0 so_far.size (λ j below. grind (arith, nat_tests, so_far.each j, past, below))
-
--- the samples of two adjacent bands, in row-major order
-pub bands_fit : (image : ImageValue) → IsImage image → (start count : ℕ)
-    → length (valid_samples (valid_in (rows_at 0 start) image)) + length (valid_samples (valid_in (rows_at start count) image)) < 4294967296
-bands_fit image is start count =
-    let r = image.valid in
-    let all = band_of (rows_at 0 (start + count)) r in
-    let one = samples_in (band_of (rows_at 0 start) r) image in
-    let here : 0 + start ≡ start = omega arith in
-    let high : all.y1 - all.y0 ≤ 8192 = grind (arith, nat_tests, is.sides.height, is.room.rows, (rectangle_ordered image.valid is.canonical).rows) in
-    omega (
-      arith,
-      ap (λ y. length (samples_in (band_of (rows_at y count) r) image)) here,
-      ap length (samples_after r image 0 start count),
-      length-append one (samples_in (band_of (rows_at (0 + start) count) r) image),
-      length-samples all image,
-      area_fits (all.y1 - all.y0) (r.x1 - r.x0) (omega (arith, high)) (omega (arith, side image.width is.sides.width, is.room.columns)),
-    )
-
 -- no rows of an image have more valid samples than an image has at most
 pub few_samples : (image : ImageValue) → IsImage image → (rows : Band) → length (valid_samples (valid_in rows image)) ≤ 67108864
 few_samples image is rows =
@@ -181,17 +142,6 @@ places_lowered a b down one other (suc count) rows =
     let next : suc count ≡ count + 1 = omega arith in
     let first = places_lowered a b down one other count (λ j below. rows j (omega (arith, below))) in
     rw (next, one_row a.valid one count, one_row b.valid other count) (lowered_more down (pixel_at a) (pixel_at b) _ _ _ _ first (rows count (omega arith)))
-
--- the extremes of the upper rows of an image, merged with those of a band of another image that equals the rows below them
-pub bands_located : (a b : ImageValue) (down one start count : ℕ)
-    → AreLowered down (pixel_at a) (pixel_at b) (rectangle_pixels (band_of (rows_at one count) a.valid)) (rectangle_pixels (band_of (rows_at start count) b.valid))
-    → added_extremes down (extremes (valid_in (rows_at 0 start) b)) (extremes (valid_in (rows_at one count) a)) ≡ extremes (valid_in (rows_at 0 (start + count)) b)
-bands_located a b down one start count are =
-    let same : start ≡ 0 + start = omega arith in
-    let above_it = rectangle_pixels (band_of (rows_at 0 start) b.valid) in
-    extremes_joined down (pixel_at a) (pixel_at b) above_it (rectangle_pixels (band_of (rows_at one count) a.valid))
-    (rectangle_pixels (band_of (rows_at start count) b.valid)) are
-    ∙ cc (same, rows_follow b.valid 0 start count)
 
 -- nothing is found in no rows
 pub none_located : (image : ImageValue) (start : ℕ) → extremes (valid_in (rows_at start 0) image) ≡ no_extremes

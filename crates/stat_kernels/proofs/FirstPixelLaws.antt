@@ -1,6 +1,6 @@
 -- Extremes with one more row.
-use Rattle.std.proofs.Common.{zero, suc, ◌⊎◌, inl, inr, ◌≡◌, ℕ, ℤ, pos, ◌+◌, ◌<◌, ◌≤◌, List, [], ◌∷◌, ◌++◌, length, map, cond, Bool, true, false, ap, ◌∙◌, sym, refl, arith, Some, None, ◌-◌, take, get_or, add-one, int_lt, append-nil}
-use Rattle.stat_kernels.proofs.Common.{fold, flat_map, range_with_len, All, Rectangle, int_eq, int_min, int_max, cases_Bool, cases_eq, ints, map-append, length-map, sum_by-append, sum_by-cons, count_by-le-length, All-nil, All-cons, All-head, All-tail, nat_tests, ImageValue, pixel_at, run, row_pixels, rectangle_pixels, best_of, count_of, first_of, Part, Found, IsValidPart, get_or-run, take-map-range_with_len, found_in, extremes_of}
+use Rattle.std.proofs.Common.{zero, suc, ◌⊎◌, inl, inr, ◌≡◌, ℕ, ℤ, pos, ◌+◌, ◌<◌, ◌≤◌, List, [], ◌∷◌, ◌++◌, length, map, cond, Bool, true, false, ap, ◌∙◌, sym, refl, arith, Some, None, ◌-◌, take, get_or, int_lt, append-nil}
+use Rattle.stat_kernels.proofs.Common.{fold, flat_map, range_with_len, Rectangle, int_eq, int_min, int_max, cases_Bool, cases_eq, ints, map-append, length-map, sum_by-append, sum_by-cons, count_by-le-length, nat_tests, ImageValue, pixel_at, run, row_pixels, rectangle_pixels, best_of, count_of, first_of, Part, Found, IsValidPart, found_in, extremes_of}
 use Rattle.stat_kernels.specs.declared.extreme.Extreme.{Extreme}
 use Rattle.std.specs.List.{find}
 use Rattle.std.specs.Option.{unwrap_or, option_or}
@@ -8,8 +8,17 @@ use Rattle.std.proofs.lemmas.List.Sums.{fold-append}
 use Rattle.std.proofs.lemmas.List.Folds.{find-append}
 use Rattle.stat_kernels.proofs.Rows.{above}
 use Rattle.lane_rows.proofs.CountLaws.{eq_from_test, test_same, test_other}
-use Rattle.stat_kernels.proofs.PlaceLaws.{next_places, places_fit, row_samples, row_places-append}
-use Rattle.stat_kernels.specs.Extreme.{IsDirection, extreme_among, merge_found, shift_down, shift_found, merge}
+use Rattle.stat_kernels.proofs.PlaceLaws.{next_places, places_fit, row_samples}
+use Rattle.stat_kernels.specs.Extreme.{row_extreme, extreme_among, merge_found, shift_down, shift_found, merge}
+
+-- `choose` takes the sample that is beyond the other one, by the strict order `beyond`
+pub record IsDirection (choose : ℤ → ℤ → ℤ) (beyond : ℤ → ℤ → Bool) : Type 0 where
+  pub takes : (v z : ℤ) → beyond z v ≡ true → choose v z ≡ z
+  pub keeps : (v z : ℤ) → beyond z v ≡ false → choose v z ≡ v
+  pub irreflexive : (z : ℤ) → beyond z z ≡ false
+  pub total : (z v : ℤ) → beyond z v ≡ false → (z ≡ v → ⊥) → beyond v z ≡ true
+  pub associative : (v z w : ℤ) → choose (choose v z) w ≡ choose v (choose z w)
+  pub transitive : (w z v : ℤ) → beyond w z ≡ true → beyond z v ≡ true → beyond w v ≡ true
 
 pub downwards : IsDirection int_min int_lt
 downwards = grind (arith, ints)
@@ -23,48 +32,42 @@ count_cons v a zs = sum_by-cons (λ s. cond (int_eq s v) 1 0) a zs
 count_append : (v : ℤ) (zs ws : List ℤ) → count_of v (zs ++ ws) ≡ count_of v zs + count_of v ws
 count_append v zs ws = sum_by-append (λ s. cond (int_eq s v) 1 0) zs ws
 
-count_here : (a : ℤ) (zs : List ℤ) → 0 < count_of a (a ∷ zs)
-count_here a zs = grind (arith, count_cons a a zs, test_same a)
-
 module _ (choose : ℤ → ℤ → ℤ) (beyond : ℤ → ℤ → Bool) (d : IsDirection choose beyond) where
-  -- what is not beyond one of two is not beyond the choice between them
-  choice_kept : (a z w : ℤ) → beyond w a ≡ false → beyond w (choose a z) ≡ false
-  choice_kept a z w below = grind (arith, cases_Bool (beyond z a), cases_Bool (beyond w z), d.takes a z, d.keeps a z, d.transitive w z a)
+  fold_joined : (a z : ℤ) (zs : List ℤ) → fold choose (choose a z) zs ≡ choose a (fold choose z zs)
+  fold_joined a z [] = refl
+  fold_joined a z (w ∷ zs) = ap (λ b. fold choose b zs) (d.associative a z w) ∙ fold_joined a (choose z w) zs
 
-  fold_kept : (a w : ℤ) (zs : List ℤ) → beyond w a ≡ false → beyond w (fold choose a zs) ≡ false
-  fold_kept a w [] below = below
-  fold_kept a w (z ∷ zs) below = fold_kept (choose a z) w zs (choice_kept a z w below)
-
-  choice_above : (a z : ℤ) → beyond z (choose a z) ≡ false
-  choice_above a z = grind (arith, cases_Bool (beyond z a), d.takes a z, d.keeps a z, d.irreflexive z)
-
-  fold_above : (a : ℤ) (zs : List ℤ) → All (λ z. beyond z (fold choose a zs) ≡ false) zs
-  fold_above a [] = All-nil (λ z. beyond z a ≡ false)
-  fold_above a (z ∷ zs) =
-      All-cons (λ w. beyond w (fold choose (choose a z) zs) ≡ false) z zs (fold_kept (choose a z) z zs (choice_above a z)) (fold_above (choose a z) zs)
-
-  -- no sample is beyond the one that is chosen
-  pub none_beyond : (zs : List ℤ) → All (λ z. beyond z (best_of choose zs) ≡ false) zs
-  none_beyond [] = All-nil (λ z. beyond z (pos 0) ≡ false)
-  none_beyond (a ∷ zs) = All-cons (λ w. beyond w (fold choose a zs) ≡ false) a zs (fold_kept a a zs (d.irreflexive a)) (fold_above a zs)
-
-  -- the one that is chosen is one of them
+  -- the sample that is chosen is one of them
   fold_counted : (a : ℤ) (zs : List ℤ) → 0 < count_of (fold choose a zs) (a ∷ zs)
-  fold_counted a [] = count_here a []
+  fold_counted a [] = grind (arith, count_cons a a [], test_same a)
   fold_counted a (z ∷ zs) =
       let v = fold choose (choose a z) zs in
       grind (arith, fold_counted (choose a z) zs, cases_Bool (beyond z a), d.takes a z, d.keeps a z, count_cons v a (z ∷ zs), count_cons v z zs, count_cons v (choose a z) zs)
 
-  -- a sample beyond the one that was chosen is none of those before
-  count_beyond : (v z : ℤ) (zs : List ℤ) → beyond z v ≡ true → All (λ w. beyond w v ≡ false) zs → count_of z zs ≡ 0
-  count_beyond v z [] is below = refl
-  count_beyond v z (a ∷ zs) is below =
-      let other : int_eq a z ≡ false = test_other a z (λ same. cc (is, same, All-head (λ w. beyond w v ≡ false) a zs below)) in
-      omega (arith, count_cons z a zs, ap (λ b. let n : ℕ = cond b 1 0 in n) other, count_beyond v z zs is (All-tail (λ w. beyond w v ≡ false) a zs below))
+  pub chosen_among : (zs : List ℤ) (v : ℤ) → 0 < length zs → v ≡ best_of choose zs → 0 < count_of v zs
+  chosen_among [] v some is = absurd (omega (arith, some))
+  chosen_among (a ∷ zs) v some is = omega (arith, fold_counted a zs, ap (λ w. count_of w (a ∷ zs)) is)
 
-  fold_joined : (a z : ℤ) (zs : List ℤ) → fold choose (choose a z) zs ≡ choose a (fold choose z zs)
-  fold_joined a z [] = refl
-  fold_joined a z (w ∷ zs) = ap (λ b. fold choose b zs) (d.associative a z w) ∙ fold_joined a (choose z w) zs
+  -- a sample beyond the one that is chosen is none of them
+  beyond_both : (w v z : ℤ) → beyond w (choose v z) ≡ true → (beyond w v ≡ true) × (beyond w z ≡ true)
+  beyond_both w v z is = elim (cases_Bool (beyond z v)) [
+    | inl taken ↦ (let there = ap (beyond w) (sym (d.takes v z taken)) ∙ is in (d.transitive w z v there taken, there))
+    | inr kept ↦
+        let there = ap (beyond w) (sym (d.keeps v z kept)) ∙ is in (
+          there,
+          elim (cases_Bool (int_eq z v)) [
+            | inl same ↦ ap (beyond w) (eq_from_test z v same) ∙ there
+            | inr other ↦ d.transitive w v z there (d.total z v kept (λ e. cc (other, e, test_same v)))
+          ],
+        )
+  ]
+
+  count_beyond : (z : ℤ) (zs : List ℤ) → beyond z (best_of choose zs) ≡ true → count_of z zs ≡ 0
+  count_beyond z [] is = refl
+  count_beyond z (a ∷ []) is = grind (arith, count_cons z a [], test_other a z (λ e. cc (is, e, d.irreflexive z)))
+  count_beyond z (a ∷ w ∷ zs) is =
+      let both = beyond_both z a (fold choose w zs) (ap (beyond z) (sym (fold_joined a w zs)) ∙ is) in
+      grind (arith, count_cons z a (w ∷ zs), test_other a z (λ e. cc (both.0, e, d.irreflexive z)), count_beyond z (w ∷ zs) both.1)
 
   -- the choice from two lists is the choice between those from each
   chosen_joined : (a w : ℤ) (zs ws : List ℤ) → best_of choose ((a ∷ zs) ++ w ∷ ws) ≡ choose (best_of choose (a ∷ zs)) (best_of choose (w ∷ ws))
@@ -79,11 +82,6 @@ module _ (choose : ℤ → ℤ → ℤ) (beyond : ℤ → ℤ → Bool) (d : IsD
   chosen_kept [] ws some not = absurd (omega (arith, some))
   chosen_kept (a ∷ zs) [] some not = ap (best_of choose) (append-nil (a ∷ zs))
   chosen_kept (a ∷ zs) (w ∷ ws) some not = chosen_joined a w zs ws ∙ d.keeps (best_of choose (a ∷ zs)) (best_of choose (w ∷ ws)) not
-
-  -- the one that is chosen is among those that it is chosen from
-  pub chosen_among : (zs : List ℤ) (v : ℤ) → 0 < length zs → v ≡ best_of choose zs → 0 < count_of v zs
-  chosen_among [] v some is = absurd (omega (arith, some))
-  chosen_among (a ∷ zs) v some is = omega (arith, fold_counted a zs, ap (λ w. count_of w (a ∷ zs)) is)
 
 -- ---- the first place
 
@@ -105,13 +103,19 @@ found_behind : (f : ℕ → ℕ → ℤ) (v : ℤ) (ps qs : List (ℕ × ℕ)) �
 found_behind f v ps qs none = find-append (holds f v) ps qs ∙ ap (λ o. option_or o (find (holds f v) qs)) (found_none f v ps none)
 
 -- where a row holds it first
-first_in_row : (f : ℕ → ℕ → ℤ) (v : ℤ) (x n y i m : ℕ) → n ≡ i + (m + 1) → count_of v (samples f (row_pixels x i y)) ≡ 0 → f (x + i) y ≡ v → find (holds f v) (row_pixels x n y) ≡ Some (x + i, y)
-first_in_row f v x n y i m split none is =
-    ap (λ k. find (holds f v) (row_pixels x k y)) split
-    ∙ ap (find (holds f v)) (row_places-append x i (m + 1) y)
-    ∙ found_behind f v (row_pixels x i y) (row_pixels (x + i) (m + 1) y) none
-    ∙ ap (λ k. find (holds f v) (row_pixels (x + i) k y)) (add-one m)
-    ∙ ap (λ b. cond b (Some (x + i, y)) (find (holds f v) (row_pixels (x + i + 1) m y))) (ap (λ w. int_eq w v) is ∙ test_same v)
+first_in_row : (f : ℕ → ℕ → ℤ) (v : ℤ) (x y : ℕ) (ws : List ℤ) (i : ℕ) → ws ≡ run x (length ws) (λ k. f k y) → i < length ws → get_or ws i (pos 0) ≡ v → count_of v (take i ws) ≡ 0 → find (holds f v) (row_pixels x (length ws) y) ≡ Some (x + i, y)
+first_in_row f v x y [] i row below here none = absurd (omega (arith, below))
+first_in_row f v x y (w ∷ ws) zero row below here none =
+    let at : f x y ≡ v = cc in
+    let first : x ≡ x + 0 = omega arith in
+    ap (λ b. cond b (Some (x, y)) (find (holds f v) (row_pixels (x + 1) (length ws) y))) (ap (λ z. int_eq z v) at ∙ test_same v) ∙ ap (λ k. Some (k, y)) first
+first_in_row f v x y (w ∷ ws) (suc i) row below here none =
+    let at : w ≡ f x y = cc in
+    let rest : ws ≡ run (x + 1) (length ws) (λ k. f k y) = cc in
+    let next : x + 1 + i ≡ x + suc i = omega arith in
+    let other : int_eq w v ≡ false = grind (arith, count_cons v w (take i ws), none, cases_Bool (int_eq w v)) in
+    ap (λ b. cond b (Some (x, y)) (find (holds f v) (row_pixels (x + 1) (length ws) y))) (ap (λ z. int_eq z v) (sym at) ∙ other)
+    ∙ first_in_row f v (x + 1) y ws i rest (omega (arith, below)) here (omega (arith, count_cons v w (take i ws), none)) ∙ ap (λ k. Some (k, y)) next
 
 -- no count is above the number of places
 pub at_most : (choose : ℤ → ℤ → ℤ) (f : ℕ → ℕ → ℤ) (ps : List (ℕ × ℕ)) → (extreme_among choose f ps).count ≤ length ps
@@ -170,7 +174,7 @@ module _ (choose : ℤ → ℤ → ℤ) (beyond : ℤ → ℤ → Bool) (d : IsD
 
     taken : 0 < b.count → beyond b.value a.value ≡ true → b ≡ extreme_among choose f (ps ++ qs)
     taken some is =
-        let none : count_of b.value zs ≡ 0 = count_beyond choose beyond d a.value b.value zs is (none_beyond choose beyond d zs) in
+        let none : count_of b.value zs ≡ 0 = count_beyond choose beyond d b.value zs is in
         is_located choose f (ps ++ qs) b.value b.count b.at (sym (ap (best_of choose) both_samples ∙ chosen_beyond choose beyond d zs ws some is))
         (omega (arith, both_count b.value, none)) (ap (λ o. unwrap_or o (0, 0)) (sym (found_behind f b.value ps qs none)))
 
@@ -188,8 +192,7 @@ module _ (choose : ℤ → ℤ → ℤ) (beyond : ℤ → ℤ → Bool) (d : IsD
                 ∙ kept (a.count + b.count) (omega (arith, some)) not (ap (λ w. a.count + count_of w ws) equal)
             | inr differ ↦
                 let differs : b.value ≡ a.value → ⊥ = λ e. cc (differ, e, test_same a.value) in
-                let none = count_beyond choose beyond d b.value a.value ws
-                (d.total b.value a.value not differs) (none_beyond choose beyond d ws) in
+                let none = count_beyond choose beyond d a.value ws (d.total b.value a.value not differs) in
                 joined_kept beyond a b (omega (arith, some)) (omega (arith, more)) not differs
                 ∙ kept a.count (omega (arith, some)) not (omega (arith, none))
           ]
@@ -197,33 +200,28 @@ module _ (choose : ℤ → ℤ → ℤ) (beyond : ℤ → ℤ → Bool) (d : IsD
       ]
     ]
 
-  -- one more row, whose extreme is v, at each way through the code
-  module _ (x n y : ℕ) (ws : List ℤ) (row : ws ≡ run x n (λ k. f k y)) (v : ℤ) (is : v ≡ best_of choose ws) (among : 0 < count_of v ws) (ps : List (ℕ × ℕ)) (old : Extreme) (same : old ≡ extreme_among choose f ps) where
-    abbrev its : Extreme
-    its = parts v (count_of v ws) (first_of f v (row_pixels x n y))
+  -- one more row, whose extreme is v
+  pub row_joined : (x y : ℕ) (ws : List ℤ) (v : ℤ) (ps : List (ℕ × ℕ)) (old : Extreme) → ws ≡ run x (length ws) (λ k. f k y) → v ≡ best_of choose ws → old ≡ extreme_among choose f ps
+      → merge beyond old (row_extreme f v ws x y) ≡ extreme_among choose f (ps ++ row_pixels x (length ws) y)
+  row_joined x y ws v ps old row is same =
+      let qs = row_pixels x (length ws) y in
+      let samples_are : ws ≡ samples f qs = row ∙ sym (row_samples f x (length ws) y) in
+      ap (merge beyond old) (is_located choose f qs v (count_of v ws) (first_of f v qs) (is ∙ ap (best_of choose) samples_are) (ap (count_of v) samples_are) refl)
+      ∙ ap (λ a. merge beyond a (extreme_among choose f qs)) same ∙ located_joined ps qs
 
-    joins : (new : Extreme) → new ≡ merge beyond old its → new ≡ extreme_among choose f (ps ++ row_pixels x n y)
-    joins new e =
-        let samples_are : ws ≡ samples f (row_pixels x n y) = row ∙ sym (row_samples f x n y) in
-        let row_is : its ≡ extreme_among choose f (row_pixels x n y) =
-        is_located choose f (row_pixels x n y) v (count_of v ws) _ (is ∙ ap (best_of choose) samples_are) (ap (count_of v) samples_are) refl in
-        e ∙ ap (merge beyond old) row_is ∙ ap (λ a. merge beyond a (extreme_among choose f (row_pixels x n y))) same
-        ∙ located_joined ps (row_pixels x n y)
+-- the extreme of a row, merged at each way through the code
+module _ (beyond : ℤ → ℤ → Bool) (f : ℕ → ℕ → ℤ) (x y : ℕ) (ws : List ℤ) (v : ℤ) (old : Extreme) (among : 0 < count_of v ws) where
+  pub row_taken : (old.count ≡ 0) ⊎ (beyond v old.value ≡ true) → ws ≡ run x (length ws) (λ k. f k y) → (m i : ℕ) → m ≡ count_of v ws → i < length ws → get_or ws i (pos 0) ≡ v → count_of v (take i ws) ≡ 0
+      → parts v m (x + i, y) ≡ merge beyond old (row_extreme f v ws x y)
+  row_taken either row m i count below here before =
+      ap (λ k. parts v k (x + i, y)) count ∙ ap (λ o. parts v (count_of v ws) (unwrap_or o (0, 0))) (sym (first_in_row f v x y ws i row below here before)) ∙ sym (joined_taken beyond old (row_extreme f v ws x y) among either)
 
-    pub joins_taken : (old.count ≡ 0) ⊎ (beyond v old.value ≡ true) → (m i : ℕ) → m ≡ count_of v ws → i < n → get_or ws i (pos 0) ≡ v → count_of v (take i ws) ≡ 0 → parts v m (x + i, y) ≡ extreme_among choose f (ps ++ row_pixels x n y)
-    joins_taken either m i count below here before =
-        let left : samples f (row_pixels x i y) ≡ take i ws =
-        row_samples f x i y ∙ sym (ap (take i) row ∙ take-map-range_with_len (λ k. f k y) x n i (omega (arith, below))) in
-        let at_place : f (x + i) y ≡ v = sym (ap (λ l. get_or l i (pos 0)) row ∙ get_or-run (λ k. f k y) x n i (pos 0) below) ∙ here in
-        let first = first_in_row f v x n y i (n - (i + 1)) (omega (arith, below)) (ap (count_of v) left ∙ before) at_place in
-        joins _ (ap (λ k. parts v k (x + i, y)) count ∙ ap (λ o. parts v (count_of v ws) (unwrap_or o (0, 0))) (sym first) ∙ sym (joined_taken beyond old its among either))
+  pub row_equal : (m : ℕ) → 0 < old.count → beyond v old.value ≡ false → v ≡ old.value → m ≡ count_of v ws → parts v (old.count + m) old.at ≡ merge beyond old (row_extreme f v ws x y)
+  row_equal m some below equal count =
+      ap (λ k. parts v (old.count + k) old.at) count ∙ ap (λ w. parts w (old.count + count_of v ws) old.at) equal ∙ sym (joined_equal beyond old (row_extreme f v ws x y) some among below equal)
 
-    pub joins_equal : (m : ℕ) → 0 < old.count → beyond v old.value ≡ false → v ≡ old.value → m ≡ count_of v ws → parts v (old.count + m) old.at ≡ extreme_among choose f (ps ++ row_pixels x n y)
-    joins_equal m some below equal count =
-        joins _ (ap (λ k. parts v (old.count + k) old.at) count ∙ ap (λ w. parts w (old.count + count_of v ws) old.at) equal ∙ sym (joined_equal beyond old its some among below equal))
-
-    pub joins_other : 0 < old.count → beyond v old.value ≡ false → (v ≡ old.value → ⊥) → old ≡ extreme_among choose f (ps ++ row_pixels x n y)
-    joins_other some below other = joins old (sym (joined_kept beyond old its some among below other))
+  pub row_kept : 0 < old.count → beyond v old.value ≡ false → (v ≡ old.value → ⊥) → old ≡ merge beyond old (row_extreme f v ws x y)
+  row_kept some below other = sym (joined_kept beyond old (row_extreme f v ws x y) some among below other)
 
 -- one more row
 pub next_found : (image : ImageValue) (part : Part) → IsValidPart image part → (y : ℕ) (new : Found) → part.top ≤ y

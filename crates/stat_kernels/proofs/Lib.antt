@@ -4,8 +4,7 @@ mod PlaceLaws
 mod TallyLaws
 pub mod BandLaws
 pub mod FirstPixelLaws
-mod SumLaws
-pub mod NextRowLaws
 pub mod AlikeLaws
 mod ExtremeLaws
 pub mod ScanLaws
+mod SumLaws

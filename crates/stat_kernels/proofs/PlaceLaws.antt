@@ -1,8 +1,9 @@
 -- The places of a rectangle and their samples, row by row.
-use Rattle.std.proofs.Common.{◌≡◌, ℕ, ℤ, ◌+◌, ◌-◌, ◌*◌, ◌<◌, ◌≤◌, List, [], ◌++◌, length, map, zero, suc, ap, ◌∙◌, sym, arith, append-nil, length-append}
-use Rattle.stat_kernels.proofs.Common.{range_with_len, flat_map, map-append, length-map, Rectangle, ImageValue, pixel_at, run, row_pixels, rectangle_pixels, samples_in, range-append, length-range, Part, IsValidPart}
+use Rattle.std.proofs.Common.{true, ◌≡◌, ℕ, ℤ, ◌+◌, ◌-◌, ◌*◌, ◌<◌, ◌≤◌, List, [], ◌++◌, length, map, zero, suc, ap, ◌∙◌, sym, arith, append-nil, length-append}
+use Rattle.stat_kernels.proofs.Common.{nat_tests, range_with_len, flat_map, map-append, length-map, Rectangle, ImageValue, pixel_at, run, row_pixels, rectangle_pixels, samples_in, range-append, length-range, Part, IsValidPart}
 use Rattle.std.proofs.lemmas.List.Concat.{flat_map-append}
 use Rattle.std.proofs.lemmas.Simd.{map-map}
+use Rattle.vx_base.specs.Rectangle.{has_pixel}
 use Rattle.stat_kernels.proofs.Rows.{above}
 
 -- no row is above the first
@@ -71,6 +72,32 @@ module _ (image : ImageValue) (part : Part) (is : IsValidPart image part) where
   pub samples_fit : length (samples_in image.valid image) < 4294967296
   samples_fit = omega (arith, length-samples image.valid image, area_fits (image.valid.y1 - image.valid.y0) (image.valid.x1 - image.valid.x0) (omega (arith, is.rows_fit, is.bottom)) (omega (arith, is.count, is.columns_fit)))
 
--- the places of a row, cut in two
-pub row_places-append : (x m n y : ℕ) → row_pixels x (m + n) y ≡ row_pixels x m y ++ row_pixels (x + m) n y
-row_places-append x m n y = ap (map (λ k. (k, y))) (range-append x m n) ∙ map-append (λ k. (k, y)) (range_with_len x m) (range_with_len (x + m) n)
+-- ---- the pixels of a row
+
+pub record IsInside (r : Rectangle) (x y : ℕ) : Type 0 where
+  pub left : r.x0 ≤ x
+  pub right : x < r.x1
+  pub top : r.y0 ≤ y
+  pub bottom : y < r.y1
+
+pub inside_parts : (r : Rectangle) (x y : ℕ) → has_pixel r x y ≡ true → IsInside r x y
+inside_parts r x y is =
+    record { left = grind (arith, nat_tests, is); right = grind (arith, nat_tests, is); top = grind (arith, nat_tests, is); bottom = grind (arith, nat_tests, is) }
+
+pub inside_from : (r : Rectangle) (x y : ℕ) → r.x0 ≤ x → x < r.x1 → r.y0 ≤ y → y < r.y1 → has_pixel r x y ≡ true
+inside_from r x y a b c d = grind (arith, nat_tests, a, b, c, d)
+
+-- where a row has valid places, another with the same ones has the same columns
+pub record SameColumns (r s : Rectangle) (line : ℕ) : Type 0 where
+  pub first : r.x0 ≡ s.x0
+  pub last : r.x1 ≡ s.x1
+  pub top : s.y0 ≤ line
+  pub bottom : line < s.y1
+
+pub same_columns : (r s : Rectangle) (y line : ℕ) → ((x : ℕ) → has_pixel r x y ≡ has_pixel s x line) → r.x0 < r.x1 → r.y0 ≤ y → y < r.y1 → SameColumns r s line
+same_columns r s y line same some above below = record {
+  first = grind (arith, nat_tests, same r.x0, same s.x0);
+  last = grind (arith, nat_tests, same r.x0, same (r.x1 - 1), same (s.x1 - 1));
+  top = grind (arith, nat_tests, same r.x0);
+  bottom = grind (arith, nat_tests, same r.x0);
+}

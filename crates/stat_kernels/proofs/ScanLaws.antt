@@ -1,256 +1,196 @@
--- Rows of an integral image that follow from the row above them, whatever that holds.
-use Rattle.std.proofs.Common.{false, true, ◌%◌, ◌≡◌, inl, inr, ℕ, ℤ, pos, zero, suc, ◌+◌, ◌-◌, ◌*◌, ◌<◌, ◌≤◌, List, ◌++◌, length, map, take, drop, get_or, replicate, Option, Some, None, ap, ◌∙◌, sym, refl, arith, unwrap_or, option_map, Bool, if◌then◌else◌, nat_le, max, ◌==◌, option_copied, unsigned_abs, drop_at, get_or-drop, get_or-take, Bor}
-use Rattle.std.specs.Prelude.{◌⊎◌}
-use Rattle.stat_kernels.proofs.Common.{ints, cases_Bool, sum, sum_by, range_with_len, cases_lt, nat_tests, drop-map, get_or-map, get_or-map-range_with_len, get_or-replicate, length-map, length-range, map-append, map-replicate, Rectangle, ImageValue, pixel_at, band, run, zero_outside, samples_in, sum_to, sum_by-append, band-more, get_or-run, run-same, Part, IsValidPart, sum_below, sums_below, row_pixels}
-use Rattle.std.specs.List.{flat_map}
+-- Integral images: each row adds its own samples to the row above it.
+use Rattle.std.proofs.Common.{true, false, ◌⊎◌, ◌≡◌, inl, inr, ℕ, ℤ, pos, zero, suc, ◌+◌, ◌-◌, ◌*◌, ◌%◌, ◌<◌, ◌≤◌, List, map, get_or, Option, Some, None, ap, ◌∙◌, sym, refl, arith, subst, add-zero, add-one, if◌then◌else◌, nat_le, max, unsigned_abs}
+use Rattle.std.proofs.Math.ListN.{get_or-map}
+use Rattle.stat_kernels.proofs.Common.{ints, cases_Bool, cases_lt, nat_tests, sum_by, sum_by-append, flat_map, range_with_len, Rectangle, ImageValue, pixel_at, band, run, zero_outside, row_pixels, samples_in, sum_to, get_or-run, run-same, Band, IsRowAbove}
 use Rattle.vx_base.specs.declared.format.Format.TheVariants.{U32}
-use Rattle.vx_base.specs.Rectangle.{has_pixel}
+use Rattle.vx_base.specs.Rectangle.{has_pixel, meet_of, whole_rectangle}
 use Rattle.vx_base.specs.Sample.{IsSample}
-use Rattle.vx_base.proofs.TableLaws.{length-band, run-constant, row_across, within_elsewhere, within_inside}
-use Rattle.stat_kernels.specs.Part.{part_has_row}
-use Rattle.stat_kernels.specs.Sums.{row_sums, sum_between, sum_on}
-use Rattle.stat_kernels.proofs.NextRowLaws.{IsInside, inside_parts, last_or}
-use Rattle.stat_kernels.proofs.PlaceLaws.{samples_more}
-use Rattle.stat_kernels.proofs.SumLaws.{map-zeros, row_sum, run_of_sums, sum_at}
+use Rattle.vx_base.proofs.ImageLaws.{get_or-table}
+use Rattle.vx_base.proofs.TableLaws.{within_elsewhere, within_inside}
+use Rattle.stat_kernels.specs.Sums.{AreRowsOf, row_sums, sum_between, sum_on}
+use Rattle.stat_kernels.proofs.PlaceLaws.{inside_parts, samples_more}
 
--- ---- sums of some rows
+-- the sum of the valid samples of row y up to column x
+abbrev pub row_total : ImageValue → ℕ → ℕ → ℕ
+row_total image x y = sum_by unsigned_abs (run image.valid.x0 (x + 1 - image.valid.x0) (λ k. pixel_at image k y))
+
+-- the values of f in column x, from row `start` on, continue from the sum `above` that row
+pub record IsScan (image : ImageValue) (x start above : ℕ) (f : ℕ → ℕ → ℤ) : Type 0 where
+  pub first : has_pixel image.valid x start ≡ true → f x start ≡ pos ((above + row_total image x start) % 4294967296)
+  pub next : (y : ℕ) → start ≤ y → has_pixel image.valid x (y + 1) ≡ true → f x (y + 1) ≡ pos ((unsigned_abs (zero_outside image.valid f x y) + row_total image x (y + 1)) % 4294967296)
+
+-- ---- the definitions are such sums
 
 module _ (image : ImageValue) (start x : ℕ) where
-  abbrev region : ℕ → Rectangle
-  region y = record { x0 = image.valid.x0; y0 = max image.valid.y0 start; x1 = x; y1 = y }
-
   -- no row is above the first
-  pub between_none : (y : ℕ) → y ≤ max image.valid.y0 start → sum_between image start x y ≡ 0
+  between_none : (y : ℕ) → y ≤ max image.valid.y0 start → sum_between image start (x + 1) y ≡ 0
   between_none y low =
       let none : y - max image.valid.y0 start ≡ 0 = omega arith in
-      ap (λ n. sum_by unsigned_abs (map (λ (p : ℕ × ℕ). pixel_at image p.0 p.1) (flat_map (row_pixels image.valid.x0 (x - image.valid.x0)) (range_with_len (max image.valid.y0 start) n)))) none
+      ap (λ n. sum_by unsigned_abs (map (λ (p : ℕ × ℕ). pixel_at image p.0 p.1) (flat_map (row_pixels image.valid.x0 (x + 1 - image.valid.x0)) (range_with_len (max image.valid.y0 start) n)))) none
 
   -- one more row
-  pub between_more : (y : ℕ) → image.valid.y0 ≤ y → start ≤ y → sum_between image start x (y + 1) ≡ sum_between image start x y + sum_by unsigned_abs (run image.valid.x0 (x - image.valid.x0) (λ k. pixel_at image k y))
+  between_more : (y : ℕ) → image.valid.y0 ≤ y → start ≤ y → sum_between image start (x + 1) (y + 1) ≡ sum_between image start (x + 1) y + row_total image x y
   between_more y valid from =
-      ap (sum_by unsigned_abs) (samples_more (region y) image y (omega arith))
-      ∙ sum_by-append unsigned_abs (samples_in (region y) image) (run image.valid.x0 (x - image.valid.x0) (λ k. pixel_at image k y))
+      let region : Rectangle = record { x0 = image.valid.x0; y0 = max image.valid.y0 start; x1 = x + 1; y1 = y } in
+      ap (sum_by unsigned_abs) (samples_more region image y (omega arith))
+      ∙ sum_by-append unsigned_abs (samples_in region image) (run image.valid.x0 (x + 1 - image.valid.x0) (λ k. pixel_at image k y))
 
--- the rows above a row, and those from it on
-pub between_split : (image : ImageValue) (start x mid n : ℕ) → image.valid.y0 ≤ mid → start ≤ mid → sum_between image start x (mid + n) ≡ sum_between image start x mid + sum_between image mid x (mid + n)
-between_split image start x mid zero valid from =
-    let here : mid + 0 ≡ mid = omega arith in
-    ap (sum_between image start x) here ∙ omega (arith, between_none image mid x (mid + 0) (omega arith))
-between_split image start x mid (suc n) valid from =
-    let here : mid + suc n ≡ mid + n + 1 = omega arith in
-    ap (sum_between image start x) here
-    ∙ omega (arith, between_more image start x (mid + n) (omega arith) (omega arith), between_split image start x mid n valid from, between_more image mid x (mid + n) (omega arith) (omega arith))
-    ∙ ap (λ y. sum_between image start x mid + sum_between image mid x y) (sym here)
+  pub sum_on_scan : (above : ℕ → ℕ) → IsScan image x start (above x) (sum_on image start above)
+  sum_on_scan above = record {
+    first = λ is.
+        let i = inside_parts image.valid x start is in
+        let counts : nat_le image.valid.y0 start ≡ true = grind (arith, nat_tests) in
+        let total : sum_between image start (x + 1) (start + 1) ≡ row_total image x start = omega (arith, between_more start (omega arith) (omega arith), between_none start (omega arith)) in
+        ap (λ b. pos (((if b then above x else 0) + sum_between image start (x + 1) (start + 1)) % 4294967296)) counts ∙ ap (λ n. pos ((above x + n) % 4294967296)) total;
+    next = λ y from is.
+        let i = inside_parts image.valid x (y + 1) is in
+        let more = between_more (y + 1) (omega arith) (omega arith) in
+        let add = λ (z : ℤ). pos ((unsigned_abs z + row_total image x (y + 1)) % 4294967296) in
+        elim (cases_lt y image.valid.y0) [
+          | inl top ↦
+              let none = between_none (y + 1) (omega arith) in
+              let no_base : nat_le image.valid.y0 start ≡ false = grind (arith, nat_tests) in
+              ap (λ b. pos (((if b then above x else 0) + sum_between image start (x + 1) (y + 1 + 1)) % 4294967296)) no_base
+              ∙ ap (λ n. pos (n % 4294967296)) (omega (arith, more, none))
+              ∙ ap add (sym (within_elsewhere image.valid (sum_on image start above) x y (inr (inl top))))
+          | inr below ↦
+              ap pos (omega (arith, more)) ∙ ap add (sym (within_inside image.valid (sum_on image start above) x y (omega arith) (omega arith) below (omega arith)))
+        ];
+  }
 
--- ---- rows from the row above them
+-- the sum above row start + k
+abbrev pub above_at : ImageValue → ℕ → ℕ → ℕ → (ℕ → ℕ → ℤ) → ℕ → ℕ
+above_at image x start above f zero = above
+above_at image x start above f (suc k) = unsigned_abs (zero_outside image.valid f x (start + k))
 
-nothing_more : (b : Bool) (n : ℕ) → (if b then 0 else 0) + n ≡ n
-nothing_more true n = omega arith
-nothing_more false n = omega arith
-
--- where nothing is above the first row, these are the integral image's
-pub sums_from_top : (image : ImageValue) (x y : ℕ) → has_pixel image.valid x y ≡ true → sum_on image 0 (λ _. 0) x y ≡ sum_to image x y
-sums_from_top image x y is =
-    let i = inside_parts image.valid x y is in
-    let top : max image.valid.y0 0 ≡ image.valid.y0 = omega arith in
-    ap (λ n. pos (n % 4294967296)) (nothing_more (nat_le image.valid.y0 0) (sum_between image 0 (x + 1) (y + 1)))
-    ∙ ap (λ n. pos (sum_by unsigned_abs (samples_in (record { x0 = image.valid.x0; y0 = n; x1 = x + 1; y1 = y + 1 }) image) % 4294967296)) top
-    ∙ sym (sum_at image x y i.left i.right i.top i.bottom)
-
--- rows follow from the last of the rows above them as from the row above all
-pub sums_go_on : (image : ImageValue) (start mid : ℕ) (above : ℕ → ℕ) (x y : ℕ) → start < mid → mid ≤ y → has_pixel image.valid x y ≡ true
-    → sum_on image mid (λ k. unsigned_abs (zero_outside image.valid (sum_on image start above) k (mid - 1))) x y ≡ sum_on image start above x y
-sums_go_on image start mid above x y from to is = elim (cases_lt image.valid.y0 mid) [
-  | inl below ↦
-      let value : zero_outside image.valid (sum_on image start above) x (mid - 1) ≡ sum_on image start above x (mid - 1) =
-      within_inside image.valid (sum_on image start above) x (mid - 1) i.left i.right (omega arith) (omega (arith, i.bottom)) in
-      let up : mid - 1 + 1 ≡ mid = omega arith in
-      let last : mid + (y + 1 - mid) ≡ y + 1 = omega arith in
-      let counts : nat_le image.valid.y0 mid ≡ true = grind (arith, nat_tests) in
-      let split = between_split image start (x + 1) mid (y + 1 - mid) (omega arith) (omega arith) in
-      let both : sum_between image start (x + 1) (y + 1) ≡ sum_between image start (x + 1) mid + sum_between image mid (x + 1) (y + 1) =
-      ap (sum_between image start (x + 1)) (sym last) ∙ split ∙ ap (λ n. sum_between image start (x + 1) mid + sum_between image mid (x + 1) n) last in
-      ap (λ b. pos (((if b then unsigned_abs (zero_outside image.valid (sum_on image start above) x (mid - 1)) else 0) + sum_between image mid (x + 1) (y + 1)) % 4294967296)) counts
-      ∙ ap (λ z. pos ((unsigned_abs z + sum_between image mid (x + 1) (y + 1)) % 4294967296)) value
-      ∙ ap (λ n. pos (((base + sum_between image start (x + 1) n) % 4294967296 + sum_between image mid (x + 1) (y + 1)) % 4294967296)) up
-      ∙ ap pos (omega (arith, both))
-  | inr above_it ↦
-      let nothing : zero_outside image.valid (sum_on image start above) x (mid - 1) ≡ pos 0 = within_elsewhere image.valid (sum_on image start above) x (mid - 1) (inr (inl (omega arith))) in
-      let no_base : nat_le image.valid.y0 start ≡ false = grind (arith, nat_tests) in
-      let top : max image.valid.y0 mid ≡ max image.valid.y0 start = omega arith in
-      ap (λ z. pos (((if nat_le image.valid.y0 mid then unsigned_abs z else 0) + sum_between image mid (x + 1) (y + 1)) % 4294967296)) nothing
-      ∙ ap (λ n. pos (n % 4294967296)) (nothing_more (nat_le image.valid.y0 mid) (sum_between image mid (x + 1) (y + 1)))
-      ∙ ap (λ n. pos (sum_by unsigned_abs (samples_in (record { x0 = image.valid.x0; y0 = n; x1 = x + 1; y1 = y + 1 }) image) % 4294967296)) top
-      ∙ ap (λ n. pos (n % 4294967296)) (sym (nothing_more false (sum_between image start (x + 1) (y + 1))))
-      ∙ ap (λ b. pos (((if b then above x else 0) + sum_between image start (x + 1) (y + 1)) % 4294967296)) (sym no_base)
-]
-  where
-    i : IsInside image.valid x y
-    i = inside_parts image.valid x y is
-
-    base : ℕ
-    base = if nat_le image.valid.y0 start then above x else 0
-
--- ---- one row
-
--- the samples in the valid columns and outside them
-pub row_is : (r : Rectangle) (f : ℕ → ℕ → ℤ) (width x count y : ℕ) (left sums right : List ℕ) → x ≡ r.x0 → count ≡ r.x1 - r.x0 → r.x0 ≤ r.x1 → x + count ≤ width → r.y0 ≤ y → y < r.y1
-    → left ≡ replicate x 0 → right ≡ replicate (width - (x + count)) 0 → length sums ≡ count → ((k : ℕ) → k < count → pos (get_or sums k 0) ≡ f (r.x0 + k) y)
-    → map pos (left ++ (sums ++ right)) ≡ run 0 width (λ k. zero_outside r f k y)
-row_is r f width x count y left sums right first wide columns room top bottom at_left at_right long are =
-    let sums_are = run_of_sums sums r.x0 (r.x1 - r.x0) (λ k. f k y) (long ∙ wide) (λ k h. are k (omega arith)) in
-    let elsewhere : width - (x + count) ≡ width - r.x1 = omega arith in
-    cc (map-append pos left (sums ++ right), map-append pos sums right, at_left, at_right, map-zeros x, first, sums_are, map-zeros (width - (x + count)), elsewhere)
-    ∙ sym (row_across r f width r.x0 r.x1 y refl refl columns (omega arith) top bottom)
-
--- a row that is lent, at the valid columns
-lent_at : (above : Option (Bor (List ℕ))) (x n k : ℕ) → k < n → get_or (unwrap_or (option_map (λ sums. take n (drop x sums)) (option_copied above)) (replicate n 0)) k 0 ≡ row_sums (option_copied above) (x + k)
-lent_at None x n k below = get_or-replicate n k 0 0 below
-lent_at (Some r) x n k below = get_or-take n (drop x r.now) k 0 below ∙ get_or-drop x r.now k 0
-
-module _ (image : ImageValue) (part : Part) (is : IsValidPart image part) (y : ℕ) where
-  -- sums of a row below those above it
-  pub sums_are : (above : Option (Bor (List ℕ))) (row sums : List ℕ) → part.top ≤ y → map pos row ≡ run part.x part.count (λ k. pixel_at image k y) → length row ≡ part.count
-      → sums ≡ sums_below (unwrap_or (option_map (λ sums. take (length row) (drop part.x sums)) (option_copied above)) (replicate (length row) 0)) row
-      → (k : ℕ) → k < part.count → pos (get_or sums k 0) ≡ sum_on image y (row_sums (option_copied above)) (image.valid.x0 + k) y
-  sums_are above row sums from same wide is_below k h =
-      let old : List ℕ = unwrap_or (option_map (λ sums. take (length row) (drop part.x sums)) (option_copied above)) (replicate (length row) 0) in
-      let inside_row : k < length row = omega arith in
-      let here = get_or-map-range_with_len (sum_below old row) 0 (length row) k k 0 inside_row (omega arith) in
-      let wide_here : k + 1 ≡ image.valid.x0 + k + 1 - image.valid.x0 = omega arith in
-      let row_all : sum (take (k + 1) row) ≡ sum_by unsigned_abs (run image.valid.x0 (image.valid.x0 + k + 1 - image.valid.x0) (λ k. pixel_at image k y)) =
-      row_sum row part.x part.count (k + 1) (λ k. pixel_at image k y) same (omega arith) ∙ cc (is.x, wide_here) in
-      let counts : nat_le image.valid.y0 y ≡ true = grind (arith, nat_tests, is.top) in
-      let above_is : get_or old k 0 ≡ row_sums (option_copied above) (image.valid.x0 + k) = lent_at above part.x (length row) k inside_row ∙ ap (λ n. row_sums (option_copied above) (n + k)) is.x in
-      let one_row : sum_between image y (image.valid.x0 + k + 1) (y + 1) ≡ sum_by unsigned_abs (run image.valid.x0 (image.valid.x0 + k + 1 - image.valid.x0) (λ k. pixel_at image k y)) =
-      omega (arith, between_more image y (image.valid.x0 + k + 1) y (omega (arith, is.top)) (omega arith), between_none image y (image.valid.x0 + k + 1) y (omega arith)) in
-      ap (λ l. pos (get_or l k 0)) is_below ∙ ap pos here
-      ∙ ap (λ n. pos ((get_or old k 0 + n) % 4294967296)) (row_all ∙ sym one_row)
-      ∙ ap (λ n. pos ((n + sum_between image y (image.valid.x0 + k + 1) (y + 1)) % 4294967296)) above_is
-      ∙ ap (λ b. pos (((if b then row_sums (option_copied above) (image.valid.x0 + k) else 0) + sum_between image y (image.valid.x0 + k + 1) (y + 1)) % 4294967296)) (sym counts)
-
-  -- a row without a valid place
-  pub no_row : (f : ℕ → ℕ → ℤ) (out : List ℕ) → part_has_row part y ≡ false → out ≡ replicate image.width 0 → map pos out ≡ run 0 image.width (λ x. zero_outside image.valid f x y)
-  no_row f out none zeros =
-      ap (map pos) zeros ∙ map-replicate pos image.width 0
-      ∙ sym (run-same (λ x. zero_outside image.valid f x y) (λ _. pos 0) 0 image.width (λ x a b. ap (λ (t : Bool). if t then f x y else pos 0) (outside x)) ∙ run-constant (pos 0) 0 image.width)
+module _ (image : ImageValue) (x start above : ℕ) (f : ℕ → ℕ → ℤ) (scan : IsScan image x start above f) where
+  -- so is each function with the same values at the valid pixels
+  scan_like : (g : ℕ → ℕ → ℤ) → ((y : ℕ) → has_pixel image.valid x y ≡ true → f x y ≡ g x y) → IsScan image x start above g
+  scan_like g same = record {
+    first = λ is. sym (same start is) ∙ scan.first is;
+    next = λ y from is. sym (same (y + 1) is) ∙ scan.next y from is
+        ∙ ap (λ z. pos ((unsigned_abs z + row_total image x (y + 1)) % 4294967296)) (at_pixel y (cases_Bool (has_pixel image.valid x y)));
+  }
     where
-      outside : (x : ℕ) → has_pixel image.valid x y ≡ false
-      outside x = grind (arith, nat_tests, is.count, is.top, is.bottom)
+      at_pixel : (y : ℕ) → (has_pixel image.valid x y ≡ true) ⊎ (has_pixel image.valid x y ≡ false) → zero_outside image.valid f x y ≡ zero_outside image.valid g x y
+      at_pixel y (inl is) = rw is (same y is)
+      at_pixel y (inr not) = rw not refl
 
--- ---- rows one after the other
+  -- each row begins one
+  later : (y : ℕ) → start ≤ y → IsScan image x (y + 1) (unsigned_abs (zero_outside image.valid f x y)) f
+  later y from = record { first = scan.next y from; next = λ z more. scan.next z (omega arith) }
 
--- the samples of a row in which the sums follow from the row above it
-row_follows : (image : ImageValue) (start y : ℕ) (above row : ℕ → ℕ) → ((x : ℕ) → x < image.width → has_pixel image.valid x y ≡ true → sum_on image y row x y ≡ sum_on image start above x y)
-    → run 0 image.width (λ x. zero_outside image.valid (sum_on image y row) x y) ≡ run 0 image.width (λ x. zero_outside image.valid (sum_on image start above) x y)
-row_follows image start y above row same =
-    run-same (λ x. zero_outside image.valid (sum_on image y row) x y) (λ x. zero_outside image.valid (sum_on image start above) x y) 0 image.width (λ x a b. one x (omega arith) (cases_Bool (has_pixel image.valid x y)))
-  where
-    one : (x : ℕ) → x < image.width → (has_pixel image.valid x y ≡ true) ⊎ (has_pixel image.valid x y ≡ false) → zero_outside image.valid (sum_on image y row) x y ≡ zero_outside image.valid (sum_on image start above) x y
-    one x across (inl e) = ap (λ b. if b then sum_on image y row x y else pos 0) e ∙ same x across e ∙ ap (λ b. if b then sum_on image start above x y else pos 0) (sym e)
-    one x across (inr e) = ap (λ b. if b then sum_on image y row x y else pos 0) e ∙ ap (λ b. if b then sum_on image start above x y else pos 0) (sym e)
+  pub scan_at : (k : ℕ) → IsScan image x (start + k) (above_at image x start above f k) f
+  scan_at zero = subst (λ y. IsScan image x y above f) (sym (add-zero start)) scan
+  scan_at (suc k) = subst (λ y. IsScan image x y (above_at image x start above f (suc k)) f) {x = start + k + 1} {y = start + suc k} (omega arith) (later (start + k) (omega arith))
 
--- the next row, from the last of those before, or from the row above all
-pub next_follows : (image : ImageValue) (start k width : ℕ) (before : List ℕ) (above : Option (List ℕ)) → 1 ≤ width → width ≡ image.width
-    → map pos before ≡ band width start k (zero_outside image.valid (sum_on image start (row_sums above))) → length before ≡ k * width
-    → run 0 image.width (λ x. zero_outside image.valid (sum_on image (start + k) (row_sums (last_or width before above))) x (start + k))
-    ≡ run 0 image.width (λ x. zero_outside image.valid (sum_on image start (row_sums above)) x (start + k))
-next_follows image start zero width before above some wide are long =
-    let none : length before ≡ 0 = omega (arith, long) in
-    let last : last_or width before above ≡ above = ap (λ m. if m == 0 then above else Some (drop (m - width) before)) none in
-    let here : start + 0 ≡ start = omega arith in
-    ap (λ (o : Option (List ℕ)). run 0 image.width (λ x. zero_outside image.valid (sum_on image (start + 0) (row_sums o)) x (start + 0))) last
-    ∙ ap (λ n. run 0 image.width (λ x. zero_outside image.valid (sum_on image n (row_sums above)) x (start + 0))) here
-next_follows image start (suc m) width before above some wide are long =
-    row_follows image start (start + suc m) (row_sums above) (row_sums (last_or width before above)) (λ x across is.
-    let up : start + suc m - 1 ≡ start + m = omega arith in
-    let value : row_sums (last_or width before above) x ≡ unsigned_abs (f x (start + suc m - 1)) = ap (λ o. row_sums o x) last ∙ ap unsigned_abs (sample x across) ∙ ap (λ n. unsigned_abs (f x n)) (sym up) in
-    ap (λ n. pos (((if nat_le image.valid.y0 (start + suc m) then n else 0) + sum_between image (start + suc m) (x + 1) (start + suc m + 1)) % 4294967296)) value
-    ∙ sums_go_on image start (start + suc m) (row_sums above) x (start + suc m) (omega arith) (omega arith) is)
-  where
-    f : ℕ → ℕ → ℤ
-    f = zero_outside image.valid (sum_on image start (row_sums above))
+-- the value of the integral image above row `line`
+abbrev pub value_above : ImageValue → ℕ → ℕ → ℤ
+value_above image x zero = pos 0
+value_above image x (suc y) = zero_outside image.valid (sum_to image) x y
 
-    more : length before ≡ m * width + width
-    more = omega (arith, long)
+top_scan : (image : ImageValue) (x : ℕ) → IsScan image x 0 0 (sum_to image)
+top_scan image x = scan_like image x 0 0 (sum_on image 0 (λ _. 0)) (sum_on_scan image 0 x (λ _. 0)) (sum_to image) (λ y is.
+    let i = inside_parts image.valid x y is in
+    let none : (if nat_le image.valid.y0 0 then 0 else zero) ≡ zero = grind arith in
+    let top : max image.valid.y0 0 ≡ image.valid.y0 = omega arith in
+    let region : meet_of image.valid (whole_rectangle (x + 1) (y + 1)) ≡ record { x0 = image.valid.x0; y0 = image.valid.y0; x1 = x + 1; y1 = y + 1 } = grind (arith, nat_tests) in
+    ap (λ n. pos (n % 4294967296)) (omega (arith, none))
+    ∙ ap (λ n. pos (sum_by unsigned_abs (samples_in (record { x0 = image.valid.x0; y0 = n; x1 = x + 1; y1 = y + 1 }) image) % 4294967296)) top
+    ∙ ap (λ r. pos (sum_by unsigned_abs (samples_in r image) % 4294967296)) (sym region))
 
-    last : last_or width before above ≡ Some (drop (length before - width) before)
-    last =
-        let not_none : (length before == 0) ≡ false = grind (arith, nat_tests, more, some) in
-        ap (λ (t : Bool). if t then above else Some (drop (length before - width) before)) not_none
+pub sum_to_scan : (image : ImageValue) (x line : ℕ) → IsScan image x line (unsigned_abs (value_above image x line)) (sum_to image)
+sum_to_scan image x zero = top_scan image x
+sum_to_scan image x (suc y) = subst (λ n. IsScan image x n (unsigned_abs (zero_outside image.valid (sum_to image) x y)) (sum_to image)) (add-one y) (later image x 0 0 (sum_to image) (top_scan image x) y (omega arith))
 
-    is_last : map pos (drop (length before - width) before) ≡ run 0 width (λ x. f x (start + m))
-    is_last =
-        let cut : length before - width ≡ m * width = omega (arith, more) in
-        let next : suc m ≡ m + 1 = omega arith in
-        let rest = drop_at (band width start m f) (run 0 width (λ x. f x (start + m))) (m * width) (length-band width start m f) in
-        cc (cut, drop-map pos (m * width) before, are, next, band-more width start m f, rest)
+-- ---- equal rows have equal sums
 
-    sample : (x : ℕ) → x < image.width → pos (get_or (drop (length before - width) before) x 0) ≡ f x (start + m)
-    sample x across =
-        let there : x < length (drop (length before - width) before) = omega (arith, ap length is_last, length-map (drop (length before - width) before) pos, length-map (range_with_len 0 width) (λ k. f k (start + m)), length-range 0 width, wide) in
-        sym (get_or-map pos (drop (length before - width) before) x 0 (pos 0) there)
-        ∙ ap (λ l. get_or l x (pos 0)) is_last
-        ∙ get_or-run (λ k. f k (start + m)) 0 width x (pos 0) (omega (arith, wide))
-        ∙ ap (λ k. f k (start + m)) (let here : 0 + x ≡ x = omega arith in here)
+-- the rows agree up to column x
+pub record RowsAgree (a b : ImageValue) (x y line : ℕ) : Type 0 where
+  pub pixel : has_pixel a.valid x y ≡ has_pixel b.valid x line
+  pub total : has_pixel b.valid x line ≡ true → row_total a x y ≡ row_total b x line
 
--- ---- rows of the integral image
+rows_agree : (a b : ImageValue) (x y line : ℕ) → ((k : ℕ) → has_pixel a.valid k y ≡ has_pixel b.valid k line) → ((k : ℕ) → k ≤ x → pixel_at a k y ≡ pixel_at b k line) → RowsAgree a b x y line
+rows_agree a b x y line valid same = record {
+  pixel = valid x;
+  total = λ is.
+      let first : a.valid.x0 ≡ b.valid.x0 = grind (arith, nat_tests, is, valid x, valid a.valid.x0, valid b.valid.x0) in
+      ap (λ n. sum_by unsigned_abs (run n (x + 1 - n) (λ k. pixel_at a k y))) first
+      ∙ ap (sum_by unsigned_abs) (run-same (λ k. pixel_at a k y) (λ k. pixel_at b k line) b.valid.x0 (x + 1 - b.valid.x0) (λ k from to. same k (omega arith)));
+}
 
--- sums of rows that two images share
-between_same : (a b : ImageValue) (start x n : ℕ) → a.valid ≡ b.valid → ((k y : ℕ) → k < x → start ≤ y → y < max a.valid.y0 start + n → pixel_at a k y ≡ pixel_at b k y)
-    → sum_between a start x (max a.valid.y0 start + n) ≡ sum_between b start x (max a.valid.y0 start + n)
-between_same a b start x zero valid same =
-    let top : a.valid.y0 ≡ b.valid.y0 = ap (λ (r : Rectangle). r.y0) valid in
-    between_none a start x (max a.valid.y0 start + 0) (omega arith) ∙ sym (between_none b start x (max a.valid.y0 start + 0) (omega arith))
-between_same a b start x (suc n) valid same =
-    let y = max a.valid.y0 start + n in
-    let top : a.valid.y0 ≡ b.valid.y0 = ap (λ (r : Rectangle). r.y0) valid in
-    let next : max a.valid.y0 start + suc n ≡ max a.valid.y0 start + n + 1 = omega arith in
-    let row : run a.valid.x0 (x - a.valid.x0) (λ k. pixel_at a k y) ≡ run b.valid.x0 (x - b.valid.x0) (λ k. pixel_at b k y) =
-    run-same (λ k. pixel_at a k y) (λ k. pixel_at b k y) a.valid.x0 (x - a.valid.x0) (λ k from to. same k y (omega arith) (omega arith) (omega arith))
-    ∙ ap (λ (r : Rectangle). run r.x0 (x - r.x0) (λ k. pixel_at b k y)) valid in
-    ap (sum_between a start x) next
-    ∙ omega (
-      arith,
-      between_more a start x y (omega arith) (omega arith),
-      ap (sum_by unsigned_abs) row,
-      between_same a b start x n valid (λ k j left from to. same k j left from (omega arith)),
-      between_more b start x y (omega arith) (omega arith),
-    )
-    ∙ ap (sum_between b start x) (sym next)
+module _ (a b : ImageValue) (x : ℕ) (f g : ℕ → ℕ → ℤ) where
+  pub first_same : (y line above : ℕ) → IsScan a x y above f → IsScan b x line above g → RowsAgree a b x y line → zero_outside a.valid f x y ≡ zero_outside b.valid g x line
+  first_same y line above s t agree = elim (cases_Bool (has_pixel b.valid x line)) [
+    | inl is ↦ rw (agree.pixel, is) (s.first (agree.pixel ∙ is) ∙ ap (λ n. pos ((above + n) % 4294967296)) (agree.total is) ∙ sym (t.first is))
+    | inr not ↦ rw (agree.pixel, not) refl
+  ]
 
+  pub scan_same : (start line above count : ℕ) (s : IsScan a x start above f) (t : IsScan b x line above g) → ((k : ℕ) → k < count → RowsAgree a b x (start + k) (line + k)) → (k : ℕ) → k < count → zero_outside a.valid f x (start + k) ≡ zero_outside b.valid g x (line + k)
+  scan_same start line above count s t agree zero below = first_same (start + 0) (line + 0) above (scan_at a x start above f s 0) (scan_at b x line above g t 0) (agree 0 below)
+  scan_same start line above count s t agree (suc k) below =
+      let same = scan_same start line above count s t agree k (omega arith) in
+      first_same (start + suc k) (line + suc k) (unsigned_abs (zero_outside b.valid g x (line + k)))
+      (subst (λ z. IsScan a x (start + suc k) (unsigned_abs z) f) same (scan_at a x start above f s (suc k))) (scan_at b x line above g t (suc k)) (agree (suc k) below)
+
+-- where the row above is that of the integral image, the rows below it are too
 module _ (a b : ImageValue) (start x y : ℕ) (above : ℕ → ℕ) (valid : a.valid ≡ b.valid) (from : start ≤ y) (is : has_pixel b.valid x y ≡ true) where
-  same_rows : ((k j : ℕ) → k ≤ x → start ≤ j → j ≤ y → pixel_at a k j ≡ pixel_at b k j) → sum_on a start above x y ≡ sum_on b start above x y
-  same_rows same =
-      let i = inside_parts b.valid x y is in
-      let top : a.valid.y0 ≡ b.valid.y0 = ap (λ (r : Rectangle). r.y0) valid in
-      let last : max a.valid.y0 start + (y + 1 - max a.valid.y0 start) ≡ y + 1 = omega (arith, i.top) in
-      let sums = between_same a b start (x + 1) (y + 1 - max a.valid.y0 start) valid (λ k j left low high. same k j (omega arith) low (omega arith)) in
-      ap (λ n. pos (((if nat_le a.valid.y0 start then above x else 0) + n) % 4294967296)) (ap (sum_between a start (x + 1)) (sym last) ∙ sums ∙ ap (sum_between b start (x + 1)) last)
-      ∙ ap (λ n. pos (((if nat_le n start then above x else 0) + sum_between b start (x + 1) (y + 1)) % 4294967296)) top
-
-  -- where the row above is that of the integral image, the rows below it are too
   pub scan_agrees : ((k j : ℕ) → k ≤ x → start ≤ j → j ≤ y → pixel_at a k j ≡ pixel_at b k j) → (start ≡ 0 → above x ≡ 0) → (1 ≤ start → above x ≡ unsigned_abs (zero_outside b.valid (sum_to b) x (start - 1)))
       → sum_on a start above x y ≡ sum_to b x y
-  scan_agrees same none some = same_rows same ∙ by_start (cases_lt 0 start)
+  scan_agrees same none some =
+      let last : start + (y - start) ≡ y = omega arith in
+      let value = scan_same a b x (sum_on a start above) (sum_to b) start start (above x) (y - start + 1) (sum_on_scan a start x above)
+      (subst (λ n. IsScan b x start n (sum_to b)) (sym (base start none some)) (sum_to_scan b x start))
+      (λ k below. rows_agree a b x (start + k) (start + k) (λ j. ap (λ r. has_pixel r j (start + k)) valid) (λ j left. same j (start + k) left (omega arith) (omega arith)))
+      (y - start) (omega arith) in
+      let both : zero_outside a.valid (sum_on a start above) x y ≡ zero_outside b.valid (sum_to b) x y = rw last at value in
+      ap (λ b. if b then sum_on a start above x y else pos 0) (sym (ap (λ r. has_pixel r x y) valid ∙ is)) ∙ both ∙ ap (λ t. if t then sum_to b x y else pos 0) is
     where
-      from_row : (n : ℕ) → above x ≡ n → sum_on b start above x y ≡ sum_on b start (λ _. n) x y
-      from_row n is = ap (λ m. pos (((if nat_le b.valid.y0 start then m else 0) + sum_between b start (x + 1) (y + 1)) % 4294967296)) is
+      base : (n : ℕ) → (n ≡ 0 → above x ≡ 0) → (1 ≤ n → above x ≡ unsigned_abs (zero_outside b.valid (sum_to b) x (n - 1))) → above x ≡ unsigned_abs (value_above b x n)
+      base zero none some = none refl
+      base (suc n) none some = let back : suc n - 1 ≡ n = omega arith in some (omega arith) ∙ ap (λ m. unsigned_abs (zero_outside b.valid (sum_to b) x m)) back
 
-      at_top : (k j : ℕ) → zero_outside b.valid (sum_to b) k j ≡ zero_outside b.valid (sum_on b 0 (λ _. 0)) k j
-      at_top k j = elim (cases_Bool (has_pixel b.valid k j)) [
-        | inl e ↦ ap (λ t. if t then sum_to b k j else pos 0) e ∙ sym (sums_from_top b k j e) ∙ ap (λ t. if t then sum_on b 0 (λ _. 0) k j else pos 0) (sym e)
-        | inr e ↦ ap (λ t. if t then sum_to b k j else pos 0) e ∙ ap (λ t. if t then sum_on b 0 (λ _. 0) k j else pos 0) (sym e)
-      ]
+-- ---- bands
 
-      by_start : (0 < start) ⊎ (start ≤ 0) → sum_on b start above x y ≡ sum_to b x y
-      by_start (inl later) =
-          from_row _ (some later ∙ ap unsigned_abs (at_top x (start - 1)))
-          ∙ sums_go_on b 0 start (λ _. 0) x y later from is
-          ∙ sums_from_top b x y is
-      by_start (inr first) =
-          let zero_start : start ≡ 0 = omega arith in
-          from_row 0 (none zero_start) ∙ ap (λ n. sum_on b n (λ _. 0) x y) zero_start ∙ sums_from_top b x y is
+-- bands at different heights
+band_moved : (width start line count : ℕ) (f g : ℕ → ℕ → ℤ) → ((x k : ℕ) → x < width → k < count → f x (start + k) ≡ g x (line + k)) → band width start count f ≡ band width line count g
+band_moved width start line zero f g same = refl
+band_moved width start line (suc count) f g same =
+    let here : start + 0 ≡ start = omega arith in
+    let there : line + 0 ≡ line = omega arith in
+    cc (
+      run-same (λ x. f x start) (λ x. g x line) 0 width (λ x a b. let value = same x 0 (omega arith) (omega arith) in rw (here, there) at value),
+      band_moved width (start + 1) (line + 1) count f g (λ x k a b.
+          let e : start + 1 + k ≡ start + suc k = omega arith in
+          let d : line + 1 + k ≡ line + suc k = omega arith in
+          ap (f x) e ∙ same x (suc k) a (omega arith) ∙ ap (g x) (sym d)),
+    )
+
+-- a value of a band
+pub band_get : (width start count x k : ℕ) (f : ℕ → ℕ → ℤ) → x < width → k < count → get_or (band width start count f) (k * width + x) (pos 0) ≡ f x (start + k)
+band_get width start count x k f across below =
+    ap (λ l. get_or l (k * width + x) (pos 0)) (band_moved width start 0 count f (λ x k. f x (start + k)) (λ x k a b. let e : 0 + k ≡ k = omega arith in ap (λ n. f x (start + n)) (sym e)))
+    ∙ get_or-table width count x k (λ x k. f x (start + k)) across below
+
+-- the sums of the row above row `line`
+above_value : (whole : ImageValue) (line : ℕ) (above : Option (List ℕ)) (x : ℕ) → x < whole.width → IsRowAbove whole line above → row_sums above x ≡ unsigned_abs (value_above whole x line)
+above_value whole line None x below is = ap (λ n. unsigned_abs (value_above whole x n)) (sym is)
+above_value whole zero (Some row) x below is = absurd (omega (arith, is.0))
+above_value whole (suc line) (Some row) x below is =
+    let f = zero_outside whole.valid (sum_to whole) in
+    let back : suc line - 1 ≡ line = omega arith in
+    let here : 0 + x ≡ x = omega arith in
+    ap unsigned_abs (sym (get_or-map pos row x 0) ∙ ap (λ l. get_or l x (pos 0)) is.1 ∙ get_or-run (λ k. f k (suc line - 1)) 0 whole.width x (pos 0) below ∙ ap (λ k. f k (suc line - 1)) here ∙ ap (f x) back)
+
+-- a band that continues from the row above it is one of the integral image
+pub band_scans : (image whole : ImageValue) (rows : Band) (line : ℕ) (above : Option (List ℕ)) → AreRowsOf image rows whole line → IsRowAbove whole line above
+    → band image.width rows.start rows.count (zero_outside image.valid (sum_on image rows.start (row_sums above))) ≡ band image.width line rows.count (zero_outside whole.valid (sum_to whole))
+band_scans image whole rows line above are is_above =
+    band_moved image.width rows.start line rows.count (zero_outside image.valid (sum_on image rows.start (row_sums above))) (zero_outside whole.valid (sum_to whole)) (λ x k across below.
+    let wide : x < whole.width = omega (arith, (are.each k below).width) in
+    scan_same image whole x (sum_on image rows.start (row_sums above)) (sum_to whole) rows.start line (row_sums above x) rows.count (sum_on_scan image rows.start x (row_sums above))
+    (subst (λ n. IsScan whole x line n (sum_to whole)) (sym (above_value whole line above x wide is_above)) (sum_to_scan whole x line))
+    (λ j inside. rows_agree image whole x (rows.start + j) (line + j) (are.each j inside).valid (λ i left. (are.each j inside).samples i (omega arith))) k below)
 
 -- these sums are samples
 pub scan_sample : (image : ImageValue) (start : ℕ) (above : ℕ → ℕ) (x y : ℕ) → IsSample U32 (sum_on image start above x y)

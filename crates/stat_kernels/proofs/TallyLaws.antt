@@ -1,34 +1,16 @@
 -- Counts by value, and those in bins.
-use Rattle.std.proofs.Common.{◌≡◌, ℕ, ℤ, ◌+◌, ◌<◌, ◌≤◌, List, [], ◌∷◌, ◌++◌, length, map, get_or, set, replicate, cond, Bool, ◌&&◌, refl, ap, ◌∙◌, sym, arith, if◌then◌else◌, Some, None, unsigned_abs, ◌==◌, nat_lt, length-set, get_or-set_same, get_or-set_other}
-use Rattle.stat_kernels.proofs.Common.{range_with_len, All, cases_eq, cases_lt, nat_tests, get_or_past, length-replicate, get_or-replicate, All-head, All-tail, sum_by-cons, sum_by-append, count_by-le-length, length-map-range_with_len, get_or-map-range_with_len, fill_by_all, BinsValue, bin_of, is_bin, tallies, count_at, count_in_all}
+use Rattle.std.proofs.Common.{◌≡◌, ℕ, ℤ, ◌+◌, ◌<◌, ◌≤◌, List, [], ◌∷◌, ◌++◌, length, get_or, set, replicate, cond, Bool, ◌&&◌, refl, ap, ◌∙◌, sym, arith, if◌then◌else◌, Some, None, unsigned_abs, ◌==◌, nat_lt, length-set, get_or-set_same, get_or-set_other}
+use Rattle.stat_kernels.proofs.Common.{All, cases_eq, cases_lt, nat_tests, get_or_past, length-replicate, get_or-replicate, All-head, All-tail, sum_by-cons, sum_by-append, count_by-le-length, length-map-range_with_len, get_or-map-range_with_len, fill_by_all, BinsValue, bin_of, bin_sums, is_bin, tallies, count_at, count_in_all}
 use Rattle.std.specs.List.{count_by}
 
 -- of these samples how many are below v and fall into bin k
 abbrev count_below : BinsValue → ℕ → List ℤ → ℕ → ℕ
 count_below b v zs k = count_by (λ z. nat_lt (unsigned_abs z) v && is_bin k (bin_of b (unsigned_abs z))) zs
 
--- of the samples below v how many fall into each bin
-pub tallies_below : BinsValue → ℕ → List ℤ → List ℕ
-tallies_below b v zs = map (count_below b v zs) (range_with_len 0 b.bins)
-
-tally_at : (b : BinsValue) (v : ℕ) (zs : List ℤ) (k d : ℕ) → k < b.bins → get_or (tallies_below b v zs) k d ≡ count_below b v zs k
-unfolding tallies_below
-tally_at b v zs k d below = get_or-map-range_with_len (count_below b v zs) 0 b.bins k k d below (omega arith)
-
-pub length-tallies : (b : BinsValue) (v : ℕ) (zs : List ℤ) → length (tallies_below b v zs) ≡ b.bins
-unfolding tallies_below
-length-tallies b v zs = length-map-range_with_len (count_below b v zs) 0 b.bins
-
 -- nothing is counted yet
 none_below : (b : BinsValue) (zs : List ℤ) (k : ℕ) → count_below b 0 zs k ≡ 0
 none_below b [] k = refl
 none_below b (z ∷ zs) k = grind (arith, nat_tests, sum_by-cons, none_below b zs k)
-
-pub tallies_none : (b : BinsValue) (zs : List ℤ) (n : ℕ) → n ≡ b.bins → replicate n 0 ≡ tallies_below b 0 zs
-unfolding tallies_below
-tallies_none b zs n size =
-    fill_by_all (count_below b 0 zs) (replicate n 0) b.bins 0 (length-replicate n 0 ∙ size)
-    (λ k below. get_or-replicate n k 0 0 (omega (arith, below)) ∙ sym (none_below b zs k))
 
 -- what one sample adds
 item_next : (q : ℕ → Bool) (v x : ℕ) → cond (nat_lt x (v + 1) && q x) 1 0 ≡ cond (nat_lt x v && q x) 1 0 + (if q v then cond (x == v) 1 0 else 0)
@@ -49,31 +31,34 @@ count_next b v k (z ∷ zs) =
     let counts = ap (λ n. let m : ℕ = if q then n else 0 in m) (sum_by-cons (λ s. cond (unsigned_abs s == v) 1 0) z zs) in
     omega (arith, here, count_below-cons b (v + 1) k z zs, count_below-cons b v k z zs, counts, if_sum q (cond (unsigned_abs z == v) 1 0) (count_at v zs), count_next b v k zs)
 
-tallies_next : (b : BinsValue) (v : ℕ) (zs : List ℤ) (next : List ℕ) → length next ≡ b.bins
-    → ((k : ℕ) → k < b.bins → get_or next k 0 ≡ get_or (tallies_below b v zs) k 0 + (if is_bin k (bin_of b v) then count_at v zs else 0)) → next ≡ tallies_below b (v + 1) zs
-unfolding tallies_below
-tallies_next b v zs next size each =
-    fill_by_all (count_below b (v + 1) zs) next b.bins 0 size
-    (λ k below. omega (arith, each k below, tally_at b v zs k 0 below, count_next b v k zs))
+-- to the counts `before`, the samples below v are added
+pub record AreCounted (b : BinsValue) (zs : List ℤ) (before : List ℕ) (v : ℕ) (now : List ℕ) : Type 0 where
+  pub size : length now ≡ length before
+  pub each : (k : ℕ) → get_or now k 0 ≡ get_or before k 0 + (if nat_lt k (length before) then count_below b v zs k else 0)
 
--- at each way through the code
-pub value_some : (b : BinsValue) (v : ℕ) (zs : List ℤ) (counts next : List ℕ) (i bin total : ℕ) → counts ≡ tallies_below b v zs → next ≡ set counts i (get_or counts i 0 + total) → i ≡ bin → bin_of b v ≡ Some bin → bin < b.bins → total ≡ count_at v zs → next ≡ tallies_below b (v + 1) zs
-value_some b v zs counts next i bin total are is at falls below counted =
-    let was = tallies_below b v zs in
-    let n = get_or was bin 0 + count_at v zs in
-    let room : bin < length was = omega (arith, below, length-tallies b v zs) in
-    rw (is, at, are, counted) (tallies_next b v zs (set was bin n) (length-set was bin n ∙ length-tallies b v zs)
-    (λ k h. grind (arith, nat_tests, cases_eq k bin, get_or-set_same was bin n 0 room, get_or-set_other was bin k n 0, ap (is_bin k) falls)))
+module _ (b : BinsValue) (zs : List ℤ) (before : List ℕ) where
+  pub counted_none : AreCounted b zs before 0 before
+  counted_none = record { size = refl; each = λ k. grind (arith, nat_tests, none_below b zs k) }
 
-pub value_none : (b : BinsValue) (v : ℕ) (zs : List ℤ) (counts next : List ℕ) → counts ≡ tallies_below b v zs → next ≡ counts → bin_of b v ≡ None → next ≡ tallies_below b (v + 1) zs
-value_none b v zs counts next are is outside =
-    tallies_next b v zs next (ap length (is ∙ are) ∙ length-tallies b v zs) (λ k h. ap (λ l. get_or l k 0) (is ∙ are) ∙ rw outside (omega arith))
+  module _ (v : ℕ) (now : List ℕ) (are : AreCounted b zs before v now) where
+    -- one more value, with a bin or without
+    pub counted_some : (next : List ℕ) (i bin total : ℕ) → next ≡ set now i (get_or now i 0 + total) → i ≡ bin → bin_of b v ≡ Some bin → bin < length before → total ≡ count_at v zs → AreCounted b zs before (v + 1) next
+    counted_some next i bin total is at falls below counted =
+        let sum = get_or now bin 0 + count_at v zs in
+        let room : bin < length now = omega (arith, below, are.size) in
+        rw (is, at, counted) (record {
+          size = length-set now bin sum ∙ are.size;
+          each = λ k. grind (arith, nat_tests, cases_eq k bin, get_or-set_same now bin sum 0 room, get_or-set_other now bin k sum 0, ap (is_bin k) falls, count_next b v k zs, are.each k);
+        })
 
--- no count is above the number of samples
-pub tallies_at_most : (b : BinsValue) (v : ℕ) (zs : List ℤ) (bin : ℕ) → bin_of b v ≡ Some bin → bin < b.bins → get_or (tallies_below b v zs) bin 0 + count_at v zs ≤ length zs
-tallies_at_most b v zs bin is room =
-    let few = count_by-le-length (λ z. nat_lt (unsigned_abs z) (v + 1) && is_bin bin (bin_of b (unsigned_abs z))) zs in
-    grind (arith, nat_tests, tally_at b v zs bin 0 room, count_next b v bin zs, ap (is_bin bin) is, few)
+    pub counted_other : bin_of b v ≡ None → AreCounted b zs before (v + 1) now
+    counted_other outside = record { size = are.size; each = λ k. grind (arith, nat_tests, ap (is_bin k) outside, count_next b v k zs, are.each k) }
+
+    -- no count is above the number of samples and the count before
+    pub counted_few : (bin : ℕ) → bin_of b v ≡ Some bin → bin < length before → get_or now bin 0 + count_at v zs ≤ get_or before bin 0 + length zs
+    counted_few bin is room =
+        let few = count_by-le-length (λ z. nat_lt (unsigned_abs z) (v + 1) && is_bin bin (bin_of b (unsigned_abs z))) zs in
+        grind (arith, nat_tests, are.each bin, count_next b v bin zs, ap (is_bin bin) is, few)
 
 -- all values are counted
 all_below : (b : BinsValue) (k : ℕ) (zs : List ℤ) → All (λ z. unsigned_abs z < 256) zs → count_below b 256 zs k ≡ count_by (λ z. is_bin k (bin_of b (unsigned_abs z))) zs
@@ -83,15 +68,23 @@ all_below b k (z ∷ zs) small =
     let rest = all_below b k zs (All-tail (λ z. unsigned_abs z < 256) z zs small) in
     grind (arith, nat_tests, here, rest, count_below-cons b 256 k z zs, sum_by-cons (λ s. cond (is_bin k (bin_of b (unsigned_abs s))) 1 0) z zs)
 
-pub tallies_all : (b : BinsValue) (zs : List ℤ) → All (λ z. unsigned_abs z < 256) zs → tallies_below b 256 zs ≡ tallies b zs
-tallies_all b zs small =
-    fill_by_all (λ k. count_by (λ z. is_bin k (bin_of b (unsigned_abs z))) zs) (tallies_below b 256 zs)
-    b.bins 0 (length-tallies b 256 zs) (λ k below. tally_at b 256 zs k 0 below ∙ all_below b k zs small)
-
--- ---- four tables
+pub counted_all : (b : BinsValue) (zs : List ℤ) (before now : List ℕ) → length before ≡ b.bins → All (λ z. unsigned_abs z < 256) zs → AreCounted b zs before 256 now → now ≡ bin_sums before (tallies b zs)
+counted_all b zs before now size small are =
+    let count = λ (k : ℕ). count_by (λ z. is_bin k (bin_of b (unsigned_abs z))) zs in
+    fill_by_all (λ k. get_or before k 0 + get_or (tallies b zs) k 0) now (length before) 0 are.size
+    (λ k below. grind (arith, nat_tests, are.each k, all_below b k zs small, get_or-map-range_with_len count 0 b.bins k k 0 (omega (arith, below, size)) (omega arith)))
 
 pub zero_at : (n v : ℕ) → get_or (replicate {A = ℕ} n 0) v 0 ≡ 0
 zero_at n v = grind (arith, cases_lt v n, get_or-replicate {A = ℕ} n v 0 0, get_or_past (replicate {A = ℕ} n 0) v 0, length-replicate {A = ℕ} n 0)
+
+-- counts that are added to none
+pub added_to_none : (b : BinsValue) (zs : List ℤ) (n : ℕ) → n ≡ b.bins → bin_sums (replicate n 0) (tallies b zs) ≡ tallies b zs
+added_to_none b zs n size =
+    let long = length-map-range_with_len (λ k. count_by (λ z. is_bin k (bin_of b (unsigned_abs z))) zs) 0 b.bins in
+    sym (fill_by_all (λ k. get_or (replicate {A = ℕ} n 0) k 0 + get_or (tallies b zs) k 0) (tallies b zs) (length (replicate {A = ℕ} n 0)) 0 (long ∙ sym (length-replicate n 0 ∙ size))
+    (λ k below. omega (arith, zero_at n k)))
+
+-- ---- four tables
 
 -- nothing is counted yet
 pub zeros_counted : (v : ℕ) → count_in_all (replicate 256 0) (replicate 256 0) (replicate 256 0) (replicate 256 0) v ≡ 0

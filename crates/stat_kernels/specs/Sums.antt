@@ -1,24 +1,12 @@
--- Sums of the samples to the left and above. OpenVX 1.3, "Integral Image".
+-- Sums of the samples to the left of a pixel and above it. OpenVX 1.3, "Integral Image".
 use Rattle.std.specs.Prelude.{ℕ, ℤ, pos, ◌≡◌, ◌+◌, ◌-◌, ◌%◌, ◌^◌, ◌<◌, ◌≤◌, ◌==◌, if◌then◌else◌, max, nat_le, unsigned_abs, Option, Some, None, List, length, map, slice_index, drop}
 use Rattle.std.specs.List.{sum_by}
-use Rattle.vx_base.specs.Rectangle.{Rectangle, has_pixel}
+use Rattle.vx_base.specs.Rectangle.{has_pixel}
 use Rattle.vx_base.specs.Image.{ImageValue, IsImage, pixel_at, run, zero_outside}
 use Rattle.vx_base.specs.Statistics.{samples_in, sum_to}
 use Rattle.image_core.specs.declared.band.Band.{Band}
 
--- the part of a rectangle to the left of column x and above row y
-abbrev pub corner : Rectangle → ℕ → ℕ → Rectangle
-corner r x y = record { x0 = r.x0; y0 = r.y0; x1 = x; y1 = y }
-
--- the sum of the valid samples to the left of column x and above row y
-abbrev pub sum_before : ImageValue → ℕ → ℕ → ℕ
-sum_before image x y = sum_by unsigned_abs (samples_in (corner image.valid x y) image)
-
--- item k of the list is the sum of the samples up to valid column k and above row y, modulo 2^32
-abbrev pub AreSums : ImageValue → ℕ → List ℕ → Type 0
-AreSums image y sums = (k : ℕ) → k < length sums → slice_index sums k ≡ sum_before image (image.valid.x0 + k + 1) y % 2 ^ 32
-
--- the last of the rows in the list, if there is one
+-- the last row in the list, if there is one
 abbrev pub last_row : ℕ → (before : List ℕ) → Option (List ℕ)
 last_row width before = if length before == 0 then None else Some (drop (length before - width) before)
 
@@ -39,23 +27,24 @@ pub record IsRowOf (part : ImageValue) (y : ℕ) (whole : ImageValue) (line : �
   pub valid : (x : ℕ) → has_pixel part.valid x y ≡ has_pixel whole.valid x line
   pub samples : (x : ℕ) → x < whole.width → pixel_at part x y ≡ pixel_at whole x line
 
--- a band's rows are those of another image from row `line` on
+-- a band's rows are the rows of another image from row `line` on
 pub record AreRowsOf (part : ImageValue) (rows : Band) (whole : ImageValue) (line : ℕ) : Type 0 where
   pub is : IsImage whole
   pub each : (k : ℕ) → k < rows.count → IsRowOf part (rows.start + k) whole (line + k)
 
 -- ---- sums from the row above a band
 
--- the sum of the valid samples to the left of column x, from row `start` to above row y
+-- the sum of the valid samples to the left of column x, in the rows from `start` to y - 1
 abbrev pub sum_between : ImageValue → ℕ → ℕ → ℕ → ℕ
 sum_between image start x y = sum_by unsigned_abs (samples_in (record { x0 = image.valid.x0; y0 = max image.valid.y0 start; x1 = x; y1 = y }) image)
 
--- a sample of an integral image in a row from `start` on, from the sums in the row above `start`; these don't count if that row is above
--- the valid rectangle
+-- a sample of an integral image in a row from `start` on: the sum in the row above `start`, plus
+-- the sum of the samples from row `start` on. The sum in the row above counts only if row `start`
+-- isn't above the valid rectangle.
 abbrev pub sum_on : ImageValue → ℕ → (ℕ → ℕ) → ℕ → ℕ → ℤ
 sum_on image start above x y = pos (((if nat_le image.valid.y0 start then above x else 0) + sum_between image start (x + 1) (y + 1)) % 2 ^ 32)
 
--- the sums of a row, all 0 if there is none
+-- the sums of a row, or 0 in each column if there is no row
 abbrev pub row_sums : Option (List ℕ) → ℕ → ℕ
 row_sums None x = 0
 row_sums (Some row) x = slice_index row x

@@ -11,9 +11,10 @@ ghost use Rattle.stat_kernels.specs.Part.{valid_in};
 use crate::part::Part;
 use image_core::{Band, Image};
 use lane_rows::tally_row;
-use vx_base::{Bins, GREATEST_BINS};
+use vx_base::Bins;
 
-/// Counts the valid samples of a band of a U8 image by value.
+/// Counts the valid samples of a band of a U8 image by value. The counts are in four tables
+/// together.
 fn count_values(
     image: &Image<'_>,
     rows: Band,
@@ -31,19 +32,34 @@ fn count_values(
     ensures few { length (valid_samples (valid_in rows image.now)) < 2 ^ 32 }
 {
     let _limits = image.desc().height();
-    let part = Part::of(image).in_rows(rows);
+    let part = Part::of_rows(image, rows);
     for y in part.top..part.bottom {
         let row = image.part_of_row::<u8>(part.x, y, part.count);
         tally_row(row, first, second, third, fourth);
     }
 }
 
-/// Sets the counts to the histogram of a band's valid samples.
-fn count_in_bins(image: &Image<'_>, rows: Band, bins: Bins, counts: &mut [u32])
+/// Writes the histogram of a U8 image's valid samples (OpenVX 1.3, "Histogram"; the bins are as
+/// this project defines them). The earlier counts, one for each bin, are overwritten.
+pub fn histogram(image: &Image<'_>, bins: Bins, counts: &mut [u32])
+    requires format { image.now.format ≡ U8 }
+    requires size { length counts.old ≡ bins.bins }
+    ensures { counts.new ≡ histogram bins image.now }
+{
+    let _valid = image.valid();
+    counts.fill(0);
+    add_histogram(image, Band::whole(image.desc()), bins, counts);
+}
+
+/// Adds the histogram of a band's valid samples to `counts`, one count for each bin. The image is
+/// U8. No count may exceed 32 bits.
+pub fn add_histogram(image: &Image<'_>, rows: Band, bins: Bins, counts: &mut [u32])
     requires format { image.now.format ≡ U8 }
     requires rows { IsInRows image.now.height rows }
     requires size { length counts.old ≡ bins.bins }
-    ensures { counts.new ≡ histogram bins (valid_in rows image.now) }
+    requires room { (k : ℕ) →
+        slice_index counts.old k + length (valid_samples (valid_in rows image.now)) < 2 ^ 32 }
+    ensures { counts.new ≡ bin_sums counts.old (histogram bins (valid_in rows image.now)) }
 {
     let (mut first, mut second) = ([0; 256], [0; 256]);
     let (mut third, mut fourth) = ([0; 256], [0; 256]);
@@ -55,39 +71,10 @@ fn count_in_bins(image: &Image<'_>, rows: Band, bins: Bins, counts: &mut [u32])
         &mut third,
         &mut fourth,
     );
-    counts.fill(0);
     for value in 0..256 {
         if let Some(bin) = bins.bin_of(value as u8) {
             let count = first[value] + second[value] + third[value] + fourth[value];
             counts[usize::from(bin)] += count;
         }
-    }
-}
-
-/// Writes the histogram of a U8 image's valid samples (OpenVX 1.3, "Histogram"; the bins are as
-/// this project defines them). The earlier counts are overwritten.
-pub fn histogram(image: &Image<'_>, bins: Bins, counts: &mut [u32])
-    requires format { image.now.format ≡ U8 }
-    requires size { length counts.old ≡ bins.bins }
-    ensures { counts.new ≡ histogram bins image.now }
-{
-    let _valid = image.valid();
-    count_in_bins(image, Band::whole(image.desc()), bins, counts);
-}
-
-/// Adds the histogram of a band's valid samples to the counts. The image is U8.
-pub fn add_histogram(image: &Image<'_>, rows: Band, bins: Bins, counts: &mut [u32])
-    requires format { image.now.format ≡ U8 }
-    requires rows { IsInRows image.now.height rows }
-    requires size { length counts.old ≡ bins.bins }
-    requires room { (k : ℕ) →
-        slice_index counts.old k + length (valid_samples (valid_in rows image.now)) < 2 ^ 32 }
-    ensures { counts.new ≡ bin_sums counts.old (histogram bins (valid_in rows image.now)) }
-{
-    let mut room = [0; GREATEST_BINS];
-    let more = &mut room[..usize::from(bins.bins())];
-    count_in_bins(image, rows, bins, more);
-    for k in 0..counts.len() {
-        counts[k] += more[k];
     }
 }

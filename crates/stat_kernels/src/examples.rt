@@ -55,7 +55,7 @@ pub fn integral_of_four()
 {}
 
 /// Zeros outside the valid rectangle are no extremes. Of two pixels with the least sample the upper
-/// one is reported.
+/// pixel is reported.
 pub fn extremes_of_four()
     ensures column { extremes (record {
       width = 2;

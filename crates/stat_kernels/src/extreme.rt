@@ -1,13 +1,13 @@
 //! The least and the greatest of samples, with their first pixels.
 ghost use Rattle.std.specs.Prelude.{◌≡◌, ◌+◌, ◌<◌, ◌^◌, ◌++◌, [], ℕ, ℤ, Bool, List, map, length};
 ghost use Rattle.vx_base.specs.Image.{run};
-ghost use Rattle.vx_base.specs.Statistics.{row_pixels, best_of, count_of};
+ghost use Rattle.vx_base.specs.Statistics.{row_pixels, count_of};
 
 use lane_rows::{Compared, count_of, first_of, greatest_of, least_of};
 use vx_base::Extremes;
 
-/// The least or the greatest of some samples, the number of pixels that have it, and the first of
-/// them. All numbers are 0 if there are no samples.
+/// The least or the greatest of some samples, the number of pixels that have it, and the column and
+/// row of the first such pixel. All numbers are 0 if there are no samples.
 #[derive(Clone, Copy)]
 pub struct Extreme {
     pub value: i16,
@@ -16,10 +16,10 @@ pub struct Extreme {
 }
 
 impl Extreme {
-    ghost use Rattle.stat_kernels.specs.Extreme.{extreme_among, IsDirection};
+    ghost use Rattle.stat_kernels.specs.Extreme.{merge, row_extreme, shift_down};
 
-    /// Merges a row, whose pixels come later, into this extreme. `sample` is the row's own extreme.
-    /// `is_beyond` is true if that is beyond this one: below the least, or above the greatest.
+    /// Merges a row of later pixels into this extreme. `sample` is the row's own extreme.
+    /// `is_beyond` says whether `sample` is below the least sample so far, or above the greatest.
     fn include_row<T: Compared>(
         self,
         is_beyond: bool,
@@ -31,13 +31,11 @@ impl Extreme {
         requires among { 0 < count_of (T.value sample) (map T.value row.now) }
         requires columns { x + length row.now < 2 ^ 16 }
         requires room { self.count + length row.now < 2 ^ 32 }
-        ensures { (choose : ℤ → ℤ → ℤ) (beyond : ℤ → ℤ → Bool) (f : ℕ → ℕ → ℤ)
-            (before : List (ℕ × ℕ)) →
-            IsDirection choose beyond → self ≡ extreme_among choose f before →
+        ensures { (beyond : ℤ → ℤ → Bool) (f : ℕ → ℕ → ℤ) →
             is_beyond ≡ beyond (T.value sample) self.value →
-            T.value sample ≡ best_of choose (map T.value row.now) →
             map T.value row.now ≡ run x (length row.now) (λ k. f k y) →
-            result ≡ extreme_among choose f (before ++ row_pixels x (length row.now) y) }
+            result ≡ merge beyond self
+            (row_extreme f (T.value sample) (map T.value row.now) x y) }
     {
         let value = sample.short();
         if self.count == 0 || is_beyond {
@@ -56,13 +54,9 @@ impl Extreme {
             self
         }
     }
-}
 
-impl Extreme {
-    ghost use Rattle.stat_kernels.specs.Extreme.{merge, shift_down};
-
-    /// Merges the extreme of later pixels into this one. `is_beyond` is true if the other is beyond
-    /// this one: below the least, or above the greatest.
+    /// Merges the extreme of later pixels into this extreme. `is_beyond` says whether `other` is
+    /// below the least sample so far, or above the greatest.
     fn merge(self, is_beyond: bool, other: Extreme) -> Extreme
         requires { self.count + other.count < 2 ^ 32 }
         ensures { (beyond : ℤ → ℤ → Bool) → is_beyond ≡ beyond other.value self.value →
@@ -82,7 +76,7 @@ impl Extreme {
         }
     }
 
-    /// The extreme with its pixel moved `down` rows lower.
+    /// Returns the extreme with its pixel moved `down` rows lower.
     fn shift_down(self, down: u16) -> Extreme
         requires { self.at.1 + down < 2 ^ 16 }
         ensures { result ≡ shift_down down self }
@@ -119,7 +113,7 @@ impl Found {
         }
     }
 
-    /// Merges a row, whose pixels come later, into these extremes.
+    /// Merges a row of later pixels into these extremes.
     pub fn include_row<T: Compared>(self, x: u16, y: u16, row: &[T]) -> Found
         requires columns { x + length row.now < 2 ^ 16 }
         requires least_room { self.least.count + length row.now < 2 ^ 32 }
@@ -139,7 +133,8 @@ impl Found {
             greatest: self.greatest.include_row(is_above, high, x, y, row),
         }
     }
-    /// Returns `Extremes` as their two parts.
+
+    /// Returns the least and the greatest of `extremes` as two parts.
     pub fn of(extremes: Extremes) -> Found
         ensures { result ≡ found_of extremes }
     {
@@ -157,7 +152,7 @@ impl Found {
         }
     }
 
-    /// Merges the extremes of later pixels into these.
+    /// Merges the extremes of later pixels into these extremes.
     pub fn merge(self, other: Found) -> Found
         requires least_room { self.least.count + other.least.count < 2 ^ 32 }
         requires greatest_room { self.greatest.count + other.greatest.count < 2 ^ 32 }

@@ -12,7 +12,7 @@ use crate::part::Part;
 use image_core::{Band, Image};
 use vx_base::{Extremes, Format};
 
-/// Merges the samples of row `y`, whose pixels come later, into the extremes found so far.
+/// Merges the samples of row `y` into the extremes of the rows above it.
 fn with_row(found: Found, image: &Image<'_>, part: Part, y: u16) -> Found
     requires format { image.now.format ≢ U32 }
     requires row { y < image.now.height }
@@ -36,7 +36,7 @@ fn with_row(found: Found, image: &Image<'_>, part: Part, y: u16) -> Found
     }
 }
 
-/// The extremes of a band's valid samples.
+/// Returns the extremes of a band's valid samples.
 fn found_in(image: &Image<'_>, rows: Band) -> Found
     requires format { image.now.format ≢ U32 }
     requires rows { IsInRows image.now.height rows }
@@ -44,7 +44,7 @@ fn found_in(image: &Image<'_>, rows: Band) -> Found
         (rectangle_pixels (valid_in rows image.now).valid) }
 {
     let _limits = image.desc().height();
-    let part = Part::of(image).in_rows(rows);
+    let part = Part::of_rows(image, rows);
     let mut found = Found::nowhere();
     for y in part.top..part.bottom {
         found = with_row(found, image, part, y);
@@ -62,8 +62,8 @@ pub fn min_max(image: &Image<'_>) -> Extremes
     extremes_of(found_in(image, Band::whole(image.desc())))
 }
 
-/// Merges the extremes of a band into those of the rows above it. The band is `down` rows lower in
-/// the whole image than in `image`.
+/// Merges the extremes of a band into the extremes of the rows above it. The band is `down` rows
+/// lower in the whole image than in `image`.
 pub fn add_min_max(image: &Image<'_>, rows: Band, down: u16, above: Extremes) -> Extremes
     requires format { image.now.format ≢ U32 }
     requires rows { IsInRows image.now.height rows }
@@ -79,7 +79,7 @@ pub fn add_min_max(image: &Image<'_>, rows: Band, down: u16, above: Extremes) ->
     extremes_of(Found::of(above).merge(found))
 }
 
-/// The two parts as `Extremes`.
+/// Returns the least and the greatest as `Extremes`.
 fn extremes_of(found: Found) -> Extremes
     ensures { result ≡ extremes_of found }
 {

@@ -22,7 +22,7 @@ pub fn extremes_bound()
         Contains (valid_samples image) (extremes image).max }
 {}
 
-/// The histogram of two adjacent bands is the sum of theirs, bin by bin.
+/// The histogram of two adjacent bands together is the sum of the histograms of each, bin by bin.
 pub fn histograms_of_bands()
     ensures { (bins : BinsValue) (image : ImageValue) (start first second : ℕ) →
         histogram bins (valid_in (record { start = start; count = first + second }) image)
@@ -30,8 +30,8 @@ pub fn histograms_of_bands()
         (histogram bins (valid_in (record { start = start + first; count = second }) image)) }
 {}
 
-/// The merged extremes of two adjacent bands are those of the rows of both, including the counts
-/// and the first pixels.
+/// The merged extremes of two adjacent bands are the extremes of both bands together, including the
+/// counts and the first pixels.
 pub fn extremes_of_bands()
     ensures { (image : ImageValue) (start first second : ℕ) →
         added_extremes 0
@@ -40,8 +40,8 @@ pub fn extremes_of_bands()
         ≡ extremes (valid_in (record { start = start; count = first + second }) image) }
 {}
 
-/// The second band may belong to another image, `part`, whose rows are `down` rows lower in
-/// `whole`.
+/// Merging is also correct if the second band belongs to another image, `part`, whose rows are
+/// `down` rows lower in `whole`.
 pub fn extremes_of_parts()
     ensures { (part whole : ImageValue) (rows : Rows) (start first down : ℕ) →
         rows.start + down ≡ start + first → AreRowsOf part rows whole (start + first) →

@@ -1,6 +1,5 @@
 //! The valid rectangle of an image as columns and rows.
-ghost use Rattle.std.specs.Prelude.{◌≡◌, ◌+◌, ◌<◌, ◌^◌};
-ghost use Rattle.vx_base.specs.Image.{ImageValue};
+ghost use Rattle.std.specs.Prelude.{◌≡◌};
 ghost use Rattle.image_core.specs.Bands.{IsInRows};
 
 use image_core::{Band, Image};
@@ -38,18 +37,18 @@ impl Part {
         self.count > 0 && self.top <= y && y < self.bottom
     }
 
-    /// Returns the part cut to the rows of a band.
-    pub fn in_rows(self, rows: Band) -> Part
-        requires { rows.start + rows.count < 2 ^ 16 }
-        ensures { (image : ImageValue) → IsInRows image.height rows → IsValidPart image self →
-            IsValidPart (valid_in rows image) result }
+    /// Returns the valid rectangle of an image cut to the rows of a band.
+    pub fn of_rows(image: &Image<'_>, rows: Band) -> Part
+        requires { IsInRows image.now.height rows }
+        ensures { IsValidPart (valid_in rows image.now) result }
     {
-        let top = self.top.max(rows.start);
+        let _limits = image.desc().height();
+        let part = Part::of(image);
+        let top = part.top.max(rows.start);
         Part {
-            x: self.x,
-            count: self.count,
             top,
-            bottom: self.bottom.min(rows.start + rows.count).max(top),
+            bottom: part.bottom.min(rows.start + rows.count).max(top),
+            ..part
         }
     }
 }

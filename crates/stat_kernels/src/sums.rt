@@ -4,15 +4,15 @@ ghost use Rattle.std.specs.Prelude.{length, replicate, unwrap_or, IfSome};
 ghost use Rattle.std.specs.Option.{option_copied, option_map};
 ghost use Rattle.vx_base.specs.declared.desc.TheConstants.{GREATEST_SIDE};
 ghost use Rattle.vx_base.specs.declared.format.Format.TheVariants.{U8, U32};
-ghost use Rattle.vx_base.specs.Image.{ImageValue, IsImage, band, run, zero_outside};
+ghost use Rattle.vx_base.specs.Image.{ImageValue, band, run, zero_outside};
 ghost use Rattle.vx_base.specs.Statistics.{sum_to, integral};
 ghost use Rattle.image_core.specs.Bands.{IsInRows};
 ghost use Rattle.image_core.specs.Fits.{HaveSameSize};
 ghost use Rattle.image_core.specs.Target.{target_image, IsTarget, Writes};
 ghost use Rattle.lane_rows.specs.Running.{sums_below};
 ghost use Rattle.stat_kernels.specs.Part.{IsValidPart};
-ghost use Rattle.stat_kernels.specs.Sums.{AreRowsOf, AreSums, IsRowAbove, IsRowOf};
-ghost use Rattle.stat_kernels.specs.Sums.{last_row, row_sums, sum_on, sums_row};
+ghost use Rattle.stat_kernels.specs.Sums.{AreRowsOf, IsRowAbove, last_row, row_sums, sum_on};
+ghost use Rattle.stat_kernels.specs.Sums.{sums_row};
 
 use crate::part::Part;
 use image_core::{Band, Image, ImageMut, Whole};
@@ -21,47 +21,11 @@ use vx_base::{GREATEST_SIDE, Rect};
 
 const LONGEST_ROW: usize = GREATEST_SIDE as usize;
 
-/// The row above the first one, all zeros.
+/// The row above the first row of an image: all zeros.
 static ZEROS: [u32; LONGEST_ROW] = [0; LONGEST_ROW];
 
-/// Adds the valid rows above row `y` to the sums. On entry they are the sums above the first valid
-/// row.
-fn add_lines(image: &Image<'_>, part: Part, y: u16, sums: &mut [u32])
-    requires format { image.now.format ≡ U8 }
-    requires part { IsValidPart image.now part }
-    requires rows { (part.top ≤ y) × (y ≤ part.bottom) }
-    requires len { length sums.old ≡ part.count }
-    requires sums { AreSums image.now part.top sums.old }
-    ensures { AreSums image.now y sums.new }
-{
-    let _limits = image.desc().width();
-    let mut room = [0; LONGEST_ROW];
-    let above = &mut room[..part.count];
-    for line in part.top..y {
-        above.copy_from_slice(sums);
-        let row = image.part_of_row::<u8>(part.x, line, part.count);
-        running_sums(row, above, sums);
-    }
-}
-
-/// Writes row `y` of the integral image by summing all valid rows up to it.
-fn write_row_from_top(image: &Image<'_>, y: u16, out: &mut [u32])
-    requires format { image.now.format ≡ U8 }
-    requires row { y < image.now.height }
-    requires out_len { length out.old ≡ image.now.width }
-    ensures { map pos out.new ≡ sums_row image.now y }
-{
-    let part = Part::of(image);
-    out.fill(0);
-    if !part.has_row(y) {
-        return;
-    }
-    let x = usize::from(part.x);
-    add_lines(image, part, y + 1, &mut out[x..x + part.count]);
-}
-
 /// Writes part of a row of an integral image, from column `x` on: the running sums of the row plus
-/// the sums in the row above. Without a row above, those are 0.
+/// the sums in the row above. Without a row above, the sums above are 0.
 fn write_part_of_row(row: &[u8], above: Option<&[u32]>, x: usize, out: &mut [u32])
     requires above_len { IfSome above (λ sums. x + length row.now ≤ length sums.now) }
     requires out_len { length out.old ≡ length row.now }
@@ -90,12 +54,9 @@ fn write_row_across_part(
     requires rows { (part.top ≤ y) × (y < part.bottom) }
     requires above_len { IfSome above (λ row. length row.now ≡ image.now.width) }
     requires out_len { length out.old ≡ image.now.width }
-    ensures sums { map pos out.new ≡ run 0 image.now.width
+    ensures { map pos out.new ≡ run 0 image.now.width
         (λ x. zero_outside image.now.valid
         (sum_on image.now y (row_sums (option_copied above.entry))) x y) }
-    ensures whole { (whole : ImageValue) (line : ℕ) → IsImage whole →
-        IsRowOf image.now y whole line → IsRowAbove whole line (option_copied above.entry) →
-        map pos out.new ≡ sums_row whole line }
 {
     let _limits = image.desc().width();
     let x = usize::from(part.x);
@@ -108,18 +69,15 @@ fn write_row_across_part(
 }
 
 /// Writes a row of an integral image from the row above it, which is `None` for the first row of an
-/// image. In the contract `whole` is any image whose row `line` is row `y` of this one.
+/// image.
 fn write_integral_row(image: &Image<'_>, part: Part, y: u16, above: Option<&[u32]>, out: &mut [u32])
     requires format { image.now.format ≡ U8 }
     requires part { IsValidPart image.now part }
     requires above_len { IfSome above (λ row. length row.now ≡ image.now.width) }
     requires out_len { length out.old ≡ image.now.width }
-    ensures sums { map pos out.new ≡ run 0 image.now.width
+    ensures { map pos out.new ≡ run 0 image.now.width
         (λ x. zero_outside image.now.valid
         (sum_on image.now y (row_sums (option_copied above.entry))) x y) }
-    ensures whole { (whole : ImageValue) (line : ℕ) → IsImage whole →
-        IsRowOf image.now y whole line → IsRowAbove whole line (option_copied above.entry) →
-        map pos out.new ≡ sums_row whole line }
 {
     if part.has_row(y) {
         write_row_across_part(image, part, y, above, out);
@@ -128,7 +86,28 @@ fn write_integral_row(image: &Image<'_>, part: Part, y: u16, above: Option<&[u32
     }
 }
 
-/// Returns the last of the rows in `before`, or `None` if there is none.
+/// Writes row `y` of the integral image by summing all valid rows up to it.
+fn write_row_from_top(image: &Image<'_>, y: u16, out: &mut [u32])
+    requires format { image.now.format ≡ U8 }
+    requires row { y < image.now.height }
+    requires out_len { length out.old ≡ image.now.width }
+    ensures { map pos out.new ≡ sums_row image.now y }
+{
+    let _limits = image.desc().width();
+    let part = Part::of(image);
+    out.fill(0);
+    if !part.has_row(y) {
+        return;
+    }
+    let mut room = [0; LONGEST_ROW];
+    let above = &mut room[..out.len()];
+    for line in part.top..y + 1 {
+        above.copy_from_slice(out);
+        write_integral_row(image, part, line, Some(above), out);
+    }
+}
+
+/// Returns the last row of `width` sums in `before`, or `None` if `before` is empty.
 pub fn row_above(before: &[u32], width: usize) -> Option<&[u32]>
     requires { length before.now ≡ 0 ⊎ width ≤ length before.now }
     ensures { option_copied result ≡ last_row width before.now }
@@ -140,9 +119,9 @@ pub fn row_above(before: &[u32], width: usize) -> Option<&[u32]>
     }
 }
 
-/// Writes a band of an integral image, continuing from the row above it, which is `None` at the top
-/// of an image. Reads the band's rows only. In the contract `whole` is any image whose rows from
-/// `line` on are the band's.
+/// Writes a band of an integral image, continuing from `above`, the row above the band; `None` at
+/// the top of an image. Reads only the band's rows of `image`. In the contract `whole` is any image
+/// whose rows from `line` on are the band's rows.
 pub fn integral_on(image: &Image<'_>, rows: Band, above: Option<&[u32]>, samples: &mut [u32])
     requires format { image.now.format ≡ U8 }
     requires rows { IsInRows image.now.height rows }
@@ -164,8 +143,8 @@ pub fn integral_on(image: &Image<'_>, rows: Band, above: Option<&[u32]>, samples
     }
 }
 
-/// Writes a band of the integral image: its first row by summing all rows above it, the others each
-/// from the row above.
+/// Writes a band of the integral image, from the row above the band, which is the sum of all rows
+/// up to it.
 fn write_integral_rows(image: &Image<'_>, rows: Band, samples: &mut [u32])
     requires format { image.now.format ≡ U8 }
     requires rows { IsInRows image.now.height rows }
@@ -174,16 +153,14 @@ fn write_integral_rows(image: &Image<'_>, rows: Band, samples: &mut [u32])
         (zero_outside image.now.valid (sum_to image.now)) }
 {
     let _valid = image.valid();
-    if rows.count == 0 {
-        return;
+    if rows.start == 0 {
+        integral_on(image, rows, None, samples);
+    } else {
+        let mut room = [0; LONGEST_ROW];
+        let above = &mut room[..usize::from(image.desc().width())];
+        write_row_from_top(image, rows.start - 1, above);
+        integral_on(image, rows, Some(above), samples);
     }
-    let (first, others) = samples.split_at_mut(usize::from(image.desc().width()));
-    write_row_from_top(image, rows.start, first);
-    let below = Band {
-        start: rows.start + 1,
-        count: rows.count - 1,
-    };
-    integral_on(image, below, Some(first), others);
 }
 
 /// An image whose integral image is written.

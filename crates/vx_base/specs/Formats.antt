@@ -1,4 +1,4 @@
--- The formats that each function takes: a subset of those in the standard, chosen by this project.
+-- The formats that each function takes: a subset of the standard's formats, chosen by this project.
 use Rattle.std.specs.Prelude.{Bool, true, false, Option, Some, None}
 use Rattle.vx_base.specs.declared.format.Format.{Format}
 use Rattle.vx_base.specs.declared.format.Format.TheVariants.{U8, S16, U32}
@@ -25,8 +25,9 @@ are_arithmetic S16 U8 S16 = true
 are_arithmetic S16 S16 S16 = true
 are_arithmetic a b g = false
 
--- whether a function takes these formats: first input, second input, output. A second input's format is that of the image, of the
--- table's entries, of the samples that the threshold tests or of the coefficients. None: no such operand, or an operand without a format.
+-- whether a function takes these formats: first input, second input, output. For a second input
+-- that isn't an image, the format is that of the table's entries, the samples that the threshold
+-- tests, or the coefficients. None: no such operand, or an operand without a format.
 abbrev pub takes_formats : Function → Format → Option Format → Option Format → Bool
 takes_formats AndBits a (Some b) (Some g) = are_bytes a b g
 takes_formats OrBits a (Some b) (Some g) = are_bytes a b g
@@ -59,8 +60,8 @@ takes_formats Accumulate U8 None (Some S16) = true
 takes_formats AccumulateSquare U8 None (Some S16) = true
 takes_formats function a second output = false
 
--- the format that an output image gets if its own is open, from the format of the node's first input; it has no meaning for a
--- function that writes no image
+-- the format that an output image gets if its own format is open, given the format of the node's
+-- first input. Unused for a function that writes no image.
 abbrev pub open_format : Function → Format → Format
 open_format Add first = S16
 open_format Subtract first = S16

@@ -44,7 +44,7 @@ functions =
 abbrev pub function_numbered : ℕ → Option Function
 function_numbered n = find (λ function. function_number function == n) functions
 
--- ---- a function's parameters, apart from its first input, which is an image, and the border
+-- ---- a function's parameters, other than the border and the first input, which is always an image
 
 -- one input image and one output image
 abbrev pub of_one_image : Parameters
@@ -86,7 +86,8 @@ parameters MinMaxLoc = record of_one_image { output = kind.Extremes }
 parameters Accumulate = of_one_image
 parameters AccumulateSquare = record of_one_image { greatest_amount = Some 15 }
 
--- whether the function adds to its output image, which is then an operand too: its content at the start of the graph's run counts
+-- whether the function adds to its output image; the image's content at the start of the graph's
+-- run is then an operand too
 abbrev pub accumulates : Function → Bool
 accumulates Accumulate = true
 accumulates AccumulateSquare = true

@@ -6,8 +6,8 @@ use Rattle.vx_base.specs.declared.numbered.Numbered.{Numbered}
 use Rattle.vx_base.specs.Node.{IsNode}
 use Rattle.vx_base.specs.declared.node.TheConstants.{GREATEST_NODES}
 
--- the nodes with their numbers in the order in which they were added, the next number, and the names of the delays that age after
--- each run (vxRegisterAutoAging)
+-- a graph: its numbered nodes in the order in which they were added, the number of the next node,
+-- and the names of the delays that age after each run (vxRegisterAutoAging)
 pub record GraphValue : Type 0 where
   pub next : ℕ
   pub nodes : List Numbered
@@ -21,7 +21,8 @@ new_graph = record { next = 1; nodes = []; delays = [] }
 abbrev pub nodes_of : GraphValue → List Node
 nodes_of g = map (λ n. n.node) g.nodes
 
--- whether one more node can be added: a number is left, and the graph has fewer nodes than the limit
+-- whether one more node can be added: an unused number remains, and the graph has fewer nodes than
+-- the limit
 abbrev pub can_add : GraphValue → Bool
 can_add g = nat_lt g.next 4294967296 && nat_lt (length g.nodes) GREATEST_NODES
 
@@ -45,7 +46,8 @@ is_registered g name = list_any (λ delay. delay == name) g.delays
 abbrev pub with_delays : GraphValue → List ℕ → GraphValue
 with_delays g names = record g { delays = names }
 
--- a graph whose node numbers ascend and are below the next one, with no more nodes than the limit, and each delay registered once
+-- a graph whose node numbers ascend and are below the next number, with no more nodes than the
+-- limit, and no delay registered twice
 pub record IsGraph (g : GraphValue) : Type 0 where
   pub left : g.next ≤ 4294967296
   pub count : length g.nodes ≤ GREATEST_NODES

@@ -14,7 +14,7 @@ run x n f = map f (range_with_len x n)
 abbrev pub band : ℕ → ℕ → ℕ → (ℕ → ℕ → ℤ) → List ℤ
 band width start count f = flat_map (λ y. run 0 width (λ x. f x y)) (range_with_len start count)
 
--- f at all pixels of a width and height, in row-major order: the band of all rows
+-- the values of f at all pixels of an image of this width and height, in row-major order
 abbrev pub table : ℕ → ℕ → (ℕ → ℕ → ℤ) → List ℤ
 table width height f = band width 0 height f
 
@@ -42,8 +42,8 @@ image_over d valid samples = record { width = d.width; height = d.height; format
 abbrev pub pixel_at : ImageValue → ℕ → ℕ → ℤ
 pixel_at image x y = slice_index_or image.samples (y * image.width + x) (pos 0)
 
--- an image of allowed size, whose valid rectangle is canonical and within the image, with a sample of its format for each
--- pixel; the samples outside the valid rectangle are 0
+-- an image of permitted size, with a sample of its format for each pixel. The valid rectangle is
+-- canonical and within the image, and the samples outside it are 0.
 pub record IsImage (image : ImageValue) : Type 0 where
   pub sides : IsDescription (description_of image)
   pub size : length image.samples ≡ image.height * image.width

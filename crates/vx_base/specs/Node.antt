@@ -11,7 +11,7 @@ use Rattle.vx_base.specs.declared.node.Node.{Node}
 use Rattle.vx_base.specs.Function.{parameters}
 use Rattle.vx_base.specs.Reference.{Reference, IsReference}
 
--- whether a reference is name 0 without a slot, which no operand may be
+-- whether a reference is name 0 without a slot; no operand may be this reference
 abbrev pub is_nothing : Reference → Bool
 is_nothing cell = (cell.name == 0) && is_none cell.slot
 
@@ -29,12 +29,13 @@ abbrev pub is_wrap : Policy → Bool
 is_wrap Wrap = true
 is_wrap Saturate = false
 
--- whether policy and amount suit the function: Wrap and 0 where it takes none
+-- whether policy and amount suit the function: Wrap if the function takes no policy; an amount up
+-- to the function's greatest, or 0 if the function takes none
 abbrev pub has_amount : Parameters → Policy → ℕ → Bool
 has_amount p policy amount = (p.policy || is_wrap policy) && nat_le amount (unwrap_or p.greatest_amount 0)
 
--- whether the operands suit the function: a second input exactly where it takes one; one or both outputs of a function with two,
--- else the first alone
+-- whether the operands suit the function: a second input is given exactly if the function takes
+-- one. Of two outputs one or both are given; a function with one output has the first alone.
 abbrev pub has_operands : Parameters → Node → Bool
 has_operands p n =
     (if is_some p.second_input then is_some n.in2 else is_none n.in2)
@@ -50,7 +51,7 @@ node_spec n = if is_node n then Some n else None
 
 -- ---- a node's operands
 
--- a reference as a list, empty if it is not given
+-- a reference as a list; empty if the reference is not given
 abbrev pub optional_cells : Option Reference → List Reference
 optional_cells None = []
 optional_cells (Some cell) = cell ∷ []
@@ -63,16 +64,16 @@ inputs n = n.in1 ∷ optional_cells n.in2
 abbrev pub outputs : Node → List Reference
 outputs n = optional_cells n.out1 ++ optional_cells n.out2
 
--- the kind of a node's second input; Image, which is never used, if its function has none
+-- the kind of a node's second input; if the node's function has none, Image, which is then unused
 abbrev pub second_kind : Node → Kind
 second_kind n = unwrap_or (parameters n.function).second_input kind.Image
 
--- a reference with this kind as a list, empty if it is not given
+-- a reference with this kind, as a list; empty if the reference is not given
 abbrev pub with_kind : Kind → Option Reference → List (Reference × Kind)
 with_kind k None = []
 with_kind k (Some cell) = (cell, k) ∷ []
 
--- a node's operands, each with the kind of object that its function expects
+-- a node's operands, each with the kind of object that the node's function expects there
 abbrev pub operands : Node → List (Reference × Kind)
 operands n =
     (n.in1, kind.Image) ∷ (with_kind (second_kind n) n.in2

@@ -22,7 +22,8 @@ image_of_one ConvertDepth n output format a = from_one format (formula_of_one Co
 image_of_one Integral n output format a = sums_in format a
 image_of_one function n output format a = from_nine format (formula_of_nine function output) n.border a
 
--- an output image in this format, computed from the node's first input and its second, if it has one
+-- an output image in this format, computed from the node's first input and, if there is one, the
+-- next operand
 abbrev pub node_image : Node → Output → Format → ImageValue → Option ObjectValue → ImageValue
 node_image n output format a None = image_of_one n.function n output format a
 node_image n output format a (Some (ImageObject b)) = from_two format (formula_of_two n.function format n.policy n.amount) a b
@@ -35,21 +36,24 @@ node_image n output format a (Some other) = from_one format (λ _. pos 0) a
 abbrev pub second_or_output : Node → Option ObjectValue → ObjectValue → Option ObjectValue
 second_or_output n second old = if accumulates n.function then Some old else second
 
--- an output's new value, computed from the inputs and the output's earlier value. An accumulating function reads that value's samples;
--- the others use only its kind, format and bins.
+-- an output's new value, computed from the inputs and the output's earlier value. An accumulating
+-- function reads that value's samples; the other functions use only that value's kind, format and
+-- bins.
 abbrev pub node_output : Node → Output → ObjectValue → Option ObjectValue → ObjectValue → ObjectValue
 node_output n output (ImageObject a) second (ImageObject old) = ImageObject (node_image n output old.format a (second_or_output n second (ImageObject old)))
 node_output n output (ImageObject a) second (DistributionObject d) = DistributionObject (record { bins = d.bins; counts = histogram d.bins a })
 node_output n output (ImageObject a) second (ExtremesObject e) = ExtremesObject (extremes a)
 node_output n output first second old = old
 
--- the new value of an output, as a list of one; none if an object is missing
+-- an output's reference with its new value, as a list of one pair; empty if the first input or the
+-- output is missing
 abbrev pub written_to : Node → Output → Reference → Option ObjectValue → Option ObjectValue → Option ObjectValue → List (Reference × ObjectValue)
 written_to n output cell (Some first) second (Some old) = (cell, node_output n output first second old) ∷ []
 written_to n output cell first second old = []
 
--- the new value of one output, as a list of none or one. `start` gives the objects as they were when the run began, `held` those of
--- now: the output's earlier value is from `start`, the inputs from `held`.
+-- the new value of one output, as a list of at most one pair. `start` gives the objects at the
+-- start of the run, `held` the present objects: the output's earlier value is from `start`, the
+-- inputs from `held`.
 abbrev pub written_in : Node → Output → Option Reference → (Reference → Option ObjectValue) → (Reference → Option ObjectValue) → List (Reference × ObjectValue)
 written_in n output None start held = []
 written_in n output (Some cell) start held = written_to n output cell (held n.in1) (option_and_then held n.in2) (start cell)
@@ -58,6 +62,7 @@ written_in n output (Some cell) start held = written_to n output cell (held n.in
 abbrev pub written_from : (Reference → Option ObjectValue) → Node → (Reference → Option ObjectValue) → List (Reference × ObjectValue)
 written_from start n held = written_in n First n.out1 start held ++ written_in n Second n.out2 start held
 
--- the same for a node that runs first: all objects are still as they were when the run began
+-- each output of a node that runs first with its new value: all objects are still as at the start
+-- of the run
 abbrev pub written_by : Node → (Reference → Option ObjectValue) → List (Reference × ObjectValue)
 written_by n held = written_from held n held

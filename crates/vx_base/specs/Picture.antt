@@ -15,7 +15,7 @@ values (U8 samples) = map pos samples.items
 values (S16 samples) = samples.items
 values (U32 samples) = map pos samples.items
 
--- the format of samples
+-- the format of the samples
 abbrev pub samples_format : Samples → Format
 samples_format (U8 samples) = FormatU8
 samples_format (S16 samples) = FormatS16

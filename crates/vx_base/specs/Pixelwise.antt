@@ -15,15 +15,15 @@ use Rattle.vx_base.specs.Threshold.{ThresholdValue, passes}
 
 -- ---- the formulas
 
--- "Bitwise AND": the bits that are set in both
+-- "Bitwise AND": the bits that are set in both samples
 abbrev pub and_bits : ℤ → ℤ → ℤ
 and_bits a b = pos (bit_and (unsigned_abs a) (unsigned_abs b))
 
--- "Bitwise INCLUSIVE OR": the bits that are set in one or both
+-- "Bitwise INCLUSIVE OR": the bits that are set in one or both samples
 abbrev pub or_bits : ℤ → ℤ → ℤ
 or_bits a b = pos (bit_or (unsigned_abs a) (unsigned_abs b))
 
--- "Bitwise EXCLUSIVE OR": the bits that are set in exactly one
+-- "Bitwise EXCLUSIVE OR": the bits that are set in exactly one of the samples
 abbrev pub xor_bits : ℤ → ℤ → ℤ
 xor_bits a b = pos (bit_xor (unsigned_abs a) (unsigned_abs b))
 
@@ -43,7 +43,7 @@ difference format policy a b = narrow format policy (a -ℤ b)
 abbrev pub product : Format → Policy → ℕ → ℤ → ℤ → ℤ
 product format policy n a b = narrow format policy (int_div (a *ℤ b) (pos (2 ^ n)))
 
--- "Absolute Difference": the distance of the two, at most the format's greatest sample
+-- "Absolute Difference": the distance between two samples, at most the format's greatest sample
 abbrev pub absolute_difference : Format → ℤ → ℤ → ℤ
 absolute_difference format a b = clamp format (pos (distance a b))
 
@@ -63,7 +63,8 @@ threshold_result threshold a = if passes threshold.kind a then pos threshold.tru
 abbrev pub lookup_result : LutValue → ℤ → ℤ
 lookup_result lut a = entry_for lut a
 
--- "Convert Bit Depth", shifted by n as this project defines it: to S16 times 2^n; to U8 over 2^n, rounded down and narrowed
+-- "Convert Bit Depth", with this project's meaning of the shift n: to S16, the sample times 2^n; to
+-- U8, the sample over 2^n, rounded down and narrowed
 abbrev pub depth_conversion : Format → Policy → ℕ → ℤ → ℤ
 depth_conversion U8 policy n a = narrow U8 policy (int_div_euclid a (pos (2 ^ n)))
 depth_conversion S16 policy n a = a *ℤ pos (2 ^ n)
@@ -73,13 +74,14 @@ depth_conversion U32 policy n a = a
 abbrev pub accumulated_sum : Format → ℤ → ℤ → ℤ
 accumulated_sum format a c = clamp format (c +ℤ a)
 
--- "Accumulate Squared": the square of a over 2^n, rounded down, added to the output's earlier sample c, clamped
+-- "Accumulate Squared": the square of a, divided by 2^n and rounded down, added to the output's
+-- earlier sample c, clamped
 abbrev pub accumulated_square : Format → ℕ → ℤ → ℤ → ℤ
 accumulated_square format n a c = clamp format (c +ℤ int_div_euclid (a *ℤ a) (pos (2 ^ n)))
 
 -- ---- images
 
--- the image whose samples are f of the input's, valid where the input is
+-- the image whose samples are f of the input's samples, valid where the input is
 abbrev pub from_one : Format → (ℤ → ℤ) → ImageValue → ImageValue
 from_one format f a = image_from a.width a.height format a.valid (λ x y. f (pixel_at a x y))
 
@@ -87,7 +89,8 @@ from_one format f a = image_from a.width a.height format a.valid (λ x y. f (pix
 abbrev pub from_two : Format → (ℤ → ℤ → ℤ) → ImageValue → ImageValue → ImageValue
 from_two format f a b = image_from a.width a.height format (meet_of a.valid b.valid) (λ x y. f (pixel_at a x y) (pixel_at b x y))
 
--- ---- the formula of each function of one input, and of each function of two images, or of one and the output's earlier content
+-- ---- the formula of each function of one image, and of each function of two images; an
+-- accumulator's earlier content counts as the second image
 
 -- the formula of a function of one image; n is the node's amount
 abbrev pub formula_of_one : Function → Format → Policy → ℕ → ℤ → ℤ
@@ -95,7 +98,7 @@ formula_of_one NotBits format policy n a = not_bits a
 formula_of_one ConvertDepth format policy n a = depth_conversion format policy n a
 formula_of_one other format policy n a = pos 0
 
--- the formula of a function of two images, or of one and its accumulator
+-- the formula of a function of two images, or of an image and an accumulator
 abbrev pub formula_of_two : Function → Format → Policy → ℕ → ℤ → ℤ → ℤ
 formula_of_two AndBits format policy n a b = and_bits a b
 formula_of_two OrBits format policy n a b = or_bits a b

@@ -25,7 +25,7 @@ is_rectangle x0 y0 x1 y1 =
 abbrev pub rectangle : ℕ → ℕ → ℕ → ℕ → Option Rectangle
 rectangle x0 y0 x1 y1 = if is_rectangle x0 y0 x1 y1 then Some (record { x0 = x0; y0 = y0; x1 = x1; y1 = y1 }) else None
 
--- the rectangle with these bounds, or the empty one if they include no pixel
+-- the rectangle with these bounds, or the empty rectangle if these bounds include no pixel
 abbrev pub rectangle_or_empty : ℕ → ℕ → ℕ → ℕ → Rectangle
 rectangle_or_empty x0 y0 x1 y1 = if nat_lt x0 x1 && nat_lt y0 y1 then record { x0 = x0; y0 = y0; x1 = x1; y1 = y1 } else empty_rectangle
 

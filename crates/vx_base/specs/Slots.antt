@@ -6,6 +6,6 @@ use Rattle.vx_base.specs.declared.slots.TheConstants.{GREATEST_SLOTS}
 abbrev pub is_slot_count : ℕ → Bool
 is_slot_count n = nat_le 1 n && nat_le n GREATEST_SLOTS
 
--- the number of slots, if a delay may have it
+-- the number of slots, if a delay may have this number
 abbrev pub slot_count : ℕ → Option ℕ
 slot_count n = if is_slot_count n then Some n else None

@@ -35,7 +35,7 @@ pub record BinsValue : Type 0 where
   pub offset : ℕ
   pub range : ℕ
 
--- whether these numbers are permitted; the sum of offset and range may exceed 256
+-- whether bins may have these numbers; the sum of offset and range may exceed 256
 abbrev pub are_bins : ℕ → ℕ → ℕ → Bool
 are_bins bins offset range = ((nat_le 1 bins && nat_le bins GREATEST_BINS) && nat_lt offset 256) && (nat_le 1 range && nat_le range 256)
 
@@ -66,8 +66,9 @@ histogram b image = tallies b (valid_samples image)
 abbrev pub sum_to : ImageValue → ℕ → ℕ → ℤ
 sum_to image x y = pos (sum_by unsigned_abs (samples_in (meet_of image.valid (whole_rectangle (x + 1) (y + 1))) image) % 2 ^ 32)
 
--- the integral image of a U8 image in this format, valid where the input is; samples outside the input's valid rectangle count as 0.
--- This and the modulus are this project's choice, since OpenVX doesn't define sums beyond 32 bits.
+-- the integral image of a U8 image in this format, valid where the input is; samples outside the
+-- input's valid rectangle count as 0. These zeros and the modulus 2^32 are this project's choices;
+-- OpenVX doesn't define sums beyond 32 bits.
 abbrev pub sums_in : Format → ImageValue → ImageValue
 sums_in format image = image_from image.width image.height format image.valid (sum_to image)
 
@@ -77,12 +78,12 @@ integral image = sums_in U32 image
 
 -- ---- "Min, Max Location"
 
--- the result of folding the samples with choose, which picks one of two; 0 if there are none
+-- the samples folded with `choose`, which picks one of two samples; 0 if there are no samples
 abbrev pub best_of : (ℤ → ℤ → ℤ) → List ℤ → ℤ
 best_of choose [] = pos 0
 best_of choose (z ∷ zs) = fold choose z zs
 
--- the number of these samples that are z
+-- the number of these samples that equal z
 abbrev pub count_of : ℤ → List ℤ → ℕ
 count_of z samples = count_by (λ s. int_eq s z) samples
 

@@ -25,8 +25,9 @@ holds r x y = (int_le (pos r.x0) x && int_lt x (pos r.x1)) && (int_le (pos r.y0)
 abbrev pub clamp_coordinate : ℕ → ℕ → ℤ → ℕ
 clamp_coordinate low high v = unsigned_abs (int_max (pos low) (int_min v (pos high -ℤ pos 1)))
 
--- the sample of a pixel outside the valid rectangle: 0 under Undefined, where no result uses it; the constant; or under Replicate
--- the nearest valid sample, with each coordinate clamped to the rectangle on its own
+-- the sample of a pixel outside the valid rectangle. Under Undefined it is 0, which no valid result
+-- uses; under Constant, the constant; under Replicate, the nearest valid sample, with each
+-- coordinate clamped to the rectangle.
 abbrev pub border_sample : ImageValue → Border → ℤ → ℤ → ℤ
 border_sample image Undefined x y = pos 0
 border_sample image (Constant value) x y = pos value
@@ -131,8 +132,8 @@ convolution_result c format f x y = clamp format (int_div (matrix_product c f x 
 
 -- ---- images
 
--- the output's valid rectangle for windows of these radii: under Undefined the pixels whose whole window is valid, otherwise that of
--- the input
+-- the output's valid rectangle for windows of these radii: under Undefined the pixels whose whole
+-- window is valid, otherwise the input's valid rectangle
 abbrev pub window_valid : Border → ℕ → ℕ → Rectangle → Rectangle
 window_valid Undefined rx ry valid = shrink_of valid rx ry
 window_valid (Constant value) rx ry valid = valid

@@ -71,7 +71,7 @@ impl Bins {
         self.range
     }
 
-    /// Returns the bin that counts a sample, or `None` if the bins don't cover it.
+    /// Returns the bin that counts a sample, or `None` if the bins don't cover the sample.
     pub fn bin_of(self, sample: u8) -> Option<u16>
         ensures value { result ≡ bin_of self sample }
         ensures below { IfSome result (λ bin. bin < self.bins) }

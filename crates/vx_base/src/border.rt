@@ -4,7 +4,7 @@
 /// `vx_border_e`).
 #[derive(Clone, Copy, PartialEq, Eq, Debug)]
 pub enum Border {
-    /// None: the output is valid only where the whole window lies in the valid rectangle.
+    /// No samples: the output is valid only where the whole window lies in the valid rectangle.
     Undefined,
     /// This sample.
     Constant(u8),

@@ -2,7 +2,7 @@
 ghost use Rattle.std.specs.Prelude.{◌≡◌};
 ghost use Rattle.vx_base.specs.Code.{code_number, code_name};
 
-/// The result of a request. The names are those of OpenVX 1.3's `vx_status_e` without `VX_` and
+/// The result of a request. The names are the names of OpenVX 1.3's `vx_status_e` without `VX_` and
 /// `VX_ERROR_`; the numbers are this project's.
 #[derive(Clone, Copy, PartialEq, Eq, Debug)]
 pub enum Code {

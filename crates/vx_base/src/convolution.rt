@@ -9,8 +9,8 @@ use std::marker::Model;
 /// The number of coefficients of the largest matrix, 9x9.
 pub const GREATEST_COEFFICIENTS: usize = 81;
 
-/// A convolution matrix for U8 images (OpenVX 1.3, `vx_convolution`): 3, 5, 7 or 9 columns and rows
-/// of S16 coefficients, and an exponent, 0 to 31, of the power of two that divides each sum.
+/// A convolution matrix for U8 images (OpenVX 1.3, `vx_convolution`). It has 3, 5, 7 or 9 columns
+/// and rows of S16 coefficients. Each sum is divided by a power of two, whose exponent is 0 to 31.
 #[derive(Debug, Drop)]
 pub struct Convolution {
     columns: u8,
@@ -36,7 +36,7 @@ impl Model for Convolution {
         (c.rows * c.columns)) };
 }
 
-/// Whether a matrix can have this number of columns or rows.
+/// Checks whether a matrix can have this number of columns or rows.
 fn is_odd_side(side: u8) -> bool
     ensures { result ≡ is_odd_side side }
 {

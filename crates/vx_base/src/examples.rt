@@ -79,7 +79,7 @@ pub fn images()
     ensures new { (new_image 2 1 S16).samples ≡ pos 0 ∷ pos 0 ∷ [] }
 {}
 
-/// Bitwise Not of the row 10 20 30 40, which is valid except at its ends.
+/// Bitwise Not of the row 0 20 30 0, which is valid except at its ends.
 pub fn not_of_a_row()
     ensures { (from_one U8 not_bits (record {
       width = 4;
@@ -137,7 +137,7 @@ pub fn accumulations()
     ensures rounded_down { accumulated_square S16 15 (pos 255) (negsuc 32767) ≡ negsuc 32766 }
 {}
 
-/// A row added to an accumulator that is valid in its left half only.
+/// A row that is valid only in its left half, added to a wholly valid accumulator.
 pub fn accumulated_row()
     ensures { (from_two S16 (accumulated_sum S16) (record {
       width = 4;
@@ -226,7 +226,7 @@ pub fn formats()
     ensures same { takes_formats ConvertDepth U8 None (Some U8) ≡ false }
 {}
 
-/// Bitwise And of a row that is valid in its left half with one that is valid in its right half.
+/// Bitwise And of two rows: one is valid in its left half, the other in its right half.
 pub fn and_of_halves()
     ensures { node_image (record {
       function = AndBits;
@@ -268,7 +268,7 @@ pub fn and_of_halves()
         } }
 {}
 
-/// A code, and nodes of Bitwise Not: a proper one, one without an output, and one with a policy
+/// A code, and three sets of fields of Bitwise Not: of a node, without an output, and with a policy
 /// that the function doesn't take.
 pub fn nodes()
     ensures number { code_number InvalidFormat ≡ 5 }
@@ -327,7 +327,7 @@ pub fn partial_descs()
     ensures converted_back { open_format ConvertDepth U8 ≡ S16 }
 {}
 
-/// A graph whose only node is removed, and the next one that is added: its number is a new one.
+/// A graph whose only node is removed: the node that is added next gets a new number.
 pub fn numbers_of_nodes()
     ensures first { (n : Node) → nodes_of (with_node new_graph n) ≡ n ∷ [] }
     ensures removed { (n : Node) → without_node (with_node new_graph n) 1

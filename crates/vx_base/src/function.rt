@@ -63,18 +63,18 @@ pub enum Function {
     AccumulateSquare,
 }
 
-/// A function's parameters, apart from its first input, which is an image, and the border.
+/// A function's parameters, other than the border and the first input, which is always an image.
 #[derive(Clone, Copy, PartialEq, Eq, Debug)]
 pub struct Parameters {
-    /// The kind of its second input, if it has one.
+    /// The kind of the second input, if the function has one.
     pub second_input: Option<Kind>,
-    /// Whether it takes an overflow policy.
+    /// Whether the function takes an overflow policy.
     pub policy: bool,
-    /// The greatest amount, if it takes one; the least is 0.
+    /// The greatest amount, if the function takes an amount; the least is 0.
     pub greatest_amount: Option<u8>,
-    /// The kind of its outputs.
+    /// The kind of the outputs.
     pub output: Kind,
-    /// Whether it has two outputs, either of which may be left out.
+    /// Whether the function has two outputs, either of which need not be given.
     pub output_pair: bool,
 }
 
@@ -168,7 +168,7 @@ impl Function {
         }
     }
 
-    /// The kind of the function's second input, if it has one.
+    /// Returns the kind of the function's second input, if it has one.
     fn second_input(self) -> Option<Kind>
         ensures { result ≡ (parameters self).second_input }
     {
@@ -189,7 +189,7 @@ impl Function {
         }
     }
 
-    /// The kind of object that the function writes.
+    /// Returns the kind of object that the function writes.
     fn output(self) -> Kind
         ensures { result ≡ (parameters self).output }
     {
@@ -208,10 +208,10 @@ impl Function {
         matches!(self, Function::Accumulate | Function::AccumulateSquare)
     }
 
-    /// Checks whether the function takes these formats: of its first input, its second input and
-    /// its output. A second input's format is that of the image, of the table's entries, of the
-    /// samples that the threshold tests or of the coefficients. `None` is an operand that is absent
-    /// or has no format.
+    /// Checks whether the function takes these formats of its first input, its second input and its
+    /// output. For a second input that isn't an image, the format is that of the table's entries,
+    /// the samples that the threshold tests, or the coefficients. `None` is an operand that is
+    /// absent or has no format.
     pub fn takes_formats(
         self,
         first: Format,
@@ -228,7 +228,7 @@ impl Function {
         }
     }
 
-    /// Whether the function writes no image and takes a first input of this format.
+    /// Checks whether the function writes no image and takes a first input of this format.
     fn measures(self, first: Format) -> bool
         ensures { result ≡ takes_formats self first None None }
     {
@@ -239,8 +239,8 @@ impl Function {
         }
     }
 
-    /// Whether the function makes an `output` image from a `first` image and no other operand with
-    /// a format.
+    /// Checks whether the function makes an `output` image from a `first` image and no other
+    /// operand with a format.
     fn makes(self, first: Format, output: Format) -> bool
         ensures { result ≡ takes_formats self first None (Some output) }
     {
@@ -263,8 +263,8 @@ impl Function {
         }
     }
 
-    /// Whether the function makes an `output` image from a `first` image and a second operand of
-    /// format `second`.
+    /// Checks whether the function makes an `output` image from a `first` image and a second
+    /// operand of format `second`.
     fn joins(self, first: Format, second: Format, output: Format) -> bool
         ensures { result ≡ takes_formats self first (Some second) (Some output) }
     {
@@ -293,8 +293,8 @@ impl Function {
 impl Function {
     ghost use Rattle.vx_base.specs.Formats.{open_format};
 
-    /// Returns the format that an output image gets if its own is open, from the format of the
-    /// node's first input. The result has no meaning for a function that writes no image.
+    /// Returns the format that an output image gets if its own format is open, given the format of
+    /// the node's first input. The result has no meaning for a function that writes no image.
     pub fn open_format(self, first: Format) -> Format
         ensures { result ≡ open_format self first }
     {
@@ -318,21 +318,21 @@ impl Function {
     }
 }
 
-/// Whether all are U8.
+/// Checks whether all three formats are U8.
 fn are_bytes(first: Format, second: Format, output: Format) -> bool
     ensures { result ≡ are_bytes first second output }
 {
     first == Format::U8 && second == Format::U8 && output == Format::U8
 }
 
-/// Whether all are U8, or all S16.
+/// Checks whether all three formats are U8, or all are S16.
 fn are_equal(first: Format, second: Format, output: Format) -> bool
     ensures { result ≡ are_equal first second output }
 {
     first == second && second == output && output != Format::U32
 }
 
-/// Whether the inputs are U8 or S16 and the output is S16, or all are U8.
+/// Checks whether the inputs are U8 or S16 and the output is S16, or all three are U8.
 fn are_arithmetic(first: Format, second: Format, output: Format) -> bool
     ensures { result ≡ are_arithmetic first second output }
 {

@@ -9,7 +9,7 @@ pub enum Kind {
     Lut,
     /// A threshold, `VX_TYPE_THRESHOLD`.
     Threshold,
-    /// A whole delay, `VX_TYPE_DELAY`. No function takes it; each of its slots is an image.
+    /// A whole delay, `VX_TYPE_DELAY`. No function takes a delay; each slot of a delay is an image.
     Delay,
     /// A convolution, `VX_TYPE_CONVOLUTION`.
     Convolution,

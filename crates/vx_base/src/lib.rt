@@ -1,10 +1,10 @@
 //! The common types of the runtime, and the definitions behind its contracts.
 //!
-//! Each type keeps its invariant by construction: a `Rect` is in canonical form, a `Desc` is within
-//! the limits, a `NodeSpec` has the parameters of its function, a `Lut` has an entry for each
-//! sample value. `specs/` has the model's first definitions: samples as whole numbers, rectangles
-//! as sets of pixels, images as tables of functions of pixels, and the formula of each vision
-//! function. `laws` states facts about these definitions, and `examples` evaluates some of them.
+//! Each type keeps its invariant by construction. A `Rect` is in canonical form, a `Desc` is within
+//! the limits, a `NodeSpec` has the parameters of its function, and a `Lut` has an entry for each
+//! sample value. `specs/` has the model's first definitions. Samples are whole numbers, rectangles
+//! are sets of pixels, and images are tables of functions of pixels; each vision function has its
+//! formula. `laws` states facts about these definitions, and `examples` evaluates some of them.
 #![tactic(auto)]
 
 mod bins;
@@ -53,7 +53,7 @@ pub use picture::Picture;
 pub use policy::Policy;
 pub use rect::Rect;
 pub use reference::ObjRef;
-pub use samples::{Samples, prove_shorts};
+pub use samples::{Samples, prove_bytes, prove_shorts};
 pub use slots::{GREATEST_SLOTS, SlotCount};
 pub use threshold::{ThresholdKind, ThresholdRule};
 pub use virtual_image::VirtualImage;

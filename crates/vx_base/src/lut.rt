@@ -34,7 +34,8 @@ impl Model for Lut {
 impl Lut {
     ghost use Rattle.vx_base.specs.Lut.{LutValue, IsLut};
 
-    /// Returns the table with these entries, or `None` unless there are 256 of U8 or 65,536 of S16.
+    /// Returns the table with these entries, or `None` unless these are 256 U8 entries or 65,536
+    /// S16 entries.
     pub fn new(entries: Samples) -> Option<Lut>
         ensures { result ≡ (if is_full (samples_format entries) (length (values entries)) then Some
             (record { format = samples_format entries; entries = values entries }) else None) }
@@ -45,7 +46,7 @@ impl Lut {
         Some(Lut::of(entries))
     }
 
-    /// Returns the table with these entries, 256 of U8 or 65,536 of S16.
+    /// Returns the table with these entries: 256 U8 entries or 65,536 S16 entries.
     pub fn of(entries: Samples) -> Lut
         requires { IsTrue (is_full (samples_format entries) (length (values entries))) }
         ensures { result ≡ record { format = samples_format entries; entries = values entries } }

@@ -32,8 +32,8 @@ impl Model for PartialDesc {
 }
 
 impl PartialDesc {
-    /// Returns the partial description with these parts, where `None` is an open part, or `None` if
-    /// a given side isn't 1 to 8192.
+    /// Returns the partial description with these parts; a part that is `None` is open. Returns
+    /// `None` if a given side isn't 1 to 8192.
     pub fn new(
         width: Option<u16>,
         height: Option<u16>,
@@ -116,7 +116,7 @@ impl PartialDesc {
     }
 }
 
-/// Whether a width or height is open or permitted.
+/// Checks whether a width or height is open or permitted.
 fn may_be_side(side: Option<u16>) -> bool
     ensures { result ≡ may_be_side side }
 {

@@ -4,8 +4,8 @@
 /// `vx_convert_policy_e`).
 #[derive(Clone, Copy, PartialEq, Eq, Debug)]
 pub enum Policy {
-    /// The sample that agrees with it modulo the size of the range.
+    /// To the sample that agrees with the number modulo the size of the range.
     Wrap,
-    /// The nearest sample.
+    /// To the sample nearest to the number.
     Saturate,
 }

@@ -1,6 +1,7 @@
 //! Rectangles of pixels.
 ghost use Rattle.std.specs.Prelude.{◌≡◌};
-ghost use Rattle.vx_base.specs.Rectangle.{rectangle, empty_rectangle, meet_of, shrink_of};
+ghost use Rattle.vx_base.specs.Rectangle.{rectangle, rectangle_or_empty, empty_rectangle, meet_of};
+ghost use Rattle.vx_base.specs.Rectangle.{shrink_of};
 ghost use Rattle.vx_base.specs.Rectangle.{IsRectangle, IsOrdered};
 
 use std::marker::Model;
@@ -42,6 +43,17 @@ impl Rect {
         }
     }
 
+    /// Returns the rectangle with these bounds, or the empty one if they include no pixel.
+    fn new_or_empty(x0: u16, y0: u16, x1: u16, y1: u16) -> Rect
+        ensures { result ≡ rectangle_or_empty x0 y0 x1 y1 }
+    {
+        if x0 < x1 && y0 < y1 {
+            Rect { x0, y0, x1, y1 }
+        } else {
+            Rect::empty()
+        }
+    }
+
     /// Returns the empty rectangle.
     pub fn empty() -> Rect
         ensures { result ≡ empty_rectangle }
@@ -68,25 +80,18 @@ impl Rect {
     {
         let (x0, x1) = (self.x0.max(other.x0), self.x1.min(other.x1));
         let (y0, y1) = (self.y0.max(other.y0), self.y1.min(other.y1));
-        if x0 < x1 && y0 < y1 {
-            Rect { x0, y0, x1, y1 }
-        } else {
-            Rect::empty()
-        }
+        Rect::new_or_empty(x0, y0, x1, y1)
     }
 
     /// Returns the pixels whose window, of radius `rx` across and `ry` down, lies wholly in this
-    /// rectangle: the valid rectangle of a window function's output under an undefined border.
+    /// rectangle. Under an undefined border this is the valid rectangle of a window function's
+    /// output.
     pub fn shrink(self, rx: u16, ry: u16) -> Rect
         ensures { result ≡ shrink_of self rx ry }
     {
         let (x0, x1) = (self.x0.saturating_add(rx), self.x1.saturating_sub(rx));
         let (y0, y1) = (self.y0.saturating_add(ry), self.y1.saturating_sub(ry));
-        if x0 < x1 && y0 < y1 {
-            Rect { x0, y0, x1, y1 }
-        } else {
-            Rect::empty()
-        }
+        Rect::new_or_empty(x0, y0, x1, y1)
     }
 
     /// Returns the first column.

@@ -4,8 +4,8 @@ ghost use Rattle.std.specs.Option.{ForSome};
 
 use std::marker::Model;
 
-/// A reference to the object with this name in the client's context, or to slot k of the delay with
-/// this name: the image k places behind the newest.
+/// A reference to the object with this name in the client's context, or to a slot of the delay with
+/// this name. Slot 0 has the newest image, slot 1 the image before it, and so on.
 #[derive(Clone, Copy, PartialEq, Eq, Debug)]
 pub struct ObjRef {
     name: u32,
@@ -30,8 +30,8 @@ impl ObjRef {
     ghost use Rattle.vx_base.specs.Reference.{IsReference};
     ghost use Rattle.vx_base.specs.Node.{is_nothing};
 
-    /// Returns the reference to the object of this name, or to one of its slots. A slot is below
-    /// 255.
+    /// Returns the reference to the object of this name, or to a slot of the delay of this name. A
+    /// slot is below 255.
     pub fn new(name: u32, slot: Option<u8>) -> ObjRef
         requires { ForSome slot (λ k. k < 255) }
         ensures { result ≡ record { name = name; slot = slot } }
@@ -63,7 +63,7 @@ impl ObjRef {
         let _parts = (self.name, self.slot);
     }
 
-    /// Checks whether the reference is name 0 without a slot, which no operand may be.
+    /// Checks whether the reference is name 0 without a slot. No operand may be this reference.
     pub fn is_nothing(self) -> bool
         ensures { result ≡ is_nothing self }
     {

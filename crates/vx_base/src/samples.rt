@@ -1,5 +1,5 @@
 //! Samples of whole images.
-ghost use Rattle.std.specs.Prelude.{◌≡◌, [], length, map, pos, replicate, IfOk, All};
+ghost use Rattle.std.specs.Prelude.{◌≡◌, ◌<◌, ◌^◌, [], length, map, pos, replicate, IfOk, All};
 ghost use Rattle.vx_base.specs.declared.format.Format.TheVariants.{U8, S16, U32};
 ghost use Rattle.vx_base.specs.Sample.{IsSample};
 ghost use Rattle.vx_base.specs.Picture.{values, samples_format};
@@ -41,7 +41,7 @@ impl Samples {
         }
     }
 
-    /// Overwrites the samples with others of the same format and number.
+    /// Overwrites the samples with the samples of `other`, which have the same format and number.
     pub fn copy_from(&mut self, other: &Samples)
         requires format { samples_format self.old ≡ samples_format other.now }
         requires len { length (values self.old) ≡ length (values other.now) }
@@ -56,7 +56,7 @@ impl Samples {
         }
     }
 
-    /// Takes the samples out and leaves none, so that they can be written elsewhere. Allocates
+    /// Takes all samples out, so that they can be written elsewhere; none remain. Allocates
     /// nothing.
     pub fn take(&mut self) -> Samples
         ensures format { samples_format result ≡ samples_format self.old }
@@ -93,8 +93,8 @@ impl Samples {
         }
     }
 
-    /// Proves that each is a sample of the format. The prover learns the range of a signed number
-    /// only where it is read; at run time this does nothing.
+    /// Proves that each item is a sample of the format. The prover learns the range of a signed
+    /// number only where it is read; at run time this does nothing.
     pub fn prove_samples(&self)
         ensures { All (IsSample (samples_format self.now)) (values self.now) }
     {
@@ -106,7 +106,7 @@ impl Samples {
     }
 }
 
-/// Takes the items out of a vector, which is left empty.
+/// Takes all items out of a vector, which is then empty.
 fn take_all<T: Drop>(samples: &mut Vec<T>) -> Vec<T>
     ensures value { result.items ≡ samples.old.items }
     ensures left { samples.new.items ≡ [] }
@@ -115,8 +115,10 @@ fn take_all<T: Drop>(samples: &mut Vec<T>) -> Vec<T>
     mem::replace(samples, empty)
 }
 
-fn prove_bytes(samples: &[u8])
-    ensures { All (IsSample U8) (map pos samples.now) }
+/// Proves that each item is a byte, and so a U8 sample. At run time this does nothing.
+pub fn prove_bytes(samples: &[u8])
+    ensures bytes { All (λ byte. byte < 2 ^ 8) samples.now }
+    ensures samples { All (IsSample U8) (map pos samples.now) }
 {}
 
 fn prove_words(samples: &[u32])
@@ -124,7 +126,7 @@ fn prove_words(samples: &[u32])
 {}
 
 /// Proves that each item is an S16 sample. The prover learns the range of a signed number only
-/// where it is read, so an otherwise empty loop reads each one; the compiler removes it.
+/// where it is read, so an otherwise empty loop reads each one; the compiler removes the loop.
 pub fn prove_shorts(samples: &[i16])
     ensures { All (IsSample S16) samples.now }
 {

@@ -14,8 +14,8 @@ pub enum ThresholdKind {
     Range(i16, i16),
 }
 
-/// A threshold for U8 or S16 samples: the comparison, and the output for samples that pass and for
-/// those that don't (OpenVX 1.3, `vx_threshold`).
+/// A threshold for U8 or S16 samples: the comparison, the output for samples that pass, and the
+/// output for samples that don't (OpenVX 1.3, `vx_threshold`).
 #[derive(Clone, Copy, PartialEq, Eq, Debug)]
 pub struct ThresholdRule {
     format: Format,
@@ -49,7 +49,7 @@ impl Model for ThresholdRule {
 
 impl ThresholdRule {
     /// Returns the threshold for samples of this format. `None` if the format isn't U8 or S16, a
-    /// limit isn't a sample of it, or the upper limit is below the lower.
+    /// limit isn't a sample of that format, or the upper limit is below the lower.
     pub fn new(
         format: Format,
         kind: ThresholdKind,
@@ -88,7 +88,7 @@ impl ThresholdRule {
         }
     }
 
-    /// Returns the format of the samples that it tests.
+    /// Returns the format of the samples that the threshold tests.
     pub fn format(self) -> Format
         ensures value { result ≡ self.format }
         ensures threshold { IsThreshold self }
@@ -122,7 +122,7 @@ impl ThresholdRule {
     }
 }
 
-/// Whether a threshold of this format may have these limits.
+/// Checks whether a threshold of this format may have these limits.
 fn has_limits(format: Format, kind: ThresholdKind) -> bool
     ensures { result ≡ has_limits format kind }
 {

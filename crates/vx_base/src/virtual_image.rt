@@ -5,8 +5,8 @@ use crate::partial_desc::PartialDesc;
 /// `vxCreateVirtualImage`).
 #[derive(Clone, Copy, PartialEq, Eq, Debug)]
 pub struct VirtualImage {
-    /// The name of its graph. The graph may have been released.
+    /// The name of the image's graph. The graph may have been released.
     pub graph: u32,
-    /// The declared part of its description.
+    /// The declared part of the image's description.
     pub declared: PartialDesc,
 }

@@ -1,9 +1,8 @@
 -- A value that is read has one encoding: the bytes that it was read from.
 use Rattle.std.proofs.Common.{◌≡◌, ℕ, ◌+◌, ◌*◌, ◌<◌, ◌≤◌, nat_le, nat_lt, length, take, drop, sym, take-append-drop, length-take-le, ◌^◌, ◌%◌, ◌/◌, ◌==◌, List, [], ◌∷◌, ◌++◌, Option, Some, None, Result, Ok, Err, Bool, true, false, ◌⊎◌, inl, inr, IsTrue, if◌then◌else◌, unwrap_or, arith, refl, ap, subst, ◌∙◌, append_assoc, All, IfSome, eqb-true, leb-true}
 use Rattle.vx_wire.proofs.Common.{nat_tests, w16, w32, to_be_bytes, All-head, All-tail, All-take, All-drop, U8, S16, U32, IsReference, is_side, IsDescription, may_be_side, IsPartialDescription, is_slot_count, IsRectangle, are_bins, BodyFault, InvalidParameters, InvalidFormat, InvalidDimension, InvalidValue, FieldResult, and_then, allowed_or_fault, take_byte, take_short, take_long, take_bytes, take_format, format_number, open_format_number, take_open_format, take_side, take_description, description_bytes, open_side_number, open_side_numbered, take_open_side, take_partial_desc, partial_desc_bytes, slot_numbered, take_reference, reference_bytes, take_slots, take_rectangle, rectangle_bytes, is_up_to_256, take_bins, bins_bytes}
-use Rattle.vx_base.specs.Rectangle.{rectangle}
+use Rattle.vx_base.specs.Rectangle.{rectangle, is_rectangle}
 use Rattle.std.proofs.lemmas.Option.{cond_some}
-use Rattle.vx_base.specs.Rectangle.{is_rectangle}
 use Rattle.vx_wire.specs.Format.{format_numbered, open_format_numbered}
 use Rattle.vx_wire.proofs.NodeShape.{both}
 use Rattle.vx_wire.proofs.Numbers.{number_is}

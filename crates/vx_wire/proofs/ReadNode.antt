@@ -1,9 +1,8 @@
 -- A node that is read has one spelling.
 use Rattle.std.proofs.Common.{◌≡◌, ℕ, ◌<◌, ◌==◌, List, [], ◌∷◌, ◌++◌, Option, Some, None, Bool, true, false, not, ◌&&◌, ◌||◌, IsTrue, if◌then◌else◌, nat_le, is_none, unwrap_or, arith, refl, ap, subst, ◌∙◌, append_assoc, All, IfSome, eqb-true, le-leb}
 use Rattle.vx_wire.proofs.Common.{All-nil, All-cons, with_number, Border, Undefined, Constant, Replicate, Policy, Wrap, Saturate, Function, Parameters, Node, function_number, function_numbered, parameters, Reference, IsReference, is_nothing, is_wrap, IsBorder, IsNode, InvalidParameters, InvalidValue, Presence, Required, Absent, Free, reference_bytes, operand, take_operand, second_input, first_output, second_output, take_operands, take_first_input, is_operand, operand_bytes, take_function, take_border, take_policy, amount_allowed, take_node, border_bytes, policy_number, node_bytes}
-use Rattle.vx_wire.specs.Node.{take_amount}
+use Rattle.vx_wire.specs.Node.{take_amount, border_mode, border_constant, border_with, policies}
 use Rattle.vx_wire.proofs.Numbers.{found_passes, found_each, number_is}
-use Rattle.vx_wire.specs.Node.{border_mode, border_constant, border_with, policies}
 use Rattle.vx_wire.proofs.NodeShape.{both_of, is_node-from_parameters}
 use Rattle.vx_wire.proofs.FunctionNumbers.{number_of_function}
 use Rattle.vx_wire.proofs.ReadFields.{if_none, Reads, then_reads, made_of, made, one_made, passed, byte_reads, cell_reads}

@@ -6,7 +6,7 @@ pub enum BodyFault {
     /// The op is unknown, a field is cut short or has a value that isn't allowed, or bytes follow
     /// the last field.
     InvalidParameters,
-    /// A number isn't that of a format, or a table or a threshold can't have the format.
+    /// A number isn't a format, or it is a format that a table or a threshold can't have.
     InvalidFormat,
     /// A width or a height isn't 1 to 8192 (or 0, where it may be open), or the number of columns
     /// or rows of a convolution isn't 3, 5, 7 or 9.

@@ -16,7 +16,7 @@ pub enum ParseFault {
     /// the last field.
     #[error("invalid parameters")]
     InvalidParameters,
-    /// A number isn't that of a format, or a table or a threshold can't have the format.
+    /// A number isn't a format, or it is a format that a table or a threshold can't have.
     #[error("invalid format")]
     InvalidFormat,
     /// A width or a height isn't 1 to 8192 (or 0, where it may be open), or the number of columns

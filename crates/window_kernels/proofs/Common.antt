@@ -18,5 +18,5 @@ pub use Rattle.vx_base.specs.Sample.{clamp}
 pub use Rattle.vx_base.specs.Window.{convolution_result, gradient_x, gradient_y, sample_or_border, median, nine_around, window_valid}
 pub use Rattle.vx_base.specs.declared.border.Border.{Border}
 pub use Rattle.vx_base.specs.declared.format.Format.TheVariants.{S16, U8}
-pub use Rattle.window_kernels.specs.Rotated.{rotated_coefficient, rotated_pairs}
+pub use Rattle.window_kernels.specs.Rotated.{rotated_coefficient, rotated_pair}
 pub use borrow.Rule.Slice.PartMut.{put_mid}

@@ -24,7 +24,7 @@ module _ (op : ℤ → ℤ → ℤ) (assoc : (x y z : ℤ) → op x (op y z) ≡
       ∙ ap (λ z. op z (op (op g h) i)) (one_after_another (op (op a b) c) d e f)
       ∙ one_after_another (op (op (op (op (op a b) c) d) e) f) g h i
 
--- the least of nine, column by column, is the least of all
+-- the least of nine samples, chosen column by column, is the least of all nine
 pub column_least_is_least : (a b c d e f g h i : ℤ) → int_min (int_min (int_min (int_min a d) g) (int_min (int_min b e) h)) (int_min (int_min c f) i) ≡ least_of (a ∷ b ∷ c ∷ d ∷ e ∷ f ∷ g ∷ h ∷ i ∷ [])
 column_least_is_least = by_columns int_min assoc turned
   where
@@ -34,7 +34,7 @@ column_least_is_least = by_columns int_min assoc turned
     turned : (x y z u : ℤ) → int_min (int_min x y) (int_min z u) ≡ int_min (int_min x z) (int_min y u)
     turned x y z u = grind (arith, ints)
 
--- the greatest of nine, column by column, is the greatest of all
+-- the greatest of nine samples, chosen column by column, is the greatest of all nine
 pub column_greatest_is_greatest : (a b c d e f g h i : ℤ) → int_max (int_max (int_max (int_max a d) g) (int_max (int_max b e) h)) (int_max (int_max c f) i) ≡ greatest_of (a ∷ b ∷ c ∷ d ∷ e ∷ f ∷ g ∷ h ∷ i ∷ [])
 column_greatest_is_greatest = by_columns int_max assoc turned
   where
@@ -44,19 +44,19 @@ column_greatest_is_greatest = by_columns int_max assoc turned
     turned : (x y z u : ℤ) → int_max (int_max x y) (int_max z u) ≡ int_max (int_max x z) (int_max y u)
     turned x y z u = grind (arith, ints)
 
--- the x gradient from the right column less the left one
+-- the x gradient is the weighted sum of the right column minus that of the left column
 pub x_is_x : (a b c d e f g h i : ℤ) → (c +ℤ pos 2 *ℤ f +ℤ i) -ℤ (a +ℤ pos 2 *ℤ d +ℤ g) ≡ gradient_x (a ∷ b ∷ c ∷ d ∷ e ∷ f ∷ g ∷ h ∷ i ∷ [])
 x_is_x a b c d e f g h i = omega (arith, ints)
 
--- the y gradient from the differences of three columns
+-- the y gradient is the weighted sum of the differences down three columns
 pub y_is_y : (a b c d e f g h i : ℤ) → ((g -ℤ a) +ℤ pos 2 *ℤ (h -ℤ b)) +ℤ (i -ℤ c) ≡ gradient_y (a ∷ b ∷ c ∷ d ∷ e ∷ f ∷ g ∷ h ∷ i ∷ [])
 y_is_y a b c d e f g h i = omega (arith, ints)
 
--- the mean of nine from the sums of three columns
+-- the mean of nine samples, computed from the sums of three columns
 pub box_is_box : (a b c d e f g h i : ℤ) → int_div_euclid ((a +ℤ d +ℤ g) +ℤ (b +ℤ e +ℤ h) +ℤ (c +ℤ f +ℤ i)) (pos 9) ≡ box_mean (a ∷ b ∷ c ∷ d ∷ e ∷ f ∷ g ∷ h ∷ i ∷ [])
 box_is_box a b c d e f g h i = ap (λ z. int_div_euclid z (pos 9)) (omega (arith, ints))
 
--- the Gaussian mean from the weighted sums of three columns
+-- the Gaussian mean, computed from the weighted sums of three columns
 pub gaussian_is_gaussian : (a b c d e f g h i : ℤ) → int_div_euclid ((a +ℤ pos 2 *ℤ d +ℤ g) +ℤ pos 2 *ℤ (b +ℤ pos 2 *ℤ e +ℤ h) +ℤ (c +ℤ pos 2 *ℤ f +ℤ i)) (pos 16) ≡ gaussian_mean (a ∷ b ∷ c ∷ d ∷ e ∷ f ∷ g ∷ h ∷ i ∷ [])
 gaussian_is_gaussian a b c d e f g h i = ap (λ z. int_div_euclid z (pos 16)) (omega (arith, ints))
 
@@ -68,16 +68,18 @@ pub record AreBytesTaken (down across : ℤ → Type 0) (formula : ℤ → ℤ �
   pub columns : (a b c : ℕ) → a < 256 → b < 256 → c < 256 → across (formula (pos a) (pos b) (pos c))
   pub zero : across (pos 0)
 
--- any numbers, with nothing to show
+-- functions that take all numbers
 pub all_taken : {f : ℤ → ℤ → ℤ → ℤ} → AreBytesTaken (λ _. Unit {0}) (λ _. Unit {0}) f
 all_taken = record { bytes = λ _ _. tt; columns = λ _ _ _ _ _ _. tt; zero = tt }
 
--- sums of three bytes, and of three such sums, are in range
+-- bytes are in the range of the sum down a column, and such sums are in the range of the mean
+-- across
 pub sums_taken : AreBytesTaken (IsUpTo 8191) (IsUpTo 765) (λ a b c. a +ℤ b +ℤ c)
 sums_taken =
     record { bytes = λ n p. (omega (arith, ints), omega (arith, ints, p)); columns = λ a b c p q r. (omega (arith, ints), omega (arith, ints, p, q, r)); zero = (omega (arith, ints), omega (arith, ints)) }
 
--- so are the sums with the weights 1, 2 and 1
+-- bytes are in the range of the weighted sum down a column, and such sums are in the range of the
+-- weighted mean across
 pub weighted_sums_taken : AreBytesTaken (IsUpTo 8191) (IsUpTo 1020) (λ a b c. a +ℤ pos 2 *ℤ b +ℤ c)
 weighted_sums_taken =
     record { bytes = λ n p. (omega (arith, ints), omega (arith, ints, p)); columns = λ a b c p q r. (omega (arith, ints), omega (arith, ints, p, q, r)); zero = (omega (arith, ints), omega (arith, ints)) }

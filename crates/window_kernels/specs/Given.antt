@@ -6,7 +6,7 @@ use Rattle.vx_base.specs.Image.{ImageValue}
 use Rattle.image_core.specs.declared.image_mut.ImageMut.{ImageMut}
 use Rattle.image_core.specs.Target.{Writes}
 
--- an output that is given gets the value
+-- if an output is given, the image `value` is written to it
 abbrev pub WritesGiven : ImageValue → Option (MutBor ImageMut) → Unit {0} ⊎ ((MutBor ImageMut × Unit {0}) ⊎ ⊥) → Type 0
 WritesGiven value (Some old) (inr (inl new)) = Writes value old.now new.0.now
 WritesGiven value (Some old) _ = ⊥

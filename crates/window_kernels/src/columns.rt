@@ -5,9 +5,9 @@ ghost use Rattle.window_kernels.specs.ByColumns.{AreBytesTaken};
 use crate::windows::{OfWindow, SampleItem};
 use lane_rows::{Item, OfColumn, ThreeItems};
 
-/// A function across three columns, of the results of `D` down each.
+/// A function across the three results that `D` gives down the columns.
 pub trait Across<S: Item, T: Item, D: OfColumn<u8, S>>: OfColumn<S, T> {
-    /// The same function of the nine samples, in row-major order.
+    /// The combined function of the nine samples, in row-major order.
     ghost of_nine: { List ℤ → ℤ };
 
     ghost is_of_nine: { (a b c d e f g h i : ℤ) →
@@ -17,7 +17,7 @@ pub trait Across<S: Item, T: Item, D: OfColumn<u8, S>>: OfColumn<S, T> {
     ghost takes_bytes: { AreBytesTaken D.takes Self.takes D.formula };
 }
 
-/// A window function from one function down the columns, and one across their results.
+/// A window function made of a function down the columns and a function across their results.
 #[derive(Drop)]
 pub struct ByColumns<D, A>(pub D, pub A);
 

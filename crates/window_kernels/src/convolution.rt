@@ -13,7 +13,7 @@ ghost use Rattle.image_core.specs.Target.{target_image, IsTarget, Writes};
 ghost use Rattle.window_kernels.specs.declared.pieces.TheConstants.{PIECE_WIDTH};
 ghost use Rattle.window_kernels.specs.Fits.{ConvolutionFits};
 ghost use Rattle.lane_rows.specs.Pairs.{IsNear, alternation};
-ghost use Rattle.window_kernels.specs.Rotated.{rotated_coefficient, rotated_pairs, rotated_tables};
+ghost use Rattle.window_kernels.specs.Rotated.{rotated_coefficient, rotated_tables};
 
 use crate::pieces::PIECE_WIDTH;
 use crate::windows::SampleItem;
@@ -35,7 +35,7 @@ impl Convolved for i16 {
     ghost same_format = { refl };
 }
 
-/// A coefficient of a row with the columns reversed, 0 after the last column.
+/// Returns a coefficient of a row with the columns reversed, or 0 after the last column.
 fn rotated_coefficient(convolution: &Convolution, row: usize, column: usize) -> i16
     requires { row < convolution.now.rows }
     ensures { result ≡ rotated_coefficient convolution.now row column }
@@ -57,41 +57,17 @@ fn write_pair(first: i16, second: i16, out: &mut [i16])
     out.copy_from_slice(&[a, b, a, b, a, b, a, b, a, b, a, b, a, b, a, b]);
 }
 
-/// Writes the coefficient pairs of a row with the columns reversed, each pair eight times.
-fn write_pairs(convolution: &Convolution, row: usize, pairs: &mut [i16])
-    requires row { row < convolution.now.rows }
-    requires len { length pairs.old ≡ 16 * (convolution.now.columns / 2 + 1) }
-    ensures value { pairs.new ≡ run 0 (length pairs.old) (rotated_pairs convolution.now row) }
-    ensures fits { Each1 (FitsSigned w16) pairs.new }
-{
-    for j in 0..usize::from(convolution.columns()) / 2 + 1 {
-        let first = rotated_coefficient(convolution, row, 2 * j);
-        let second = rotated_coefficient(convolution, row, 2 * j + 1);
-        write_pair(first, second, &mut pairs[16 * j..16 * j + 16]);
-    }
-}
-
-/// Writes the table of a row: its coefficient pairs, then zeros.
-fn write_table(convolution: &Convolution, row: usize, table: &mut [i16])
-    requires row { row < convolution.now.rows }
-    requires len { length table.old ≡ 80 }
-    ensures value { table.new ≡ run 0 80 (rotated_pairs convolution.now row) }
-    ensures fits { Each1 (FitsSigned w16) table.new }
-{
-    let count = usize::from(convolution.columns()) / 2 + 1;
-    let (pairs, rest) = table.split_at_mut(16 * count);
-    write_pairs(convolution, row, pairs);
-    rest.fill(0);
-}
-
-/// Writes the tables of all rows of a matrix.
+/// Writes the tables of all rows of a matrix: five coefficient pairs for each row.
 fn write_tables(convolution: &Convolution, tables: &mut [i16])
     requires { length tables.old ≡ convolution.now.rows * 80 }
     ensures value { tables.new ≡ rotated_tables convolution.now }
     ensures fits { All (FitsSigned w16) tables.new }
 {
-    for row in 0..usize::from(convolution.rows()) {
-        write_table(convolution, row, &mut tables[80 * row..80 * row + 80]);
+    for k in 0..5 * usize::from(convolution.rows()) {
+        let (row, column) = (k / 5, k % 5 * 2);
+        let first = rotated_coefficient(convolution, row, column);
+        let second = rotated_coefficient(convolution, row, column + 1);
+        write_pair(first, second, &mut tables[16 * k..16 * k + 16]);
     }
 }
 
@@ -233,7 +209,7 @@ fn write_convolved<T: Convolved>(
 
 /// `with_rows!(width, rows => call)` makes the call with `rows`, scratch memory on the stack: nine
 /// rows of a piece, halo included, for an image of this width. The memory is zeroed once; a narrow
-/// image gets less of it.
+/// image gets less memory.
 macro_rules! with_rows {
     ($width:expr, $rows:ident => $call:expr) => {
         if $width <= 64 {
@@ -249,7 +225,7 @@ macro_rules! with_rows {
     };
 }
 
-/// Writes the convolution to a U8 or S16 output.
+/// Writes the convolution of a U8 image to a U8 or S16 image of its size.
 fn convolve_with(
     image: &Image<'_>,
     convolution: &Convolution,

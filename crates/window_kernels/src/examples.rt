@@ -59,7 +59,8 @@ pub fn boxes()
         ≡ pos 152 ∷ pos 152 ∷ pos 152 ∷ pos 152 ∷ [] }
 {}
 
-/// Erosion and dilation of a row whose ends are not valid: these are not read, and stay 0.
+/// Erosion and dilation of a row whose ends are not valid: the ends are not read, and are 0 in the
+/// output.
 pub fn valid_edges()
     ensures least { (from_nine U8 least_of Replicate row_of_four).samples
         ≡ pos 0 ∷ pos 20 ∷ pos 20 ∷ pos 0 ∷ [] }
@@ -67,18 +68,18 @@ pub fn valid_edges()
         ≡ pos 0 ∷ pos 30 ∷ pos 30 ∷ pos 0 ∷ [] }
 {}
 
-/// The horizontal gradient at the only pixel whose window is whole.
+/// The horizontal gradient at the only pixel whose whole window is in the image.
 pub fn gradients()
     ensures { from_nine S16 gradient_x Undefined three_by_three ≡ at_centre S16 (pos 8) }
 {}
 
-/// A matrix whose only coefficient is 1 in its upper left corner gives the sample to the lower
-/// right.
+/// A matrix with 1 in its upper left corner and 0 elsewhere gives each pixel the sample to its
+/// lower right.
 pub fn rotated_matrix()
     ensures { from_matrix U8 upper_left Undefined three_by_three ≡ at_centre U8 (pos 9) }
 {}
 
-/// A matrix with -3 at its centre on an image of one sample, 1: -3 / 2 is rounded toward zero and
+/// A matrix with -3 at its centre, on an image of one sample, 1. -3 / 2 is rounded toward zero and
 /// clamped to each format, and -3 / 2^31 is 0.
 pub fn scaled_sums()
     ensures to_zero { (from_matrix S16 (minus_three 1) Replicate single).samples ≡ negsuc 0 ∷ [] }

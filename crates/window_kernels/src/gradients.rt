@@ -52,7 +52,7 @@ fn sobel_y3(image: &Image<'_>, output: &mut ImageMut<'_>, border: Border)
 }
 
 /// Writes the horizontal and the vertical gradient of a U8 image (OpenVX 1.3, "Sobel 3x3"), each to
-/// an S16 image of its own, if that is given.
+/// an S16 output of the image's size. An output that isn't given isn't computed.
 pub fn sobel3(
     image: &Image<'_>,
     output_x: Option<&mut ImageMut<'_>>,

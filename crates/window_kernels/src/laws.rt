@@ -20,7 +20,7 @@ pub fn valid_pixels()
         sample_or_border image border (pos x) (pos y) ≡ pixel_at image x y }
 {}
 
-/// `clamp_coordinate` gives the number from `low` to `high - 1` that is nearest.
+/// `clamp_coordinate` gives the number from `low` to `high - 1` that is nearest to `v`.
 pub fn nearest_number()
     ensures within { (low high : ℕ) (v : ℤ) → low < high → (low ≤ clamp_coordinate low high v) ×
         (clamp_coordinate low high v < high) }
@@ -28,8 +28,8 @@ pub fn nearest_number()
         distance v (pos (clamp_coordinate low high v)) ≤ distance v (pos n) }
 {}
 
-/// Nine numbers have exactly one median: it is among them, at most four are smaller, and at most
-/// four are greater.
+/// Nine numbers have exactly one median: one of the nine such that at most four are smaller and at
+/// most four are greater.
 pub fn median_of_nine()
     ensures among { (a b c d e f g h i : ℤ) →
         let zs = a ∷ b ∷ c ∷ d ∷ e ∷ f ∷ g ∷ h ∷ i ∷ [] in Contains zs (median zs) }
@@ -44,7 +44,7 @@ pub fn median_of_nine()
 {}
 
 /// The result of a 3x3 window function on a U8 image is a well-formed image of the output's format,
-/// and so is that of a convolution.
+/// and so is the result of a convolution.
 pub fn window_results_are_images()
     ensures box_means { (border : Border) (a : ImageValue) → IsBorder border → IsImage a →
         a.format ≡ U8 → IsImage (from_nine U8 box_mean border a) }

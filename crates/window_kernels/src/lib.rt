@@ -1,13 +1,14 @@
 //! Window functions: each output sample depends on the input samples around the same pixel.
 //!
-//! Each writes a whole output: the formula of OpenVX 1.3 where the border mode makes the output
-//! valid, 0 elsewhere.
+//! Each function writes a whole output: the formula of OpenVX 1.3 where the border mode makes the
+//! output valid, 0 elsewhere.
 //!
-//! A 3x3 window function is an `OfWindow`; `write_windows` proves once that any of them writes a
-//! whole image. The windows in the middle of a row lie in valid columns, so lane kernels of
-//! lane_rows read the three rows without a copy. The median reads nine shifted slices. The others
-//! go down the columns and then across three of the results (`columns`). The first and the last
-//! sample of a row, whose windows may reach beyond the valid columns, are computed one by one.
+//! A 3x3 window function is an `OfWindow`; `write_windows` proves once that any such function
+//! writes a whole image. The windows in the middle of a row lie in valid columns, so lane kernels
+//! of lane_rows read the three rows without a copy. The median reads nine shifted slices. The other
+//! functions go down the columns and then across three of the results (`columns`). The first and
+//! the last sample of a row, whose windows may reach beyond the valid columns, are computed one by
+//! one.
 //!
 //! `convolve` loads what the windows of a piece of a row read, border included, for the lane kernel
 //! `MatrixRows`. Pieces have a greatest width (`pieces`), so the scratch memory doesn't grow with

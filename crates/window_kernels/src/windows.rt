@@ -32,7 +32,7 @@ pub trait OfWindow<T: Sample, S> {
     /// The output sample, from the nine samples in row-major order.
     ghost formula: { Self → List ℤ → ℤ };
 
-    /// The number of scratch items that it needs for each column of three rows.
+    /// The number of scratch items that the function needs for each column of three rows.
     ghost room: { ℕ };
 
     /// Returns the output sample of one window.
@@ -197,8 +197,8 @@ fn write_windows_with_rows<T: Sample, S, K: OfWindow<T, S>>(
 pub const SIDE: usize = GREATEST_SIDE as usize;
 
 /// `with_scratch!(count, [item; most], row => call)` makes the call with `row`, a slice of at least
-/// `count` and at most `most` items on the stack. It is initialized once; a small image gets a
-/// small one.
+/// `count` and at most `most` items on the stack. The slice is initialized once; a small image gets
+/// a short slice.
 macro_rules! with_scratch {
     ($count:expr, [$item:expr; $most:expr], $row:ident => $call:expr) => {
         if $count <= 64 {
@@ -216,8 +216,8 @@ macro_rules! with_scratch {
 
 pub(crate) use with_scratch;
 
-/// Writes the results of a window function on a U8 image to another one of its size. The row of the
-/// border's samples is on the stack.
+/// Writes the results of a window function on a U8 image to another image of its size. The row of
+/// the border's samples is on the stack.
 pub fn write_windows<T: Sample, S, K: OfWindow<T, S>>(
     kernel: &K,
     image: &Image<'_>,

@@ -3,7 +3,7 @@ comments."""
 
 from typing import Iterator
 
-from . import comments, definitions, links, names, prose, surface, tree
+from . import comments, definitions, links, merges, names, prose, surface, tree
 
 
 def pages() -> Iterator[str]:
@@ -30,6 +30,9 @@ def found() -> Iterator[str]:
             yield f"{path}:{line}: the link to {target} leads nowhere"
         for line, wrong in prose.faults(tree.read(path)):
             yield f"{path}:{line}: {wrong}"
+    for path in filter(merges.is_text, sorted(tree.files())):
+        for line in merges.marks(tree.read(path)):
+            yield f"{path}:{line}: an unfinished merge: decide between its two sides"
     for path in filter(comments.is_read, sorted(tree.files())):
         for line, wrong in comments.faults(path, tree.read(path)):
             yield f"{path}:{line}: {wrong}"

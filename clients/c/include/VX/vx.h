@@ -1,23 +1,26 @@
 /*
  * OpenVX's calls for the vision server Feqyldan.
  *
- * Names, types, numbers and signatures are those of OpenVX 1.3. A call that the server has nothing
- * for answers VX_ERROR_NOT_SUPPORTED; docs/from_openvx.md has the table. This library is not a
+ * Names, types, numbers and signatures are those of OpenVX 1.3. A call that the server can't serve
+ * returns VX_ERROR_NOT_SUPPORTED; docs/from_openvx.md lists these calls. This library is not a
  * conformant implementation of OpenVX.
  *
- * Where the server is: the environment's FEQYLDAN_SOCKET, the path of a broker's socket; else a
- * program that each context starts for itself: FEQYLDAN_PROGRAM, else `feqyldan` or `vx_main` in
- * PATH. FEQYLDAN_QUOTA is how many bytes of samples a context may have on a program that it starts;
- * FEQYLDAN_TIMEOUT is after how many seconds without a byte from the server a call gives up.
- * Several threads may use one context; a child of fork() can use none of its parent's.
+ * The environment says where the server is. FEQYLDAN_SOCKET is the path of a socket. Without it,
+ * each context starts a program: FEQYLDAN_PROGRAM, or else `feqyldan` or `vx_main` from PATH.
+ * FEQYLDAN_QUOTA limits the bytes of a context's samples on a program that it starts, and
+ * FEQYLDAN_TIMEOUT the seconds that a call waits without a byte from the server. Several threads
+ * may use one context. A child of fork() can't use its parent's contexts.
  *
- * Errors that every function has, and that aren't said again below: VX_ERROR_INVALID_REFERENCE, a
- * reference is NULL, was released or is of another type; VX_ERROR_INVALID_SCOPE, it is of another
- * context; VX_ERROR_INVALID_PARAMETERS, another argument that has to be given is NULL;
- * VX_ERROR_NO_MEMORY, there is no memory, and nothing has changed; VX_FAILURE, the server has
- * ended, which a log entry tells. A function that makes an object gives one that isn't NULL and of
- * which vxGetStatus tells the error. Of an object that couldn't be made it gives that object;
- * without a context to ask, NULL.
+ * Every function may return these errors, which aren't repeated below:
+ *
+ *   VX_ERROR_INVALID_REFERENCE   a reference is NULL, was released, or is of another type
+ *   VX_ERROR_INVALID_SCOPE       a reference belongs to another context
+ *   VX_ERROR_INVALID_PARAMETERS  another required argument is NULL
+ *   VX_ERROR_NO_MEMORY           there is no memory; nothing has changed
+ *   VX_FAILURE                   the server has ended or is late; a log entry says which
+ *
+ * A function that makes an object never returns NULL, except without a valid context: vxGetStatus
+ * of the object gives the error. Given an object that couldn't be made, it returns that object.
  */
 #ifndef VX_VX_H
 #define VX_VX_H

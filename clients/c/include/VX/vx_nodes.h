@@ -11,12 +11,16 @@ extern "C" {
 /*
  * ---- Nodes ----
  *
- * Each adds one node to a graph; VX/vxu.h says what the functions compute. Errors that vxGetStatus
- * tells of the node: VX_ERROR_INVALID_SCOPE, an image is virtual and of another graph;
- * VX_ERROR_INVALID_VALUE, a policy that isn't one; VX_ERROR_INVALID_TYPE, a scalar or an array of a
- * type that doesn't do; VX_ERROR_NOT_SUPPORTED, a rounding policy but VX_ROUND_POLICY_TO_ZERO. A
- * log entry tells more, and vxVerifyGraph then answers VX_ERROR_INVALID_NODE. What the images are
- * together is vxVerifyGraph's.
+ * Each call adds a node to a graph; VX/vxu.h says what the functions compute. vxGetStatus of the
+ * node gives these errors:
+ *
+ *   VX_ERROR_INVALID_SCOPE  an image is a virtual image of another graph
+ *   VX_ERROR_INVALID_VALUE  not a policy
+ *   VX_ERROR_INVALID_TYPE   a scalar or an array of the wrong type
+ *   VX_ERROR_NOT_SUPPORTED  a rounding policy other than VX_ROUND_POLICY_TO_ZERO
+ *
+ * A log entry says more, and vxVerifyGraph then returns VX_ERROR_INVALID_NODE. vxVerifyGraph checks
+ * the formats and sizes of the images.
  */
 
 VX_API_ENTRY vx_node VX_API_CALL vxAndNode(vx_graph graph, vx_image in1, vx_image in2,
@@ -31,7 +35,7 @@ VX_API_ENTRY vx_node VX_API_CALL vxAddNode(vx_graph graph, vx_image in1, vx_imag
 VX_API_ENTRY vx_node VX_API_CALL vxSubtractNode(vx_graph graph, vx_image in1, vx_image in2,
                                                 vx_enum policy, vx_image out);
 
-/* The scale is a VX_TYPE_FLOAT32, which is read when the graph is verified or run. */
+/* The scale is a scalar of VX_TYPE_FLOAT32, read when the graph is verified or run. */
 VX_API_ENTRY vx_node VX_API_CALL vxMultiplyNode(vx_graph graph, vx_image in1, vx_image in2,
                                                 vx_scalar scale, vx_enum overflow_policy,
                                                 vx_enum rounding_policy, vx_image out);
@@ -46,7 +50,7 @@ VX_API_ENTRY vx_node VX_API_CALL vxThresholdNode(vx_graph graph, vx_image input,
 VX_API_ENTRY vx_node VX_API_CALL vxTableLookupNode(vx_graph graph, vx_image input, vx_lut lut,
                                                    vx_image output);
 
-/* The shift is a VX_TYPE_INT32, which is read when the graph is verified or run. */
+/* The shift is a scalar of VX_TYPE_INT32, read when the graph is verified or run. */
 VX_API_ENTRY vx_node VX_API_CALL vxConvertDepthNode(vx_graph graph, vx_image input,
                                                     vx_image output, vx_enum policy,
                                                     vx_scalar shift);
@@ -73,17 +77,17 @@ VX_API_ENTRY vx_node VX_API_CALL vxMinMaxLocNode(vx_graph graph, vx_image input,
                                                  vx_array maxLoc, vx_scalar minCount,
                                                  vx_scalar maxCount);
 
-/* Each run adds once to what accum held before it, and the nodes that read accum read the new sums.
-   It is no virtual image, of which vxVerifyGraph answers VX_ERROR_INVALID_LINK. The shift is a
-   VX_TYPE_UINT32, which is read when the graph is verified or run. */
+/* Each run adds once to the samples that accum had before it; nodes that read accum read the sums.
+   If accum is virtual, vxVerifyGraph returns VX_ERROR_INVALID_LINK. The shift is a scalar of
+   VX_TYPE_UINT32, read when the graph is verified or run. */
 VX_API_ENTRY vx_node VX_API_CALL vxAccumulateImageNode(vx_graph graph, vx_image input,
                                                        vx_image accum);
 VX_API_ENTRY vx_node VX_API_CALL vxAccumulateSquareImageNode(vx_graph graph, vx_image input,
                                                              vx_scalar shift, vx_image accum);
 
 /*
- * Nodes of functions that the server doesn't have. Each adds a log entry and gives an object whose
- * status is VX_ERROR_NOT_SUPPORTED; vxVerifyGraph then answers VX_ERROR_INVALID_NODE.
+ * Nodes of functions that the server doesn't have. Each call adds a log entry and returns an object
+ * with the status VX_ERROR_NOT_SUPPORTED; vxVerifyGraph then returns VX_ERROR_INVALID_NODE.
  */
 
 VX_API_ENTRY vx_node VX_API_CALL vxColorConvertNode(vx_graph graph, vx_image input,

@@ -1,8 +1,8 @@
 /*
- * The types and the numbers of OpenVX 1.3.
+ * The types and numbers of OpenVX 1.3.
  *
- * All names of the standard are here, so that programs compile. docs/from_openvx.md says which of
- * them the server has a use for.
+ * All names of the standard's main headers are here, so that programs compile. docs/from_openvx.md
+ * lists those that the library uses.
  */
 #ifndef VX_VX_TYPES_H
 #define VX_VX_TYPES_H
@@ -63,14 +63,14 @@ typedef enum _vx_bool {
 #define VX_MAX_TARGET_NAME (64)
 #define VX_MAX_LOG_MESSAGE_LEN (1024)
 
-/* A step of 1 in the scales of a patch. */
+/* A scale of 1 in the layout of a patch. */
 #define VX_SCALE_UNITY (1024u)
 
 #define VX_SCALE_PYRAMID_HALF (0.5f)
 #define VX_SCALE_PYRAMID_ORB ((vx_float32)0.8408964f)
 #define VX_LAPLACIAN_PYRAMID_MIN_DIM (8)
 
-/* printf's formats of vx_reference, vx_size and other pointers. */
+/* Formats of vx_reference and vx_size for printf. */
 #define VX_FMT_REF "%p"
 #define VX_FMT_SIZE "%zu"
 
@@ -88,7 +88,7 @@ typedef enum _vx_bool {
 #define VX_KERNEL_MASK (0x00000FFF)
 #define VX_ATTRIBUTE_ID_MASK (0x000000FF)
 
-/* By unsigned shifts, since the vendors from 0x800 on, with VX_ID_DEFAULT, reach the sign. */
+/* The shifts are unsigned: vendors from 0x800 on, such as VX_ID_DEFAULT, reach the sign bit. */
 #define VX_ATTRIBUTE_BASE(vendor, object)                                                          \
     ((vx_enum)((vx_uint32)(vendor) << 20 | (vx_uint32)(object) << 8))
 #define VX_KERNEL_BASE(vendor, lib)                                                                \
@@ -323,7 +323,7 @@ enum vx_channel_e {
     VX_CHANNEL_V = VX_ENUM_BASE(VX_ID_KHRONOS, VX_ENUM_CHANNEL) + 0x16
 };
 
-/* What becomes of a result that is no sample of the output. */
+/* How a result is narrowed to the output's format. */
 enum vx_convert_policy_e {
     VX_CONVERT_POLICY_WRAP = VX_ENUM_BASE(VX_ID_KHRONOS, VX_ENUM_CONVERT_POLICY) + 0x0,
     VX_CONVERT_POLICY_SATURATE = VX_ENUM_BASE(VX_ID_KHRONOS, VX_ENUM_CONVERT_POLICY) + 0x1
@@ -435,12 +435,12 @@ enum vx_scalar_operation_e {
     VX_SCALAR_OP_MAX = VX_ENUM_BASE(VX_ID_KHRONOS, VX_ENUM_SCALAR_OPERATION) + 0x10
 };
 
-/* How a map is made. What is mapped here has no gaps in either case. */
+/* Flags of a map, without effect: a copy has no gaps. */
 enum vx_map_flag_e { VX_NOGAP_X = 1 };
 
 /* ---- Formats of images ---- */
 
-/* Images are of the first four; the others answer VX_ERROR_NOT_SUPPORTED. */
+/* Formats of images. Those after the first four return VX_ERROR_NOT_SUPPORTED. */
 enum vx_df_image_e {
     VX_DF_IMAGE_VIRT = VX_DF_IMAGE('V', 'I', 'R', 'T'),
     VX_DF_IMAGE_U8 = VX_DF_IMAGE('U', '0', '0', '8'),
@@ -516,14 +516,14 @@ typedef union _vx_pixel_value_t {
     vx_uint8 reserved[16];
 } vx_pixel_value_t;
 
-/* What a window sees beyond its input's valid pixels: under VX_BORDER_CONSTANT the
-   constant_value.U8. */
+/* What a window sees outside its input's valid pixels. VX_BORDER_CONSTANT uses constant_value.U8.
+   */
 typedef struct _vx_border_t {
     vx_enum mode;
     vx_pixel_value_t constant_value;
 } vx_border_t;
 
-/* How a patch of samples lies in memory: strides are in bytes. */
+/* The layout of a patch in memory. Strides are in bytes. */
 typedef struct _vx_imagepatch_addressing_t {
     vx_uint32 dim_x;
     vx_uint32 dim_y;
@@ -538,7 +538,7 @@ typedef struct _vx_imagepatch_addressing_t {
 
 #define VX_IMAGEPATCH_ADDR_INIT { 0u, 0u, 0, 0, 0u, 0u, 0u, 0u, 0u }
 
-/* Times in nanoseconds, of runs that succeeded; avg is sum / num. */
+/* Times of successful runs, in nanoseconds; avg is sum / num. */
 typedef struct _vx_perf_t {
     vx_uint64 tmp;
     vx_uint64 beg;

@@ -92,7 +92,7 @@ class Connection:
                                   turn_bytes)
 
     def has_taken(self, seconds: float, long: int) -> None:
-        """Notes the server's time for a turn in seconds, and how many of its requests may take
+        """Notes how long the server took for a turn, and how many requests of the turn may take
         long."""
         self.used += seconds
         self.took = seconds

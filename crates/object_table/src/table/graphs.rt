@@ -57,7 +57,7 @@ impl Table {
         ensures ok { OnOk result (self.new
             ≡ with_objects self.old (with_graph self.old.objects graph
             (with_node (graph_under self.old.objects graph) node))) }
-        ensures room { OnOk result (IsTrue (can_add (graph_under self.old.objects graph))) }
+        ensures capacity { OnOk result (IsTrue (can_add (graph_under self.old.objects graph))) }
         ensures fault { IfErr result (λ fault. fault
             ≡ (if can_add (graph_under self.old.objects graph)
             then graph_fault.NoMemory else graph_fault.NoResources)) }

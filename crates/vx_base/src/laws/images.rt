@@ -9,7 +9,7 @@ ghost use Rattle.vx_base.specs.Image.{ImageValue, IsImage, band, table, pixel_at
 ghost use Rattle.vx_base.specs.Image.{new_image};
 ghost use Rattle.vx_base.specs.Picture.{PictureValue, IsPicture, picture_of, picture_image};
 
-/// A table of samples has one for each pixel.
+/// A table of samples has one sample for each pixel.
 pub fn table_size()
     ensures { (width height : ℕ) (f : ℕ → ℕ → ℤ) → length (table width height f) ≡ height * width }
 {}
@@ -24,8 +24,8 @@ pub fn bands()
         ≡ band width start above f ++ band width (start + above) below f }
 {}
 
-/// An image made from a function has its values in the valid rectangle and 0 elsewhere. It is
-/// well-formed if its sides are permitted and the function's values are samples of the format.
+/// An image made from a function has the function's values in the valid rectangle and 0 elsewhere.
+/// The image is well-formed if its sides are permitted and the values are samples of its format.
 pub fn formula_samples()
     ensures image { (width height : ℕ) (format : Format) (valid : Rectangle) (f : ℕ → ℕ → ℤ) →
         IsTrue (is_side width) → IsTrue (is_side height) → IsCanonical valid →
@@ -55,7 +55,7 @@ pub fn pixels_decide_image()
         ((x y : ℕ) → x < a.width → y < a.height → pixel_at a x y ≡ pixel_at b x y) → a ≡ b }
 {}
 
-/// An image equals the one made from its own samples.
+/// An image equals the image made from its samples.
 pub fn image_of_own_samples()
     ensures { (a : ImageValue) → IsImage a →
         image_from a.width a.height a.format a.valid (pixel_at a) ≡ a }

@@ -85,8 +85,8 @@ pub fn results_are_samples()
         IsSample U8 (threshold_result threshold a) }
 {}
 
-/// A formula of one image gives its value at each valid pixel. The result is a well-formed image if
-/// the values are samples of its format.
+/// An image computed from one image by a formula has the formula's value at each valid pixel. It is
+/// well-formed if the values are samples of its format.
 pub fn from_one_samples()
     ensures image { (format : Format) (f : ℤ → ℤ) (a : ImageValue) → IsImage a →
         ((z : ℤ) → IsSample a.format z → IsSample format (f z)) → IsImage (from_one format f a) }
@@ -95,8 +95,8 @@ pub fn from_one_samples()
         pixel_at (from_one format f a) x y ≡ f (pixel_at a x y) }
 {}
 
-/// A formula of two images gives its value where both are valid. The result is a well-formed image
-/// if the values are samples of its format.
+/// An image computed from two images by a formula is valid where both are, and has the formula's
+/// value there. It is well-formed if the values are samples of its format.
 pub fn from_two_samples()
     ensures image { (format : Format) (f : ℤ → ℤ → ℤ) (a b : ImageValue) → IsImage a → IsImage b →
         ((y z : ℤ) → IsSample a.format y → IsSample b.format z → IsSample format (f y z)) →
@@ -110,7 +110,7 @@ pub fn from_two_samples()
         pixel_at (from_two format f a b) x y ≡ f (pixel_at a x y) (pixel_at b x y) }
 {}
 
-/// An accumulating node's output is a well-formed image of its format.
+/// The output of an accumulating node is a well-formed image of the output's format.
 pub fn accumulated_images()
     ensures { (n : Node) (output : Output) (a old : ImageValue) → IsNode n →
         IsImage a → IsImage old → accumulates n.function ≡ true →

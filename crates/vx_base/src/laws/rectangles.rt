@@ -26,13 +26,13 @@ pub fn pixels_of_whole()
         ≡ (nat_lt x width && nat_lt y height) }
 {}
 
-/// The intersection of two rectangles has the pixels that are in both.
+/// The intersection of two rectangles has the pixels that are in both rectangles.
 pub fn pixels_of_meet()
     ensures { (r s : Rectangle) (x y : ℕ) →
         has_pixel (meet_of r s) x y ≡ (has_pixel r x y && has_pixel s x y) }
 {}
 
-/// A rectangle shrunk by radii has the pixels whose whole window is in the rectangle.
+/// A rectangle shrunk by radii has the pixels whose whole window is in the original rectangle.
 pub fn pixels_of_shrunk()
     ensures { (r : Rectangle) (rx ry x y : ℕ) → IsTrue (has_pixel (shrink_of r rx ry) x y) ↔
         ((rx ≤ x) × (ry ≤ y) × ((i j : ℕ) → x ≤ i + rx → i ≤ x + rx → y ≤ j + ry → j ≤ y + ry →

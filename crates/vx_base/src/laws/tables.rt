@@ -4,7 +4,7 @@ ghost use Rattle.vx_base.specs.Sample.{IsSample, min_sample};
 ghost use Rattle.vx_base.specs.Lut.{LutValue, is_full, entry_for};
 
 /// Entries are in the order of the sample values, beginning with the least. A full table has one
-/// for each sample value.
+/// entry for each sample value.
 pub fn entries_in_order()
     ensures entry { (lut : LutValue) (k : ℕ) →
         entry_for lut (min_sample lut.format +ℤ pos k) ≡ slice_index_or lut.entries k (pos 0) }

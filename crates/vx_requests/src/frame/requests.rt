@@ -2,19 +2,10 @@
 ghost use Rattle.std.specs.Prelude.{◌≡◌, ◌+◌, ◌*◌, ◌<◌, ◌≤◌, ◌^◌, [], ◌∷◌, ◌++◌, length};
 ghost use Rattle.std.specs.Prelude.{IsTrue};
 ghost use Rattle.std.specs.Int.{w32, to_be_bytes};
-ghost use Rattle.client_model.specs.declared.request.Request.TheVariants.{WriteImage as WriteImageRequest};
-ghost use Rattle.client_model.specs.declared.request.Request.TheVariants.{WriteImagePgm as WriteImagePgmRequest};
-ghost use Rattle.client_model.specs.declared.request.Request.TheVariants.{SetValid as SetValidRequest};
-ghost use Rattle.client_model.specs.declared.request.Request.TheVariants.{CreateLut as CreateLutRequest};
-ghost use Rattle.client_model.specs.declared.request.Request.TheVariants.{CreateThreshold as CreateThresholdRequest};
-ghost use Rattle.client_model.specs.declared.request.Request.TheVariants.{CreateConvolution as CreateConvolutionRequest};
-ghost use Rattle.client_model.specs.declared.request.Request.TheVariants.{CreateDelay as CreateDelayRequest};
+ghost use Rattle.client_model.specs.declared.request.Request.TheVariants as requests;
 ghost use Rattle.vx_base.specs.Description.{byte_count};
 ghost use Rattle.vx_base.specs.Lut.{is_full};
-ghost use Rattle.vx_wire.specs.declared.op.Op.TheVariants.{WriteImage as WriteImageOp};
-ghost use Rattle.vx_wire.specs.declared.op.Op.TheVariants.{WriteImagePgm as WriteImagePgmOp};
-ghost use Rattle.vx_wire.specs.declared.op.Op.TheVariants.{CreateLut as CreateLutOp};
-ghost use Rattle.vx_wire.specs.declared.op.Op.TheVariants.{CreateConvolution as CreateConvolutionOp};
+ghost use Rattle.vx_wire.specs.declared.op.Op.TheVariants as ops;
 ghost use Rattle.vx_wire.specs.Op.{op_number};
 ghost use Rattle.vx_base.specs.Sample.{sample_bytes};
 ghost use Rattle.vx_requests.specs.Stream.Transfer.{WritesAll};
@@ -130,7 +121,7 @@ fn write_named<K: Sink>(
     field: &[u8],
 ) -> Result<(), StreamFault>
     requires failures_fit { K.failures sink.old < 2 ^ 62 }
-    requires room { length field.now ≤ 25 }
+    requires short { length field.now ≤ 25 }
     ensures { WritesAll K.taken K.failures sink.old sink.new
         (frame_bytes (record {
           client = client;
@@ -138,8 +129,8 @@ fn write_named<K: Sink>(
           body = to_be_bytes w32 name ++ field.now;
         })) result }
 {
-    let mut room = [0; 29];
-    let body = &mut room[..4 + field.len()];
+    let mut buffer = [0; 29];
+    let body = &mut buffer[..4 + field.len()];
     spell_named(name, field, body);
     write_short(sink, client, op.number(), body)
 }
@@ -174,19 +165,19 @@ fn write_reference<K: Sink>(
 /// Writes a frame whose body has at most 29 bytes, in one write.
 fn write_short<K: Sink>(sink: &mut K, client: u16, op: u8, body: &[u8]) -> Result<(), StreamFault>
     requires failures_fit { K.failures sink.old < 2 ^ 62 }
-    requires room { length body.now ≤ 29 }
+    requires short { length body.now ≤ 29 }
     ensures { WritesAll K.taken K.failures sink.old sink.new
         (frame_bytes (record { client = client; op = op; body = body.now })) result }
 {
-    let mut room = [0; 36];
-    let frame = &mut room[..7 + body.len()];
+    let mut buffer = [0; 36];
+    let frame = &mut buffer[..7 + body.len()];
     spell_short(client, op, body, frame);
     write_all(sink, frame)
 }
 
 /// Fills `frame` with the bytes of a frame that has a short body.
 fn spell_short(client: u16, op: u8, body: &[u8], frame: &mut [u8])
-    requires room { length body.now ≤ 29 }
+    requires short { length body.now ≤ 29 }
     requires fits { length frame.old ≡ 7 + length body.now }
     ensures { frame.new ≡ frame_bytes (record { client = client; op = op; body = body.now }) }
 {
@@ -214,7 +205,7 @@ fn write_write_image<K: Sink>(
 ) -> Result<(), StreamFault>
     requires { K.failures sink.old < 2 ^ 62 }
     ensures { WritesAll K.taken K.failures sink.old sink.new
-        (frame_bytes (request_frame client (WriteImageRequest image picture.now))) result }
+        (frame_bytes (request_frame client (requests.WriteImage image picture.now))) result }
 {
     let samples = picture.samples();
     write_all(sink, &image_head_bytes(client, image, picture.desc()))?;
@@ -223,7 +214,7 @@ fn write_write_image<K: Sink>(
 
 /// Returns the bytes before the samples in the frame of a `WriteImage`.
 fn image_head_bytes(client: u16, image: ObjRef, desc: Desc) -> [u8; 17]
-    ensures { result ≡ frame_head (13 + byte_count desc) client (op_number WriteImageOp)
+    ensures { result ≡ frame_head (13 + byte_count desc) client (op_number ops.WriteImage)
         ++ (reference_bytes image ++ description_bytes desc) }
 {
     let len = 13 + desc.byte_count() as u32;
@@ -245,7 +236,7 @@ fn write_write_image_pgm<K: Sink>(
     requires failures_fit { K.failures sink.old < 2 ^ 62 }
     requires fits { length text.now ≤ GREATEST_TEXT }
     ensures { WritesAll K.taken K.failures sink.old sink.new
-        (frame_bytes (request_frame client (WriteImagePgmRequest image text.now))) result }
+        (frame_bytes (request_frame client (requests.WriteImagePgm image text.now))) result }
 {
     let bytes = text.bytes();
     write_all(sink, &image_pgm_head_bytes(client, image, bytes.len()))?;
@@ -255,7 +246,7 @@ fn write_write_image_pgm<K: Sink>(
 /// Returns the bytes before the text in the frame of a `WriteImagePgm`.
 fn image_pgm_head_bytes(client: u16, image: ObjRef, count: usize) -> [u8; 12]
     requires { count ≤ GREATEST_TEXT }
-    ensures { result ≡ frame_head (8 + count) client (op_number WriteImagePgmOp)
+    ensures { result ≡ frame_head (8 + count) client (op_number ops.WriteImagePgm)
         ++ reference_bytes image }
 {
     let len = 8 + count as u32;
@@ -274,7 +265,7 @@ fn write_set_valid<K: Sink>(
 ) -> Result<(), StreamFault>
     requires { K.failures sink.old < 2 ^ 62 }
     ensures { WritesAll K.taken K.failures sink.old sink.new
-        (frame_bytes (request_frame client (SetValidRequest image valid))) result }
+        (frame_bytes (request_frame client (requests.SetValid image valid))) result }
 {
     let [a, b, c, d, e] = reference_bytes(image);
     let [f, g, h, i, j, k, l, m] = rectangle_bytes(valid);
@@ -287,7 +278,7 @@ fn write_set_valid<K: Sink>(
 fn write_create_lut<K: Sink>(sink: &mut K, client: u16, lut: &Lut) -> Result<(), StreamFault>
     requires { K.failures sink.old < 2 ^ 62 }
     ensures { WritesAll K.taken K.failures sink.old sink.new
-        (frame_bytes (request_frame client (CreateLutRequest lut.now))) result }
+        (frame_bytes (request_frame client (requests.CreateLut lut.now))) result }
 {
     let entries = lut.entries();
     write_all(
@@ -300,7 +291,7 @@ fn write_create_lut<K: Sink>(sink: &mut K, client: u16, lut: &Lut) -> Result<(),
 /// Returns the bytes before the entries in the frame of a `CreateLut`.
 fn create_lut_head(client: u16, format: Format, count: usize) -> [u8; 8]
     requires { IsTrue (is_full format count) }
-    ensures { result ≡ frame_head (4 + count * sample_bytes format) client (op_number CreateLutOp)
+    ensures { result ≡ frame_head (4 + count * sample_bytes format) client (op_number ops.CreateLut)
         ++ format_number format ∷ [] }
 {
     let len = 4 + (count * format.sample_bytes()) as u32;
@@ -316,7 +307,7 @@ fn write_create_threshold<K: Sink>(
 ) -> Result<(), StreamFault>
     requires { K.failures sink.old < 2 ^ 62 }
     ensures { WritesAll K.taken K.failures sink.old sink.new
-        (frame_bytes (request_frame client (CreateThresholdRequest threshold))) result }
+        (frame_bytes (request_frame client (requests.CreateThreshold threshold))) result }
 {
     let format = threshold.format();
     let (true_value, false_value) = (threshold.true_value(), threshold.false_value());
@@ -342,7 +333,7 @@ fn write_create_convolution<K: Sink>(
 ) -> Result<(), StreamFault>
     requires { K.failures sink.old < 2 ^ 62 }
     ensures { WritesAll K.taken K.failures sink.old sink.new
-        (frame_bytes (request_frame client (CreateConvolutionRequest convolution.now))) result }
+        (frame_bytes (request_frame client (requests.CreateConvolution convolution.now))) result }
 {
     let coefficients = convolution.coefficients();
     write_all(sink, &create_convolution_head(client, convolution))?;
@@ -352,7 +343,7 @@ fn write_create_convolution<K: Sink>(
 /// Returns the bytes before the coefficients in the frame of a `CreateConvolution`.
 fn create_convolution_head(client: u16, convolution: &Convolution) -> [u8; 10]
     ensures { let c = convolution.now in
-        result ≡ frame_head (6 + c.rows * c.columns * 2) client (op_number CreateConvolutionOp)
+        result ≡ frame_head (6 + c.rows * c.columns * 2) client (op_number ops.CreateConvolution)
         ++ c.columns ∷ c.rows ∷ c.exponent ∷ [] }
 {
     let (columns, rows) = (convolution.columns(), convolution.rows());
@@ -370,7 +361,7 @@ fn write_create_delay<K: Sink>(
 ) -> Result<(), StreamFault>
     requires { K.failures sink.old < 2 ^ 62 }
     ensures { WritesAll K.taken K.failures sink.old sink.new
-        (frame_bytes (request_frame client (CreateDelayRequest exemplar slots))) result }
+        (frame_bytes (request_frame client (requests.CreateDelay exemplar slots))) result }
 {
     let [a, b, c, d, e] = reference_bytes(exemplar);
     let body = [a, b, c, d, e, slots.get()];

@@ -52,7 +52,7 @@ fn write_sample_block<S: WideSample, K: Sink>(
     samples: &[S],
 ) -> Result<(), StreamFault>
     requires failures_fit { K.failures sink.old < 2 ^ 62 }
-    requires room { length samples.now * sample_bytes S.format ≤ length block.old }
+    requires block { length samples.now * sample_bytes S.format ≤ length block.old }
     ensures { WritesAll K.taken K.failures sink.old sink.new
         (flat_map (λ s. encoded_sample S.format (S.value s)) samples.now) result }
 {
@@ -125,7 +125,7 @@ fn read_piece<S: WideSample, R: Source>(
     samples: &mut [S],
 ) -> Result<usize, StreamFault>
     requires can_read { CanRead R.reads R.failures reader.old }
-    requires room { sample_bytes S.format ≤ length piece.old }
+    requires piece { sample_bytes S.format ≤ length piece.old }
     ensures ok { IfOk result (λ count. ReadsSamples
         (R.left reader.old.source.now) (R.left reader.new.source.now)
         S.format (map S.value (take count samples.new))) }

@@ -46,8 +46,8 @@ pub fn take_convolution(fields: &mut Fields) -> Result<Convolution, BodyFault>
     let exponent = take_exponent(fields)?;
     let count = usize::from(rows) * usize::from(columns);
     let bytes = take_samples(fields, Format::S16, count)?;
-    let mut room = [0i16; GREATEST_COEFFICIENTS];
-    let coefficients = &mut room[..count];
+    let mut buffer = [0i16; GREATEST_COEFFICIENTS];
+    let coefficients = &mut buffer[..count];
     decode_wide(bytes, coefficients);
     Ok(Convolution::new(columns, rows, exponent, coefficients).unwrap())
 }

@@ -1,10 +1,9 @@
 use Rattle.std.proofs.Common.{◌∙◌, ◌-ℤ◌, ap, sym, length, replicate, pos, w32}
 use Rattle.std.proofs.lemmas.Int.{to_z-of_z}
-use Rattle.vx_base.specs.Rectangle.{Rectangle}
 use Rattle.vx_base.specs.Window.{sample_or_border}
 use Rattle.vx_base.proofs.TableLaws.{run-same, run-constant}
-use Rattle.border_rows.specs.Seen.{row_seen, seen_along}
-use Rattle.border_rows.proofs.SeenLaws.{look_along, look_off}
+use Rattle.border_rows.specs.Seen.{seen_along}
+use Rattle.border_rows.proofs.SeenLaws.{row_is, look_along, look_off}
 use Rattle.border_rows.proofs.seen.load_row.Goals as goal
 
 pub returns-in-Some : goal.returns-in-Some
@@ -13,7 +12,7 @@ returns-in-Some g c =
     let border = c.args.border in
     let line = c.in-Some.line in
     let radius = c.args.radius in
-    let seen = ap (λ (r : Rectangle). row_seen r border c.args.y) (sym c.valid.ensures.value) ∙ ap (row_seen c.valid.result border) (sym (to_z-of_z w32 c.args.y c.ranges.y)) ∙ sym c.row_seen.ensures.value ∙ c.in-Some.is in
+    let seen = row_is c.args.image.now c.args.border _ _ _ _ (to_z-of_z w32 c.args.y c.ranges.y) c.row_seen.ensures.value c.in-Some.is in
     c.load_line.ensures
     ∙ run-same (λ k. seen_along image border line (pos k -ℤ pos radius)) (λ k. sample_or_border image border (pos k -ℤ pos radius) c.args.y) c.args.start (length c.args.out.now)
     (λ k a b. sym (look_along image border (pos k -ℤ pos radius) c.args.y line c.requires.columns seen))
@@ -24,7 +23,7 @@ returns-in-None g c =
     let border = c.args.border in
     let radius = c.args.radius in
     let n = length c.args.out.now in
-    let seen = ap (λ (r : Rectangle). row_seen r border c.args.y) (sym c.valid.ensures.value) ∙ ap (row_seen c.valid.result border) (sym (to_z-of_z w32 c.args.y c.ranges.y)) ∙ sym c.row_seen.ensures.value ∙ c.in-None.is in
+    let seen = row_is c.args.image.now c.args.border _ _ _ _ (to_z-of_z w32 c.args.y c.ranges.y) c.row_seen.ensures.value c.in-None.is in
     c.set_all.ensures
     ∙ ap (replicate n) c.loaded.ensures
     ∙ sym (run-constant (pos c.border_value.result) c.args.start n)

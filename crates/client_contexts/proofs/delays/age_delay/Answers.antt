@@ -4,8 +4,8 @@ use Rattle.client_contexts.proofs.BlockLemmas.{age_keeps_blocks}
 use Rattle.client_contexts.proofs.DelayLemmas.{aged_keeps}
 use Rattle.client_contexts.proofs.delays.age_delay.Goals as goal
 
-pub returns-clause-kept : goal.returns-clause-kept
-returns-clause-kept c = λ limits h.
+pub returns-clause-within_limits : goal.returns-clause-within_limits
+returns-clause-within_limits c = λ limits h.
     subst (KeepsLimits limits) (sym c.age.ensures)
     (aged_keeps limits c.args.table.now c.args.name c.in_ok-find_named.field-0.now h c.in_ok-find_named.ensures.ok)
 

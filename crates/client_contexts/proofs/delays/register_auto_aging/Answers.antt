@@ -5,8 +5,8 @@ use Rattle.client_model.proofs.OutcomeLaws.{Keeps}
 use Rattle.client_contexts.proofs.RegisterLemmas.{registers, register_keeps_blocks}
 use Rattle.client_contexts.proofs.delays.register_auto_aging.Goals as goal
 
-pub returns-clause-kept : goal.returns-clause-kept
-returns-clause-kept c = λ limits h.
+pub returns-clause-within_limits : goal.returns-clause-within_limits
+returns-clause-within_limits c = λ limits h.
     let t = c.args.table.now in
     (subst (Keeps limits t) (registers t c.register.new.self c.args.graph c.args.delay c.in_ok-find_graph_and_delay.ensures.ok c.in_ok-register.ensures.ok)
     (register_keeps limits t c.args.graph c.args.delay h)).keeps

@@ -22,10 +22,10 @@ returns-clause-comes c =
     let found = c.in_ok-find_graph_for.ensures in
     let added = c.in_ok-add_node.ensures in
     let known = found.err ∙ ap (λ (n : Node). operands_refusal (Some c.args.graph) c.args.table.now.objects ((reference_to c.args.graph, kind.Graph) ∷ operands n)) c.node.ensures.value in
-    node_added c.requires.0 c.args.table.now c.args.graph c.requires.1 found.ok.0 found.ok.1 c.args.node known _ _ added.room added.number added.ok
+    node_added c.requires.0 c.args.table.now c.args.graph c.requires.1 found.ok.0 found.ok.1 c.args.node known _ _ added.capacity added.number added.ok
 
-pub returns-clause-kept : goal.returns-clause-kept
-returns-clause-kept c = λ limits h.
+pub returns-clause-within_limits : goal.returns-clause-within_limits
+returns-clause-within_limits c = λ limits h.
     (subst (KeepsBut (λ other. c.args.graph == other) limits c.args.table.now) (returns-clause-comes c).done (add_node_keeps limits c.args.table.now c.args.graph c.args.node h c.node.ensures.node)).keeps
 
 pub returns-clause-blocks : goal.returns-clause-blocks

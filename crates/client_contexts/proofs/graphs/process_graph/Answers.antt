@@ -47,7 +47,7 @@ returns-clause-comes c =
     let graph = kept_graph (goal.at.returns-clause-comes c).In-Some in
     let done = aged_to c.args.limits t c.args.graph c.requires.context graph.0 c.run_scheduled.new.table c.age_registered.new.self graph.1 graph.2 (c.in_ok-run_scheduled.ensures.value (nodes_of graph.0) graph.3)
     c.age_registered.ensures in
-    record { done = done; refused = tt; kept = tt }
+    record { done = done; refused = tt; unchanged = tt }
 
 pub returns-clause-limits : goal.returns-clause-limits
 returns-clause-limits c =

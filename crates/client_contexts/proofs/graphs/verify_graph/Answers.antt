@@ -12,7 +12,7 @@ returns-then-is_kept-clause-comes c =
     let found = found_kept t c.args.graph c.work-work.result c.args.kept.now.entries c.requires.kept (c.is_kept.ensures.kept c.if-is_kept.true) in
     let done = kept_verifies c.requires.context.0 t c.args.graph c.in_ok-object.object.now c.requires.context.1 c.in_ok-object.ensures.ok c.args.limits found.0 found.2
     (found.1 ∙ c.work-work.ensures) in
-    record { done = done; refused = tt; kept = tt }
+    record { done = done; refused = tt; unchanged = tt }
 
 pub verify_in-requires : goal.verify_in-requires
 verify_in-requires c =
@@ -40,7 +40,7 @@ returns-in-Ok-clause-comes c =
     let allowed = ap (λ (g : GraphValue). verdict c.work-work.result (operand_held t.objects) (nodes_of g)) (sym c.graph.ensures) ∙ c.in_ok-verified.ensures.ok in
     let done = allowed_verifies c.requires.context.0 t c.args.graph x c.requires.context.1 c.in_ok-object.ensures.ok c.args.limits
     (subst (λ (work : ℕ). verdict work (operand_held t.objects) (nodes_of (graph_value x)) ≡ None) c.work-work.ensures allowed) in
-    record { done = done; refused = tt; kept = tt }
+    record { done = done; refused = tt; unchanged = tt }
 
 -- how it runs comes to what is kept
 pub returns-in-Ok-clause-kept : goal.returns-in-Ok-clause-kept

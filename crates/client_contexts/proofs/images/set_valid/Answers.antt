@@ -7,8 +7,8 @@ use Rattle.client_contexts.proofs.images.set_valid.Goals as goal
 pub set_valid-requires-clause-object : goal.set_valid-requires-clause-object
 set_valid-requires-clause-object c = holder_is c.requires.0 c.args.table.now c.args.reference c.requires.1 c.in_ok-find_image.ensures.ok.there
 
-pub returns-clause-kept : goal.returns-clause-kept
-returns-clause-kept c = λ limits h.
+pub returns-clause-within_limits : goal.returns-clause-within_limits
+returns-clause-within_limits c = λ limits h.
     let before = c.args.table.now in
     let found = c.in_ok-find_image.ensures.ok in
     let allowed = ap (λ d. valid_refusal d c.args.valid) (sym c.desc-desc.ensures) ∙ sym c.valid_refusal.ensures ∙ c.in_default.is in

@@ -7,8 +7,8 @@ use Rattle.client_contexts.proofs.images.write_image.Goals as goal
 pub write-requires-clause-object : goal.write-requires-clause-object
 write-requires-clause-object c = holder_is c.requires.0 c.args.table.now c.args.reference c.requires.1 c.in_ok-find_image_for.ensures.ok.named.there
 
-pub returns-clause-kept : goal.returns-clause-kept
-returns-clause-kept c = λ limits h.
+pub returns-clause-within_limits : goal.returns-clause-within_limits
+returns-clause-within_limits c = λ limits h.
     let found = subst (IsImageFor c.args.table.now.objects c.args.reference) c.desc.ensures c.in_ok-find_image_for.ensures.ok in
     subst (KeepsLimits limits) (sym c.write.ensures.value) (written_keeps c.args.table.now c.args.reference c.args.picture.now found limits h c.samples-samples.ensures.picture)
 

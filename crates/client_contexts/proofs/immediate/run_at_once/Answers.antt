@@ -15,7 +15,7 @@ returns-then-has_virtual-clause-comes c =
           ap (λ (n : Node). immediate t n) (sym c.node-node.ensures.value)
           ∙ away_refuses t c.node-node.result c.in-Ok.ensures.found c.in-Ok.ensures.err
           (ap (λ o. list_any is_virtual (all_operands o)) (sym c.in-Ok.ensures.ok) ∙ sym c.has_virtual.ensures ∙ c.if-has_virtual.true);
-      kept = refl;
+      unchanged = refl;
     }
 
 pub returns-in-Some-clause-comes : goal.returns-in-Some-clause-comes
@@ -28,7 +28,7 @@ returns-in-Some-clause-comes c =
           ∙ verdict_refuses t c.node-node.result c.in-Ok.ensures.found c.in-Ok.ensures.err
           (ap (λ o. list_any is_virtual (all_operands o)) (sym c.in-Ok.ensures.ok) ∙ sym c.has_virtual.ensures ∙ c.if-has_virtual.false) c.in-Some.verdict
           (ap (verdict_on c.node-node.result) (sym c.in-Ok.ensures.ok) ∙ sym c.verdict_on.ensures ∙ c.in-Some.is);
-      kept = refl;
+      unchanged = refl;
     }
 
 pub run_once-requires-clause-runs : goal.run_once-requires-clause-runs
@@ -52,11 +52,11 @@ returns-clause-comes c =
           (ap (verdict_on c.node-node.result) (sym c.in-Ok.ensures.ok) ∙ sym c.verdict_on.ensures ∙ c.in_default.is)
           ∙ ap (λ (after : Context). let done : Outcome = Ok (Empty, Some after) in done) (sym c.run_once.ensures.value);
       refused = tt;
-      kept = tt;
+      unchanged = tt;
     }
 
-pub returns-clause-kept : goal.returns-clause-kept
-returns-clause-kept c = λ limits. λ h.
+pub returns-clause-within_limits : goal.returns-clause-within_limits
+returns-clause-within_limits c = λ limits. λ h.
     (subst (Keeps limits c.args.table.now) (returns-clause-comes c).done (immediate_keeps limits c.args.table.now c.args.node h c.node-node.ensures.node)).keeps
 
 pub returns-clause-blocks : goal.returns-clause-blocks

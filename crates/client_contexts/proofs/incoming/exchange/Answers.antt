@@ -32,7 +32,7 @@ returns c =
     record {
       written = write_done t c.args.reference p found ∙ ap (λ (k : Context). let done : Outcome = Ok (Empty, Some k) in done) (sym back);
       picture = picture;
-      kept = λ limits h. subst (KeepsLimits limits) (sym back) (written_keeps t c.args.reference p found limits h picture);
+      within_limits = λ limits h. subst (KeepsLimits limits) (sym back) (written_keeps t c.args.reference p found limits h picture);
       blocks = subst (λ (k : Context). KeepsBlocks t.objects k.objects) (sym back) (written_blocks t c.args.reference p found c.requires.context.1.names);
       format =
           ap samples_format c.put-2.ensures ∙ c.take-left.ensures.format ∙ ap (λ (i : ImageValue). i.format) found.named.held

@@ -29,6 +29,7 @@ loop-k-preserved c =
       enough = subst (Suffice c.args.high c.raise_for.new.halos) (sym e) (one_more c.args.high c.loop-k.halos c.raise_for.new.halos t (drop (length tasks - k) tasks)
           (subst AreInOrder e (later_in_order tasks (length tasks - (k + 1)) c.requires.order))
           r.grows r.enough r.others c.loop-k.invariant.enough);
+      within = λ place. r.within place (c.loop-k.invariant.within place);
       unread = λ place u. r.others place (λ s is. u s (in_read tasks (length tasks - 1 - k) t s below c.index-tasks-tasks.is is)) ∙ c.loop-k.invariant.unread place u;
       len = r.len ∙ c.loop-k.invariant.len;
     }

@@ -29,7 +29,7 @@ returns-in-Plane c =
     let enough : min c.args.high (halo c.args.halos.now s.output + s.radius) ≤ c.min-rows.result = omega arith in
     let r = raised_two s c.min-rows.result c.in-Plane.second c.args.halos.now c.raise.new.halos c.raise-in-Plane.new.halos
     (c.requires.reads s.first (inl refl)) (c.requires.reads c.in-Plane.second (inr c.in-Plane.is)) c.in-Plane.is c.raise.ensures c.raise-in-Plane.ensures in
-    record { grows = r.grows; enough = λ k reads. (let e = r.enough k reads in omega arith); others = r.others; len = r.len }
+    record { grows = r.grows; enough = λ k reads. (let e = r.enough k reads in omega arith); within = λ k. r.within c.args.high k (omega arith); others = r.others; len = r.len }
 
 pub returns-in-Nothing : goal.returns-in-Nothing
 returns-in-Nothing c =
@@ -39,7 +39,7 @@ returns-in-Nothing c =
     let a = c.saturating_add.ensures in
     let enough : min c.args.high (halo c.args.halos.now s.output + s.radius) ≤ c.min-rows.result = omega arith in
     let r = raised_one s c.min-rows.result c.args.halos.now c.raise.new.halos (c.requires.reads s.first (inl refl)) (λ k e. not_plane s.second k (inl c.in-Nothing.is) e) c.raise.ensures in
-    record { grows = r.grows; enough = λ k reads. (let e = r.enough k reads in omega arith); others = r.others; len = r.len }
+    record { grows = r.grows; enough = λ k reads. (let e = r.enough k reads in omega arith); within = λ k. r.within c.args.high k (omega arith); others = r.others; len = r.len }
 
 pub returns-in-Table : goal.returns-in-Table
 returns-in-Table c =
@@ -49,4 +49,4 @@ returns-in-Table c =
     let a = c.saturating_add.ensures in
     let enough : min c.args.high (halo c.args.halos.now s.output + s.radius) ≤ c.min-rows.result = omega arith in
     let r = raised_one s c.min-rows.result c.args.halos.now c.raise.new.halos (c.requires.reads s.first (inl refl)) (λ k e. not_plane s.second k (inr (_, c.in-Table.is)) e) c.raise.ensures in
-    record { grows = r.grows; enough = λ k reads. (let e = r.enough k reads in omega arith); others = r.others; len = r.len }
+    record { grows = r.grows; enough = λ k reads. (let e = r.enough k reads in omega arith); within = λ k. r.within c.args.high k (omega arith); others = r.others; len = r.len }

@@ -1,6 +1,6 @@
 use Rattle.std.proofs.Common.{◌∙◌, ap, arith, Some, None}
 use Rattle.graph_verify.proofs.Common.{filter_map, described_output, linked_nodes}
-use Rattle.graph_verify.proofs.VerdictLemmas.{too_large, there_is_room}
+use Rattle.graph_verify.proofs.VerdictLemmas.{too_large, small_enough}
 use Rattle.graph_verify.proofs.VerifyLemmas.{nodes_order, steps_one_writer, steps_images, unwritten_input_found, verdict_found, bytes_found, verified_found, few_outputs}
 use Rattle.graph_verify.proofs.VerifiedLemmas.{verified_graph, numbered}
 use Rattle.graph_verify.proofs.verified.verify_ordered.Goals as goal
@@ -47,7 +47,7 @@ returns-clause-ok c is operands =
     let bytes = c.sample_bytes.ensures ∙ bytes_found c.args.nodes.now c.args.steps.now c.requires.one_writer c.requires.order is c.in_ok-known.known.items c.deref-3.result.now operands c.in_ok-known.ensures.known outputs in
     verdict_found c.args.nodes.now c.args.steps.now c.requires.one_writer c.requires.order c.args.work is c.in_ok-known.known.items c.deref.result.now None operands
     c.in_ok-known.ensures.known c.deref.ensures.value c.in_default.ensures (c.if-has_unwritten_input.ensures is operands)
-    ∙ there_is_room c.args.work is (linked_nodes c.args.nodes.now) (omega (arith, bytes, c.if-sample_bytes-work.false))
+    ∙ small_enough c.args.work is (linked_nodes c.args.nodes.now) (omega (arith, bytes, c.if-sample_bytes-work.false))
 
 pub invariant_of-result : goal.invariant_of-result
 invariant_of-result c =

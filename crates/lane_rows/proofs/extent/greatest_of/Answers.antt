@@ -1,5 +1,5 @@
 use Rattle.std.proofs.Common.{arith}
-use Rattle.lane_rows.proofs.Names.{int_max, ints}
+use Rattle.lane_rows.proofs.Common.{int_max, ints}
 use Rattle.lane_rows.proofs.CountLaws.{number_read, next_chosen, all_chosen}
 use Rattle.lane_rows.proofs.extent.greatest_of.Goals as goal
 

@@ -1,5 +1,5 @@
 use Rattle.std.proofs.Common.{◌≡◌, pos, map, take, get_or}
-use Rattle.lane_rows.proofs.Names.{fold, int_max}
+use Rattle.lane_rows.proofs.Common.{fold, int_max}
 use Rattle.lane_rows.proofs.extent.greatest_of.Given as goal
 
 abbrev pub invariant-loop-item : goal.invariant-loop-item

@@ -1,5 +1,5 @@
 use Rattle.std.proofs.Common.{arith}
-use Rattle.lane_rows.proofs.Names.{int_min, ints}
+use Rattle.lane_rows.proofs.Common.{int_min, ints}
 use Rattle.lane_rows.proofs.CountLaws.{number_read, next_chosen, all_chosen}
 use Rattle.lane_rows.proofs.extent.least_of.Goals as goal
 

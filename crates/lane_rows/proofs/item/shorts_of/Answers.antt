@@ -1,16 +1,10 @@
-use Rattle.std.proofs.Common.{subst, sym, w16, FitsSigned, take, take_all, arith}
-use Rattle.lane_rows.proofs.Common.{Each1}
-use Rattle.lane_rows.proofs.ShortLaws.{told}
+use Rattle.std.proofs.Common.{w16}
+use Rattle.lane_rows.proofs.ShortLaws.{read_whole}
 use Rattle.lane_rows.proofs.SampleLaws.{samples_fit}
 use Rattle.lane_rows.proofs.item.shorts_of.Goals as goal
 
-pub returns-clause-value : goal.returns-clause-value
-returns-clause-value c =
+pub returns : goal.returns
+returns c =
     let block = c.args.block.now in
-    told w16 (take 32 block) block (take_all 32 block (omega (arith, c.requires))) (samples_fit block c.prove_shorts.ensures)
-
-pub returns-clause-fits : goal.returns-clause-fits
-returns-clause-fits c =
-    let block = c.args.block.now in
-    let fits = samples_fit block c.prove_shorts.ensures in
-    subst (Each1 (FitsSigned w16)) (sym (told w16 (take 32 block) block (take_all 32 block (omega (arith, c.requires))) fits)) fits
+    let read = read_whole w16 32 block c.requires (samples_fit block c.prove_shorts.ensures) in
+    record { value = read.0; fits = read.1 }

@@ -1,5 +1,5 @@
 use Rattle.std.proofs.Common.{◌≡◌, ◌*◌, map, take}
-use Rattle.lane_rows.proofs.Names.{count_of}
+use Rattle.lane_rows.proofs.Common.{count_of}
 use Rattle.lane_rows.proofs.occurrences.without.Given as goal
 
 abbrev pub invariant-loop-k : goal.invariant-loop-k

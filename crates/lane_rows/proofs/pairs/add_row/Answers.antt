@@ -1,5 +1,5 @@
 use Rattle.std.proofs.Common.{◌≡◌, ◌+◌, arith}
-use Rattle.lane_rows.proofs.PairNames.{first_of_pair, second_of_pair}
+use Rattle.lane_rows.proofs.Common.{first_of_pair, second_of_pair}
 use Rattle.lane_rows.proofs.AddLaws.{added_none, added_more, all_added, length-all_added, all_up_to}
 use Rattle.lane_rows.proofs.pairs.add_row.Goals as goal
 
@@ -21,20 +21,20 @@ loop-j-preserved c =
       right = added_more c.args.row.now c.args.table.now c.args.odd (c.args.place + 1) c.args.pairs j c.loop-j.right more_right.result c.requires.odd_limit c.requires.some (omega arith) c.loop-j.invariant.right (more_right.ensures.value a b (c.requires.table j (omega arith))) more_right.ensures.len more_right.ensures.limit;
     }
 
-pub returns-clause-even : goal.returns-clause-even
-returns-clause-even c = let end : c.loop-j.j ≡ c.args.pairs = omega arith in all_added c.args.row.now c.args.table.now c.args.even c.args.place c.args.pairs c.loop-j.j c.loop-j.left c.requires.even_limit end c.loop-j.invariant.left
-
-pub returns-clause-even_len : goal.returns-clause-even_len
-returns-clause-even_len c = length-all_added c.args.row.now c.args.table.now c.args.even c.args.place c.loop-j.j c.loop-j.left c.loop-j.invariant.left
-
-pub returns-clause-even_limit : goal.returns-clause-even_limit
-returns-clause-even_limit c = let end : c.loop-j.j ≡ c.args.pairs = omega arith in all_up_to c.args.row.now c.args.table.now c.args.even c.args.place c.args.pairs c.loop-j.j c.loop-j.left c.requires.even_limit end c.loop-j.invariant.left
-
-pub returns-clause-odd : goal.returns-clause-odd
-returns-clause-odd c = let end : c.loop-j.j ≡ c.args.pairs = omega arith in all_added c.args.row.now c.args.table.now c.args.odd (c.args.place + 1) c.args.pairs c.loop-j.j c.loop-j.right c.requires.odd_limit end c.loop-j.invariant.right
-
-pub returns-clause-odd_len : goal.returns-clause-odd_len
-returns-clause-odd_len c = length-all_added c.args.row.now c.args.table.now c.args.odd (c.args.place + 1) c.loop-j.j c.loop-j.right c.loop-j.invariant.right
-
-pub returns-clause-odd_limit : goal.returns-clause-odd_limit
-returns-clause-odd_limit c = let end : c.loop-j.j ≡ c.args.pairs = omega arith in all_up_to c.args.row.now c.args.table.now c.args.odd (c.args.place + 1) c.args.pairs c.loop-j.j c.loop-j.right c.requires.odd_limit end c.loop-j.invariant.right
+pub returns : goal.returns
+returns c =
+    let row = c.args.row.now in
+    let table = c.args.table.now in
+    let n = c.args.pairs in
+    let j = c.loop-j.j in
+    let end : j ≡ n = omega arith in
+    let left = c.loop-j.invariant.left in
+    let right = c.loop-j.invariant.right in
+    record {
+      even = all_added row table c.args.even c.args.place n j c.loop-j.left c.requires.even_limit end left;
+      odd = all_added row table c.args.odd (c.args.place + 1) n j c.loop-j.right c.requires.odd_limit end right;
+      even_len = length-all_added row table c.args.even c.args.place j c.loop-j.left left;
+      odd_len = length-all_added row table c.args.odd (c.args.place + 1) j c.loop-j.right right;
+      even_limit = all_up_to row table c.args.even c.args.place n j c.loop-j.left c.requires.even_limit end left;
+      odd_limit = all_up_to row table c.args.odd (c.args.place + 1) n j c.loop-j.right c.requires.odd_limit end right;
+    }

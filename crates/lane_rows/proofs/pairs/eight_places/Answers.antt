@@ -1,47 +1,35 @@
-use Rattle.std.proofs.Common.{◌≡◌, ℕ, ℤ, ◌+◌, ◌-◌, ◌≤◌, List, length, map, take, drop, ap, ◌∙◌, sym, subst, w16, w32, FitsSigned, to_z, of_z, ◌+ℤ◌, ◌*ℤ◌}
-use Rattle.lane_rows.proofs.PairNames.{Each1, chunk, zip2, Each1-chunk, length-chunk, IsNear, evens_of, odds_of}
+use Rattle.std.proofs.Common.{rules, ◌∙◌, ap, length, sym, subst, w16, w32, FitsSigned}
+use Rattle.lane_rows.proofs.Common.{Each1, chunk, Each1-chunk, length-chunk, IsNear}
 use Rattle.lane_rows.proofs.BitLaws.{loaded, bytes_fit, product_fits}
 use Rattle.lane_rows.proofs.ShortLaws.{of_bits}
 use Rattle.lane_rows.proofs.PairLaws.{eight_along}
 use Rattle.lane_rows.proofs.pairs.eight_places.Goals as goal
 
-module _ (row table : List ℤ) (i at : ℕ) (room : i + 16 ≤ length row) (table_room : at + 16 ≤ length table) (near : Each1 (IsNear 255) row) (fits : Each1 (FitsSigned w16) table) where
-  samples : map (to_z w16) (map (of_z w16) (chunk 0 16 (take (i + 16 - i) (drop i row)))) ≡ chunk i 16 row
-  samples = loaded row i room (bytes_fit row near)
-
-  coefficients : map (to_z w16) (map (of_z w16) (chunk 0 16 (take (at + 16 - at) (drop at table)))) ≡ chunk at 16 table
-  coefficients = loaded table at table_room fits
-
-pub pair_products-requires-clause-samples_len : goal.pair_products-requires-clause-samples_len
-pair_products-requires-clause-samples_len c =
-    ap length (samples c.args.row.now c.args.table.now (c.args.place) c.args.at c.requires.room c.requires.table_room c.requires.limit c.requires.fits) ∙ length-chunk (c.args.place) 16 c.args.row.now c.requires.room
-
-pub pair_products-requires-clause-coefficients_len : goal.pair_products-requires-clause-coefficients_len
-pair_products-requires-clause-coefficients_len c =
-    ap length (coefficients c.args.row.now c.args.table.now (c.args.place) c.args.at c.requires.room c.requires.table_room c.requires.limit c.requires.fits) ∙ length-chunk c.args.at 16 c.args.table.now c.requires.table_room
-
-pub pair_products-requires-clause-limit : goal.pair_products-requires-clause-limit
-pair_products-requires-clause-limit c =
-    subst (Each1 (IsNear 255)) (sym (samples c.args.row.now c.args.table.now (c.args.place) c.args.at c.requires.room c.requires.table_room c.requires.limit c.requires.fits))
-    (Each1-chunk (IsNear 255) (c.args.place) 16 c.args.row.now c.requires.limit)
-
-pub pair_products-requires-clause-fits : goal.pair_products-requires-clause-fits
-pair_products-requires-clause-fits c =
-    subst (Each1 (FitsSigned w16)) (sym (coefficients c.args.row.now c.args.table.now (c.args.place) c.args.at c.requires.room c.requires.table_room c.requires.limit c.requires.fits))
-    (Each1-chunk (FitsSigned w16) c.args.at 16 c.args.table.now c.requires.fits)
-
-pub returns-clause-value : goal.returns-clause-value
-returns-clause-value c a b is =
+pub pair_products-requires : goal.pair_products-requires
+pair_products-requires c =
     let row = c.args.row.now in
     let table = c.args.table.now in
-    let u = samples row table (c.args.place) c.args.at c.requires.room c.requires.table_room c.requires.limit c.requires.fits in
-    let v = coefficients row table (c.args.place) c.args.at c.requires.room c.requires.table_room c.requires.limit c.requires.fits in
-    of_bits w32 c.pair_products.result (product_fits c.pair_products.result c.pair_products.ensures.limit)
-    ∙ c.pair_products.ensures.value
-    ∙ ap (λ (l : List ℤ). zip2 ◌+ℤ◌ (zip2 ◌*ℤ◌ (evens_of l) (evens_of (map (to_z w16) (map (of_z w16) (chunk 0 16 (take (c.args.at + 16 - c.args.at) (drop c.args.at table))))))) (zip2 ◌*ℤ◌ (odds_of l) (odds_of (map (to_z w16) (map (of_z w16) (chunk 0 16 (take (c.args.at + 16 - c.args.at) (drop c.args.at table)))))))) u
-    ∙ ap (λ (l : List ℤ). zip2 ◌+ℤ◌ (zip2 ◌*ℤ◌ (evens_of (chunk (c.args.place) 16 row)) (evens_of l)) (zip2 ◌*ℤ◌ (odds_of (chunk (c.args.place) 16 row)) (odds_of l))) v
-    ∙ eight_along row (chunk c.args.at 16 table) a b c.args.place c.requires.room is
+    let i = c.args.place in
+    let at = c.args.at in
+    let samples = loaded row i c.requires.room (bytes_fit row c.requires.limit) in
+    let coefficients = loaded table at c.requires.table_room c.requires.fits in
+    record {
+      samples_len = ap length samples ∙ length-chunk i 16 row c.requires.room;
+      coefficients_len = ap length coefficients ∙ length-chunk at 16 table c.requires.table_room;
+      limit = subst (Each1 (IsNear 255)) (sym samples) (Each1-chunk (IsNear 255) i 16 row c.requires.limit);
+      fits = subst (Each1 (FitsSigned w16)) (sym coefficients) (Each1-chunk (FitsSigned w16) at 16 table c.requires.fits);
+    }
 
-pub returns-clause-limit : goal.returns-clause-limit
-returns-clause-limit c =
-    subst (Each1 (IsNear 16711680)) (sym (of_bits w32 c.pair_products.result (product_fits c.pair_products.result c.pair_products.ensures.limit))) c.pair_products.ensures.limit
+pub returns : goal.returns
+returns c =
+    let row = c.args.row.now in
+    let table = c.args.table.now in
+    let samples = loaded row c.args.place c.requires.room (bytes_fit row c.requires.limit) in
+    let coefficients = loaded table c.args.at c.requires.table_room c.requires.fits in
+    let made = c.pair_products.ensures in
+    let read = of_bits w32 c.pair_products.result (product_fits c.pair_products.result made.limit) in
+    record {
+      value = λ a b is. cc (read, made.value, samples, coefficients, eight_along row (chunk c.args.at 16 table) a b c.args.place c.requires.room is);
+      len = rw read (ap length made.value ∙ search rules);
+      limit = subst (Each1 (IsNear 16711680)) (sym read) made.limit;
+    }

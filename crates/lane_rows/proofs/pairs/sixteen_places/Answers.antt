@@ -1,5 +1,5 @@
 use Rattle.std.proofs.Common.{◌+◌, ◌*◌, ◌++◌, List, ap, ◌∙◌, sym, subst, ℤ}
-use Rattle.lane_rows.proofs.PairNames.{Each1, run, IsNear, pair_at}
+use Rattle.lane_rows.proofs.Common.{Each1, run, IsNear, pair_at}
 use Rattle.lane_rows.proofs.BitLaws.{two_joined, Each1-append}
 use Rattle.lane_rows.proofs.PairLaws.{run_joined}
 use Rattle.lane_rows.proofs.pairs.sixteen_places.Goals as goal

@@ -1,5 +1,5 @@
 use Rattle.std.proofs.Common.{◌≡◌, ◌+◌, ◌%◌, ◌<◌, ◌∙◌, length, get_or, arith}
-use Rattle.lane_rows.proofs.Names.{sum_below}
+use Rattle.lane_rows.proofs.Common.{sum_below}
 use Rattle.lane_rows.proofs.RunningLaws.{total_more, place_sum, place_written, all_written}
 use Rattle.lane_rows.proofs.running.running_sums.Goals as goal
 

@@ -1,5 +1,5 @@
 use Rattle.std.proofs.Common.{◌≡◌, ◌%◌, ◌^◌, map, take}
-use Rattle.lane_rows.proofs.Names.{sum, range_with_len, sum_below}
+use Rattle.lane_rows.proofs.Common.{sum, range_with_len, sum_below}
 use Rattle.lane_rows.proofs.running.running_sums.Given as goal
 
 abbrev pub invariant-loop-k : goal.invariant-loop-k

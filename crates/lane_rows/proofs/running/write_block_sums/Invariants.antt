@@ -1,5 +1,5 @@
 use Rattle.std.proofs.Common.{◌≡◌, ◌*◌, ◌%◌, ◌^◌, map, take, replicate}
-use Rattle.lane_rows.proofs.Names.{sum, range_with_len, sum_below}
+use Rattle.lane_rows.proofs.Common.{sum, range_with_len, sum_below}
 use Rattle.lane_rows.proofs.running.write_block_sums.Given as goal
 
 abbrev pub invariant-loop-block : goal.invariant-loop-block

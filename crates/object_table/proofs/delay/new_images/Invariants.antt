@@ -4,7 +4,7 @@ use Rattle.object_table.proofs.delay.new_images.Given as goal
 
 abbrev pub invariant-loop-desc : goal.invariant-loop-desc
 invariant-loop-desc l = record {
-  room : l.count ≤ vec_capacity l.images;
+  capacity : l.count ≤ vec_capacity l.images;
   within : length l.images.items ≤ l.count;
   new : l.images.items ≡ new_delay l.desc (length l.images.items);
   lends : (format : Format) → lent_of l.pool format ≡ lent_of l.fn.pool format + delay_blocks l.images.items format;

@@ -8,7 +8,7 @@ invariant-loop-class l =
       known : l.class < 193;
       next : l.next ≡ class_capacity (l.class + 1);
       within : l.within ≡ class_capacity l.class;
-      enough : l.within ≤ l.room;
+      enough : l.within ≤ l.capacity;
     }
 
 abbrev pub decreases-loop-class : goal.decreases-loop-class

@@ -7,6 +7,6 @@ use Rattle.pixel_pool.proofs.stacks.smallest.Given as goal
 abbrev pub invariant-loop-class : goal.invariant-loop-class
 invariant-loop-class l =
     record {
-      room : l.room ≡ class_capacity l.class;
+      capacity : l.capacity ≡ class_capacity l.class;
       none : (other : ℕ) → other < l.class → HasFree (lengths l.stacks) other → l.count ≤ class_capacity other → ⊥;
     }

@@ -1,9 +1,8 @@
-use Rattle.std.proofs.Common.{ℕ, List, Option, ◌≡◌, ◌+◌, ◌*◌, ◌≤◌, ◌∙◌, pos, length, map, take, drop, ap, sym, subst, arith, option_copied, length-take-le}
-use Rattle.stat_kernels.proofs.Common.{Description, run, zero_outside, sum_to, row_fits, IsRowAbove}
-use Rattle.stat_kernels.proofs.SumLaws.{rows_written}
-use Rattle.stat_kernels.proofs.NextRowLaws.{last_is, row_above}
+use Rattle.std.proofs.Common.{take_all, ℕ, List, Option, ◌≡◌, ◌+◌, ◌*◌, ◌≤◌, ◌∙◌, pos, length, map, take, drop, ap, sym, arith, option_copied, length-take-le}
+use Rattle.stat_kernels.proofs.Common.{Description, band, run, zero_outside, row_fits}
+use Rattle.stat_kernels.proofs.SumLaws.{last_is, next_follows, rows_written}
 use Rattle.stat_kernels.specs.Sums.{row_sums, sum_on}
-use Rattle.stat_kernels.proofs.ScanLaws.{next_follows}
+use Rattle.stat_kernels.proofs.ScanLaws.{band_scans}
 use Rattle.stat_kernels.proofs.sums.integral_on.Goals as goal
 
 pub loop-k-preserved : goal.loop-k-preserved
@@ -21,21 +20,22 @@ loop-k-preserved c =
     let room : width ≤ length others = omega (arith, row_fits width rows.count k c.loop-k-test.true, c.split_at_mut-before.ensures.back_len, at, size) in
     let long : length c.write_integral_row.new.out ≡ width = c.write_integral_row.auto.out ∙ length-take-le width others room in
     let last = ap option_copied c.or-above.ensures ∙ last_is width before c.row_above.result c.args.above c.row_above.ensures in
-    record {
-      sums =
-          let f = zero_outside image.valid (sum_on image rows.start (row_sums (option_copied c.args.above))) in
-          let so_far = ap (map pos) (c.split_at_mut-before.ensures.front ∙ ap (λ n. take n c.loop-k.samples) at) ∙ c.loop-k.invariant.sums in
-          rows_written k width before c.write_integral_row.new.out (drop width others) start long rows.start f so_far
-          (c.write_integral_row.ensures.sums
-          ∙ ap (λ (o : Option (List ℕ)). run 0 image.width (λ x. zero_outside image.valid (sum_on image (rows.start + k) (row_sums o)) x (rows.start + k))) last
-          ∙ next_follows image rows.start k width before (option_copied c.args.above) (omega (arith, c.width.ensures.limits, c.from-width.ensures)) wide so_far start
-          ∙ ap (λ n. run 0 n (λ x. f x (rows.start + k))) (sym wide));
-      written = λ whole line are is_above.
-          let row = are.each k c.loop-k-test.true in
-          let same : width ≡ whole.width = wide ∙ row.width in
-          let so_far = ap (map pos) (c.split_at_mut-before.ensures.front ∙ ap (λ n. take n c.loop-k.samples) at) ∙ c.loop-k.invariant.written whole line are is_above in
-          let above = subst (IsRowAbove whole (line + k)) (sym last)
-          (row_above whole line k width before (option_copied c.args.above) (omega (arith, c.width.ensures.limits, c.from-width.ensures)) same so_far start is_above) in
-          rows_written k width before c.write_integral_row.new.out (drop width others) start long line (zero_outside whole.valid (sum_to whole)) so_far
-          (c.write_integral_row.ensures.whole whole (line + k) are.is row above ∙ ap (λ n. run 0 n (λ x. zero_outside whole.valid (sum_to whole) x (line + k))) (sym same));
-    }
+    let f = zero_outside image.valid (sum_on image rows.start (row_sums (option_copied c.args.above))) in
+    let so_far = ap (map pos) (c.split_at_mut-before.ensures.front ∙ ap (λ n. take n c.loop-k.samples) at) ∙ c.loop-k.invariant in
+    rows_written k width before c.write_integral_row.new.out (drop width others) start long rows.start f so_far
+    (c.write_integral_row.ensures
+    ∙ ap (λ (o : Option (List ℕ)). run 0 image.width (λ x. zero_outside image.valid (sum_on image (rows.start + k) (row_sums o)) x (rows.start + k))) last
+    ∙ next_follows image rows.start width before (option_copied c.args.above) (omega (arith, c.width.ensures.limits, c.from-width.ensures)) wide k so_far start
+    ∙ ap (λ n. run 0 n (λ x. f x (rows.start + k))) (sym wide))
+
+pub returns-clause-whole : goal.returns-clause-whole
+returns-clause-whole c = λ whole line are is_above.
+    let image = c.args.image.now in
+    let rows = c.args.rows in
+    let f = zero_outside image.valid (sum_on image rows.start (row_sums (option_copied c.args.above))) in
+    let width = c.from-width.result in
+    let wide : width ≡ image.width = c.from-width.ensures ∙ c.width.ensures.value ∙ ap (λ (d : Description). d.width) c.desc.ensures in
+    let last : c.loop-k.k ≡ rows.count = omega arith in
+    let size : length c.loop-k.samples ≡ c.loop-k.k * width = c.loop-k.auto.samples ∙ c.requires.size ∙ cc in
+    sym (ap (map pos) (take_all (c.loop-k.k * width) c.loop-k.samples (omega (arith, size)))) ∙ c.loop-k.invariant ∙ ap (λ w. band w rows.start c.loop-k.k f) wide ∙ ap (λ n. band image.width rows.start n f) last
+    ∙ band_scans image whole rows line (option_copied c.args.above) are is_above

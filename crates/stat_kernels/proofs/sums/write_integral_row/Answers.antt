@@ -1,15 +1,9 @@
 use Rattle.std.proofs.Common.{◌∙◌, replicate, ap, sym, option_copied}
 use Rattle.stat_kernels.specs.Sums.{row_sums, sum_on}
-use Rattle.stat_kernels.proofs.NextRowLaws.{no_sums}
-use Rattle.stat_kernels.proofs.ScanLaws.{no_row}
+use Rattle.stat_kernels.proofs.SumLaws.{no_row}
 use Rattle.stat_kernels.proofs.sums.write_integral_row.Goals as goal
 
-pub returns-else-has_row-clause-sums : goal.returns-else-has_row-clause-sums
-returns-else-has_row-clause-sums c =
+pub returns-else-has_row : goal.returns-else-has_row
+returns-else-has_row c =
     no_row c.args.image.now c.args.part c.requires.part c.args.y (sum_on c.args.image.now c.args.y (row_sums (option_copied c.args.above))) c.fill.new.self (sym c.has_row.ensures ∙ c.if-has_row.false)
     (c.fill.ensures.after (λ y same. same) ∙ ap (λ n. replicate n 0) c.requires.out_len)
-
-pub returns-else-has_row-clause-whole : goal.returns-else-has_row-clause-whole
-returns-else-has_row-clause-whole c = λ whole line is same is_above.
-    no_sums c.args.image.now whole c.args.y line c.args.part c.requires.part (sym c.has_row.ensures ∙ c.if-has_row.false) same
-    c.fill.new.self (c.fill.ensures.after (λ y same. same) ∙ ap (λ n. replicate n 0) c.requires.out_len)

@@ -1,31 +1,28 @@
-use Rattle.std.proofs.Common.{◌≡◌, ◌≤◌, ◌*◌, ◌/◌, ◌%◌, ◌+◌, ◌∙◌, ap, sym, subst, map, length, arith, w16, FitsSigned, map-id, take_all}
-use Rattle.window_kernels.proofs.Common.{Each1, Each1-get_or, run, length-run, rotated_coefficient, rotated_pairs}
-use Rattle.window_kernels.proofs.MatrixLaws.{table_written}
-use Rattle.window_kernels.proofs.RowLaws.{part_fits}
+use Rattle.std.proofs.Common.{rules, ◌≡◌, ◌≤◌, ◌*◌, ◌∙◌, ap, sym, subst, length, arith, w16, FitsSigned, to_z, of_z, take_all}
+use Rattle.window_kernels.proofs.Common.{Each1, Each1-get_or, ints}
+use Rattle.window_kernels.proofs.MatrixLaws.{pairs_to, pair_fits, pair_written}
 use Rattle.window_kernels.proofs.convolution.write_tables.Goals as goal
 
-pub loop-row-preserved : goal.loop-row-preserved
-loop-row-preserved c =
-    let l = c.loop-row.row in
-    let out = c.loop-row.tables in
-    let ws = c.write_table.new.table in
-    let long : length ws ≡ 80 = ap length c.write_table.ensures.value ∙ length-run (rotated_pairs c.args.convolution.now l) 0 80 in
-    let room : 80 * l ≤ length out = omega (arith, c.requires, c.loop-row.auto.tables, c.loop-row-test.true, c.from-row-end.ensures, c.rows.ensures.value) in
+pub loop-k-preserved : goal.loop-k-preserved
+loop-k-preserved c =
+    let k = c.loop-k.k in
+    let out = c.loop-k.tables in
+    let first : to_z w16 (of_z w16 c.rotated_coefficient-first.result) ≡ c.rotated_coefficient-first.result = omega (arith, ints, c.rotated_coefficient-first.type_inv) in
+    let second : to_z w16 (of_z w16 c.rotated_coefficient-second.result) ≡ c.rotated_coefficient-second.result = omega (arith, ints, c.rotated_coefficient-second.type_inv) in
+    let fits_first : FitsSigned w16 c.rotated_coefficient-first.result = search rules in
+    let fits_second : FitsSigned w16 c.rotated_coefficient-second.result = search rules in
+    let room : 16 * k ≤ length out = omega (arith, c.requires, c.loop-k.auto.tables, c.loop-k-test.true, c.from-k-end.ensures, c.rows.ensures.value) in
     record {
-      value = table_written c.args.convolution.now l _ out ws room c.loop-row.invariant.value c.write_table.ensures.value;
-      fits = part_fits (FitsSigned w16) out ws (80 * l) _ (80 * (l + 1)) room (omega (arith, long)) c.loop-row.invariant.fits c.write_table.ensures.fits;
+      value = pair_written c.args.convolution.now k _ out c.write_pair.new.out _ _ room c.loop-k.invariant.value c.write_pair.ensures (first ∙ c.rotated_coefficient-first.ensures) (second ∙ c.rotated_coefficient-second.ensures);
+      fits = pair_fits (FitsSigned w16) k _ out c.write_pair.new.out _ _ room c.loop-k.invariant.fits c.write_pair.ensures (subst (FitsSigned w16) (sym first) fits_first) (subst (FitsSigned w16) (sym second) fits_second);
     }
 
 pub returns-clause-value : goal.returns-clause-value
 returns-clause-value c =
-    let end : 80 * c.loop-row.row ≡ c.args.convolution.now.rows * 80 = omega (arith, c.from-row-end.ensures, c.rows.ensures.value) in
-    sym (map-id c.loop-row.tables)
-    ∙ ap (map (λ z. z)) (sym (take_all (80 * c.loop-row.row) c.loop-row.tables (omega (arith, c.requires))))
-    ∙ c.loop-row.invariant.value
-    ∙ ap (λ n. run 0 n (λ n. rotated_coefficient c.args.convolution.now (n / 80) (n % 80 / 16 * 2 + n % 2))) end
+    let end : c.loop-k.k ≡ c.args.convolution.now.rows * 5 = omega (arith, c.from-k-end.ensures, c.rows.ensures.value) in
+    sym (take_all (16 * c.loop-k.k) c.loop-k.tables (omega (arith, c.requires))) ∙ c.loop-k.invariant.value ∙ ap (pairs_to c.args.convolution.now) end
 
 pub returns-clause-fits : goal.returns-clause-fits
 returns-clause-fits c =
-    let end : 80 * c.loop-row.row ≡ c.args.convolution.now.rows * 80 = omega (arith, c.from-row-end.ensures, c.rows.ensures.value) in
-    let each = subst (Each1 (FitsSigned w16)) (take_all (80 * c.loop-row.row) c.loop-row.tables (omega (arith, c.requires))) c.loop-row.invariant.fits in
-    λ i d below. Each1-get_or (FitsSigned w16) c.loop-row.tables i d below each
+    let all = take_all (16 * c.loop-k.k) c.loop-k.tables (omega (arith, c.requires, c.from-k-end.ensures, c.rows.ensures.value)) in
+    λ i d below. Each1-get_or (FitsSigned w16) c.loop-k.tables i d below (subst (Each1 (FitsSigned w16)) all c.loop-k.invariant.fits)

@@ -9,12 +9,12 @@ use Rattle.client_contexts.proofs.client.Client.answer.Goals as goal
 pub invariant_of-self-in_err-reply-in_default : goal.invariant_of-self-in_err-reply-in_default
 invariant_of-self-in_err-reply-in_default c =
     let s = c.self.inside in
-    subst (λ t. AreKept t s.kept.entries) (sym c.in_err-reply-in_default.ensures.comes.kept) c.self.invariant
+    subst (λ t. AreKept t s.kept.entries) (sym c.in_err-reply-in_default.ensures.comes.unchanged) c.self.invariant
 
 pub invariant_of-self-in_default : goal.invariant_of-self-in_default
 invariant_of-self-in_default c =
     let s = c.self.inside in
-    left_are_kept c.args.limits s.table c.answer.new.table c.args.request.now (subst (λ (o : ClientContext). KeepsLimits c.args.limits o.context) (sym c.self.view_is) c.requires.keeps) c.prove_request.ensures
+    left_are_kept c.args.limits s.table c.answer.new.table c.args.request.now (subst (λ (o : ClientContext). KeepsLimits c.args.limits o.context) (sym c.self.view_is) c.requires.within_limits) c.prove_request.ensures
     (ap (λ o. (reply_and_state s.table o).1) c.in_ok-reply-in_default.ensures.comes.done) s.kept.entries c.forget.new.kept.entries c.self.invariant c.forget.ensures.forgotten c.forget.ensures.left
 
 pub returns-in-VerifyGraph-clause-verified : goal.returns-in-VerifyGraph-clause-verified

@@ -13,4 +13,4 @@ invariant_of-self c =
     let s = c.self.inside in
     subst (λ (entries : List (ℕ × ClientContext)). IsRuntime s.limits entries c.answer.new.pool) (sym (c.get_mut.follows.holds c.answer.new.self).0)
     (changed_is s.limits s.contexts.entries s.pool c.self.invariant c.args.client c.in-Some.held.now c.answer.new.self c.answer.new.pool (sym c.in-Some.ensures.value)
-    c.answer.ensures.kept c.answer.ensures.balances)
+    c.answer.ensures.within_limits c.answer.ensures.balances)

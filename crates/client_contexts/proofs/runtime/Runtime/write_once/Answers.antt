@@ -11,7 +11,7 @@ invariant_of-self-2 g c =
     let found = sym c.in-Some.ensures.value in
     subst (λ (entries : List (ℕ × ClientContext)). IsRuntime s.limits entries c.write_from.new.pool) (sym (c.get_mut.follows.holds c.write_from.new.self).0)
     (changed_is s.limits s.contexts.entries s.pool c.self.invariant c.args.client c.in-Some.held.now c.write_from.new.self c.write_from.new.pool found
-    (c.write_from.ensures.kept s.limits (client_keeps s.limits s.contexts.entries s.pool c.self.invariant c.args.client c.in-Some.held.now found))
+    (c.write_from.ensures.within_limits s.limits (client_keeps s.limits s.contexts.entries s.pool c.self.invariant c.args.client c.in-Some.held.now found))
     c.write_from.ensures.balances)
 
 pub returns-clause-written : goal.returns-clause-written

@@ -1,20 +1,18 @@
-use Rattle.std.proofs.Common.{pos, map, take, take_all, ap, ◌∙◌, sym, w16, map-id, arith}
-use Rattle.lane_rows.proofs.Common.{zip2, S16, length-map, length-zip2}
+use Rattle.std.proofs.Common.{pos, map, take, take_all, ap, ◌∙◌, sym, w8, map-id, arith}
+use Rattle.std.proofs.lemmas.Simd.{chunk-fits}
+use Rattle.lane_rows.proofs.Common.{zip2, S16, length-chunk}
 use Rattle.vx_base.specs.Pixelwise.{accumulated_sum, accumulated_square}
-use Rattle.lane_rows.proofs.ShortLaws.{of_bits}
-use Rattle.lane_rows.proofs.SumLaws.{of_squares}
-use Rattle.lane_rows.proofs.StoreLaws.{stored}
+use Rattle.lane_rows.proofs.SumLaws.{squares_are, of_squares}
 use Rattle.lane_rows.proofs.accumulation.SquaredOfSumU8I16.lanes.Goals as goal
 
 pub returns : goal.returns
 returns c =
-    let f = accumulated_square S16 c.args.self.now.amount in
-    let row = map pos c.args.row.now in
-    let sums = map (λ z. z) c.args.sums.now in
-    let made =
-    of_bits w16 c.accumulated_shorts.result c.accumulated_shorts.ensures.result_fits ∙ c.accumulated_shorts.ensures.value
-    ∙ ap (zip2 (accumulated_sum S16) _) (of_bits w16 c.shorts.result c.shorts.ensures.fits ∙ c.shorts.ensures.value)
-    ∙ ap (λ l. zip2 (accumulated_sum S16) l sums) c.scaled_squares-squares.ensures ∙ of_squares c.args.self.now.amount (map pos (take 16 c.args.row.now)) sums ∙ ap (λ l. zip2 f (map pos l) sums) (take_all 16 c.args.row.now (omega (arith, c.requires.row_len))) in
-    let one = length-map c.args.row.now pos ∙ c.requires.row_len in
-    let two = length-map c.args.sums.now (λ z. z) ∙ c.requires.sums_len in
-    stored (λ z. z) (zip2 f row sums) c.args.sums.now _ (map-id _ ∙ made) (length-zip2 f row sums (one ∙ sym two) ∙ one ∙ sym c.requires.sums_len)
+    let amount = c.args.self.now.amount in
+    let row = c.args.row.now in
+    let sums = c.args.sums.now in
+    map-id _
+    ∙ c.add_lanes.ensures
+    ∙ ap (λ l. zip2 (accumulated_sum S16) l sums) (squares_are c.from.result amount (take 16 row) c.from.ensures (length-chunk 0 16 row (omega (arith, c.requires.row_len)), chunk-fits w8 0 16 row c.type_inv.row))
+    ∙ of_squares amount (map pos (take 16 row)) sums
+    ∙ ap (λ l. zip2 (accumulated_square S16 amount) (map pos l) sums) (take_all 16 row (omega (arith, c.requires.row_len)))
+    ∙ ap (zip2 (accumulated_square S16 amount) (map pos row)) (sym (map-id sums))

@@ -1,5 +1,5 @@
 use Rattle.std.proofs.Common.{ap, ◌∙◌, eqb, of_z, w16, map, take, length, arith, count_by, take_all}
-use Rattle.lane_rows.proofs.Names.{ones, length-map, bitmask_splat, ones-mask_l}
+use Rattle.lane_rows.proofs.Common.{ones, length-map, bitmask_splat, ones-mask_l}
 use Rattle.lane_rows.proofs.CountLaws.{bits_counted}
 use Rattle.lane_rows.proofs.compared.I16Compared.count_in.Goals as goal
 

@@ -1,5 +1,5 @@
 use Rattle.std.proofs.Common.{ap, ◌∙◌, eqb, w8, take, length, arith, take_all, count_by}
-use Rattle.lane_rows.proofs.Names.{ones, bitmask_splat, ones-mask_l}
+use Rattle.lane_rows.proofs.Common.{ones, bitmask_splat, ones-mask_l}
 use Rattle.lane_rows.proofs.CountLaws.{bytes_counted}
 use Rattle.lane_rows.proofs.compared.U8Compared.count_in.Goals as goal
 

@@ -1,10 +1,11 @@
-use Rattle.std.proofs.Common.{pos, map, ap, ◌^◌, ◌*ℤ◌, ◌∙◌, w16, map-id}
-use Rattle.lane_rows.proofs.ShortLaws.{of_bits}
-use Rattle.lane_rows.proofs.StoreLaws.{row_made}
+use Rattle.std.proofs.Common.{ap, ◌∙◌, w8, w16, of_z, Fits, map-id}
+use Rattle.std.proofs.lemmas.Simd.{Each1-from_get_or}
+use Rattle.lane_rows.proofs.DepthLaws.{up_is}
 use Rattle.lane_rows.proofs.depths.ShiftedUpLanesOfItemU8I16.lanes.Goals as goal
 
 pub returns : goal.returns
 returns c =
-    ap (map (λ z. z)) c.store_32_shorts.ensures
-    ∙ row_made pos (λ z. z) (λ a. a *ℤ pos (2 ^ c.args.self.now.amount)) 32 c.args.row.now _ c.requires.row_len
-    (map-id _ ∙ of_bits w16 c.shifted_up-shorts.result c.shifted_up-shorts.ensures.fits ∙ c.shifted_up-shorts.ensures.value)
+    let row = c.args.row.now in
+    map-id _ ∙ c.store_32_shorts.ensures
+    ∙ rw c.bytes_of.ensures
+    (up_is (of_z w16 c.from.result) c.args.self.now.amount row (ap (of_z w16) c.from.ensures) c.args.self.now.small (c.requires.row_len, Each1-from_get_or (Fits w8) row 0 (λ i _. c.type_inv.row i)))

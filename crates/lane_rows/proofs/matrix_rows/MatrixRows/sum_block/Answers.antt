@@ -1,4 +1,4 @@
-use Rattle.lane_rows.proofs.PairNames.{matrix_sum}
+use Rattle.lane_rows.proofs.Common.{matrix_sum}
 use Rattle.lane_rows.proofs.MatrixSumLaws.{block_stored}
 use Rattle.lane_rows.proofs.matrix_rows.MatrixRows.sum_block.Goals as goal
 

@@ -1,5 +1,5 @@
-use Rattle.std.proofs.Common.{◌≡◌, ◌+◌, ◌<◌, ℤ, List, sym, subst, arith, w16, FitsSigned}
-use Rattle.lane_rows.proofs.PairNames.{row_fits, IsNear, IsPairTable}
+use Rattle.std.proofs.Common.{◌+◌, ◌<◌, ℤ, List, sym, subst, arith, w16, FitsSigned}
+use Rattle.lane_rows.proofs.Common.{row_fits, IsNear, IsPairTable}
 use Rattle.lane_rows.proofs.MatrixSumLaws.{each_of_row, length_row, no_row_added, row_added, sums_up_to, length_sums, all_rows_added, all_rows_up_to}
 use Rattle.lane_rows.proofs.matrix_rows.MatrixRows.sum_rows.Goals as goal
 
@@ -9,36 +9,27 @@ loop-l-init c = record { even = no_row_added c.args.self.now c.args.place; odd =
 pub row_of-row-requires : goal.row_of-row-requires
 row_of-row-requires c = let m = c.args.self.now in omega (arith, m.rows_len, row_fits m.line m.count c.loop-l.l c.loop-l-test.true)
 
-pub add_row-requires-clause-room : goal.add_row-requires-clause-room
-add_row-requires-clause-room c =
+pub add_row-requires : goal.add_row-requires
+add_row-requires c =
     let m = c.args.self.now in
-    omega (arith, c.requires, length_row m.rows.now c.row_of-row.result.now m.line c.loop-l.l c.row_of-row.ensures (omega (arith, m.rows_len, row_fits m.line m.count c.loop-l.l c.loop-l-test.true)))
-
-pub add_row-requires-clause-limit : goal.add_row-requires-clause-limit
-add_row-requires-clause-limit c = let m = c.args.self.now in each_of_row (IsNear 255) m.rows.now c.row_of-row.result.now m.line c.loop-l.l m.near c.row_of-row.ensures
-
-pub add_row-requires-clause-table_len : goal.add_row-requires-clause-table_len
-add_row-requires-clause-table_len c =
-    let m = c.args.self.now in
-    omega (arith, m.few, length_row m.tables.now c.row_of-table.result.now 80 c.loop-l.l c.row_of-table.ensures (omega (arith, m.tables_len, c.loop-l-test.true)))
-
-pub add_row-requires-clause-table : goal.add_row-requires-clause-table
-add_row-requires-clause-table c = let m = c.args.self.now in subst (λ (t : List ℤ). IsPairTable m.pairs t) (sym c.row_of-table.ensures) (m.paired c.loop-l.l c.loop-l-test.true)
-
-pub add_row-requires-clause-fits : goal.add_row-requires-clause-fits
-add_row-requires-clause-fits c = let m = c.args.self.now in each_of_row (FitsSigned w16) m.tables.now c.row_of-table.result.now 80 c.loop-l.l m.fits c.row_of-table.ensures
-
-pub add_row-requires-clause-even_len : goal.add_row-requires-clause-even_len
-add_row-requires-clause-even_len c = length_sums c.args.self.now c.args.place c.loop-l.l c.loop-l.even c.loop-l.invariant.even
-
-pub add_row-requires-clause-odd_len : goal.add_row-requires-clause-odd_len
-add_row-requires-clause-odd_len c = length_sums c.args.self.now (c.args.place + 1) c.loop-l.l c.loop-l.odd c.loop-l.invariant.odd
-
-pub add_row-requires-clause-even_limit : goal.add_row-requires-clause-even_limit
-add_row-requires-clause-even_limit c = let m = c.args.self.now in sums_up_to m c.args.place c.loop-l.l c.loop-l.even c.loop-l.invariant.even (omega (arith, c.loop-l-test.true, m.few)) m.few.1
-
-pub add_row-requires-clause-odd_limit : goal.add_row-requires-clause-odd_limit
-add_row-requires-clause-odd_limit c = let m = c.args.self.now in sums_up_to m (c.args.place + 1) c.loop-l.l c.loop-l.odd c.loop-l.invariant.odd (omega (arith, c.loop-l-test.true, m.few)) m.few.1
+    let l = c.loop-l.l in
+    let row = c.row_of-row in
+    let table = c.row_of-table in
+    let few : l < 9 = omega (arith, c.loop-l-test.true, m.few) in
+    let even = c.loop-l.invariant.even in
+    let odd = c.loop-l.invariant.odd in
+    record {
+      some = omega (arith, m.few);
+      room = omega (arith, c.requires, length_row m.rows.now row.result.now m.line l row.ensures (omega (arith, m.rows_len, row_fits m.line m.count l c.loop-l-test.true)));
+      limit = each_of_row (IsNear 255) m.rows.now row.result.now m.line l m.near row.ensures;
+      table_len = omega (arith, m.few, length_row m.tables.now table.result.now 80 l table.ensures (omega (arith, m.tables_len, c.loop-l-test.true)));
+      table = subst (λ (t : List ℤ). IsPairTable m.pairs t) (sym table.ensures) (m.paired l c.loop-l-test.true);
+      fits = each_of_row (FitsSigned w16) m.tables.now table.result.now 80 l m.fits table.ensures;
+      even_len = length_sums m c.args.place l c.loop-l.even even;
+      odd_len = length_sums m (c.args.place + 1) l c.loop-l.odd odd;
+      even_limit = sums_up_to m c.args.place l c.loop-l.even even few m.few.1;
+      odd_limit = sums_up_to m (c.args.place + 1) l c.loop-l.odd odd few m.few.1;
+    }
 
 pub loop-l-preserved : goal.loop-l-preserved
 loop-l-preserved c =
@@ -51,14 +42,15 @@ loop-l-preserved c =
       odd = row_added m (c.args.place + 1) c.loop-l.l c.loop-l.odd c.loop-l.invariant.odd c.add_row.result.1 _ _ row table few m.few.1 c.add_row.ensures.odd c.add_row.ensures.odd_len c.add_row.ensures.odd_limit;
     }
 
-pub returns-clause-even : goal.returns-clause-even
-returns-clause-even c = let m = c.args.self.now in let end : c.loop-l.l ≡ m.count = omega arith in all_rows_added m c.args.place c.loop-l.l c.loop-l.even c.loop-l.invariant.even end
-
-pub returns-clause-odd : goal.returns-clause-odd
-returns-clause-odd c = let m = c.args.self.now in let end : c.loop-l.l ≡ m.count = omega arith in all_rows_added m (c.args.place + 1) c.loop-l.l c.loop-l.odd c.loop-l.invariant.odd end
-
-pub returns-clause-even_limit : goal.returns-clause-even_limit
-returns-clause-even_limit c = all_rows_up_to c.args.self.now c.args.place c.loop-l.l c.loop-l.even c.loop-l.invariant.even (let m = c.args.self.now in omega (arith, m.few))
-
-pub returns-clause-odd_limit : goal.returns-clause-odd_limit
-returns-clause-odd_limit c = all_rows_up_to c.args.self.now (c.args.place + 1) c.loop-l.l c.loop-l.odd c.loop-l.invariant.odd (let m = c.args.self.now in omega (arith, m.few))
+pub returns : goal.returns
+returns c =
+    let m = c.args.self.now in
+    let l = c.loop-l.l in
+    let even = c.loop-l.invariant.even in
+    let odd = c.loop-l.invariant.odd in
+    record {
+      even = all_rows_added m c.args.place l c.loop-l.even even (omega arith);
+      odd = all_rows_added m (c.args.place + 1) l c.loop-l.odd odd (omega arith);
+      even_limit = all_rows_up_to m c.args.place l c.loop-l.even even (omega (arith, m.few));
+      odd_limit = all_rows_up_to m (c.args.place + 1) l c.loop-l.odd odd (omega (arith, m.few));
+    }

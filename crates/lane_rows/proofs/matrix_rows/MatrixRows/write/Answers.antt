@@ -1,5 +1,5 @@
 use Rattle.std.proofs.Common.{◌≡◌, ℕ, ℤ, ◌∙◌, ◌+◌, ◌-◌, ◌*◌, ◌≤◌, ap, sym, pos, map, length, take, drop, min, arith, int_div, take_all, ◌^◌, length-take, length-drop}
-use Rattle.lane_rows.proofs.PairNames.{clamp, run, matrix_sum}
+use Rattle.lane_rows.proofs.Common.{clamp, run, matrix_sum}
 use Rattle.lane_rows.proofs.RunLaws.{block_written, block_begins, blocks_end}
 use Rattle.lane_rows.proofs.matrix_rows.MatrixRows.write.Goals as goal
 

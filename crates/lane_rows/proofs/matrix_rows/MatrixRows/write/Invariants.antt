@@ -1,5 +1,5 @@
 use Rattle.std.proofs.Common.{◌≡◌, ◌*◌, pos, map, take, length, min, int_div, ◌^◌}
-use Rattle.lane_rows.proofs.PairNames.{clamp, run, matrix_sum}
+use Rattle.lane_rows.proofs.Common.{clamp, run, matrix_sum}
 use Rattle.lane_rows.proofs.matrix_rows.MatrixRows.write.Given as goal
 
 abbrev pub invariant-loop-k : goal.invariant-loop-k

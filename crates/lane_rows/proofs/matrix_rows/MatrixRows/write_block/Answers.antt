@@ -1,5 +1,5 @@
 use Rattle.std.proofs.Common.{ℤ, ◌∙◌, ◌+◌, ◌^◌, ap, sym, pos, map, length, take, arith, int_div, map-id}
-use Rattle.lane_rows.proofs.PairNames.{clamp, run, run_part, matrix_sum}
+use Rattle.lane_rows.proofs.Common.{clamp, run, run_part, matrix_sum}
 use Rattle.vx_base.proofs.TableLaws.{map_of_run}
 use Rattle.lane_rows.proofs.matrix_rows.MatrixRows.write_block.Goals as goal
 

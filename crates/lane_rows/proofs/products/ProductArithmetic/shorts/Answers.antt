@@ -1,15 +1,17 @@
-use Rattle.std.proofs.Common.{◌∙◌, ap, map, subst, sym, w16, FitsSigned, to_z, of_z}
-use Rattle.lane_rows.proofs.Common.{zip2, Each1, S16, product}
-use Rattle.lane_rows.proofs.NarrowLaws.{products_told, narrowed_products_fit}
+use Rattle.std.proofs.Common.{w16, w32}
+use Rattle.lane_rows.proofs.ShortLaws.{of_bits}
+use Rattle.lane_rows.proofs.NarrowLaws.{products_narrowed}
 use Rattle.lane_rows.proofs.products.ProductArithmetic.shorts.Goals as goal
 
 pub returns-clause-value : goal.returns-clause-value
 returns-clause-value g c =
-    let n = c.args.self.now.amount in
-    products_told (g.P.Overflow.policy c.args.self.now.overflow) n c.args.a c.args.b c.multiplied.result c.requires.a_fits c.requires.b_fits
-    (c.multiplied.ensures ∙ ap (λ p. zip2 (product S16 p n) (map (to_z w16) (map (of_z w16) c.args.a)) (map (to_z w16) (map (of_z w16) c.args.b))) c.policy.ensures)
-
-pub returns-clause-fits : goal.returns-clause-fits
-returns-clause-fits g c =
-    subst (Each1 (FitsSigned w16)) (sym (returns-clause-value g c))
-    (narrowed_products_fit (g.P.Overflow.policy c.args.self.now.overflow) c.args.self.now.amount c.args.a c.args.b c.requires.a_fits c.requires.b_fits)
+    let law = products_narrowed (g.P.Overflow.policy c.args.self.now.overflow) c.args.self.now.amount c.args.a c.args.b c.requires.a_len c.requires.b_len in
+    cc (
+      of_bits w16 c.args.a c.requires.a_fits,
+      of_bits w16 c.args.b c.requires.b_fits,
+      of_bits w32 c.products.result c.products.ensures.fits,
+      of_bits w32 c.scaled_lanes-quotients.result c.scaled_lanes-quotients.ensures.result_fits,
+      of_bits w16 c.narrowed.result c.narrowed.ensures.result_fits,
+      of_bits w16 c.quarters_exchanged.result c.quarters_exchanged.ensures.result_fits,
+      law,
+    )

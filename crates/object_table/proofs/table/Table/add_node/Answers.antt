@@ -6,12 +6,6 @@ use Rattle.object_table.proofs.GraphLemmas.{unchanged, live_there, all_below, fe
 use Rattle.object_table.proofs.table.Table.add_node.Goals as goal
 use Rattle.object_table.proofs.table.Table.add_node.Goals.{After-begin_uses}
 
-pub unreachable-requires : goal.unreachable-requires
-unreachable-requires c = nothing_under _ _ _ c.self.view_is _ c.args.graph (sym c.in_default.ensures.value) c.requires.graph
-
-pub add_node-requires : goal.add_node-requires
-add_node-requires c = kind_under _ _ _ c.self.view_is _ c.args.graph _ (sym c.in-Some.ensures.value) c.requires.graph
-
 pub invariant_of-self : goal.invariant_of-self
 invariant_of-self c =
     let same = c.in_err-number.ensures.err in
@@ -25,7 +19,7 @@ returns-in_err-number c =
     rw (p.1, p.2) (record {
       number = tt;
       ok = tt;
-      room = tt;
+      capacity = tt;
       fault = c.in_err-number.ensures.fault ∙ ap (λ (o : ObjectValue). if can_add (graph_value o) then graph_fault.NoMemory else graph_fault.NoResources) (sym under);
       err = unchanged _ _ _ c.self.view_is c.args.graph _ (sym c.in-Some.ensures.value) _ _ c.in_err-number.ensures.err (c.get_mut.follows.holds new).0;
     })
@@ -51,12 +45,8 @@ invariant_of-self-2 c =
     (IsTable-added s.next s.charge s.entries.entries c.self.invariant c.args.graph old (record old { object = c.add_node.new.self }) found refl c.add_node.ensures.bytes
     (live_there _ _ _ _ c.self.view_is c.self.invariant c.args.graph old found c.requires.live) refl
     (kind_under _ _ _ c.self.view_is _ c.args.graph old found c.requires.graph) c.args.node
-    c.in_ok-number.ensures.ok c.in_ok-number.ensures.room
+    c.in_ok-number.ensures.ok c.in_ok-number.ensures.capacity
     (all_below _ _ _ _ c.self.view_is c.self.invariant (used_names c.args.node) c.requires.held))
-
-pub returns-clause-number : goal.returns-clause-number
-returns-clause-number c =
-    c.in_ok-number.ensures.number ∙ ap (λ (o : ObjectValue). (graph_value o).next) (sym (under_is _ _ _ c.self.view_is c.args.graph _ (sym c.in-Some.ensures.value)))
 
 pub returns-clause-ok : goal.returns-clause-ok
 returns-clause-ok c =
@@ -65,7 +55,3 @@ returns-clause-ok c =
     ∙ ap (λ (l : List NamedObject). let t : Context = record { next = next; objects = l } in t) (named-recounted (λ k u. u + name_count k (used_names c.args.node)) _)
     ∙ shown_name _ _ _ c.self.view_is c.args.graph c.in-Some.entry.now (sym c.in-Some.ensures.value) (λ o. GraphObject (with_node (graph_value o) c.args.node)) c.add_node.new.self _
     c.get_mut.ensures.ordered refl c.in_ok-number.ensures.ok
-
-pub returns-clause-room : goal.returns-clause-room
-returns-clause-room c =
-    subst (λ (o : ObjectValue). IsTrue (can_add (graph_value o))) (sym (under_is _ _ _ c.self.view_is c.args.graph _ (sym c.in-Some.ensures.value))) c.in_ok-number.ensures.room

@@ -3,9 +3,6 @@ use Rattle.object_table.proofs.Common.{aged_object, nodes_in}
 use Rattle.object_table.proofs.EntryLemmas.{nothing_under, shown_name, IsTable-written}
 use Rattle.object_table.proofs.table.Table.age.Goals as goal
 
-pub unreachable-requires : goal.unreachable-requires
-unreachable-requires c = nothing_under _ _ _ c.self.view_is _ c.args.name (sym c.in_default.ensures.value) c.requires
-
 pub invariant_of-self : goal.invariant_of-self
 invariant_of-self c =
     IsTable-written _ _ _ _ _ c.age.new.self _ c.self.invariant (sym c.in-Some.ensures.value) (c.get_mut.follows.holds _).0

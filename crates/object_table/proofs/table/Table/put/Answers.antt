@@ -3,15 +3,6 @@ use Rattle.object_table.proofs.Common.{ImageValue, values, with_samples, nodes_i
 use Rattle.object_table.proofs.EntryLemmas.{nothing_held, image_is, image_there, shown_cell, IsTable-written, no_nodes}
 use Rattle.object_table.proofs.table.Table.put.Goals as goal
 
-pub unreachable-requires : goal.unreachable-requires
-unreachable-requires c = nothing_held _ _ _ c.self.view_is c.args.cell _ c.name.ensures.value (sym c.in_default.ensures.value) c.requires.there
-
-pub put-requires-clause-there : goal.put-requires-clause-there
-put-requires-clause-there c = image_there _ _ _ c.self.view_is c.args.cell _ _ c.name.ensures.value c.slot.ensures.value _ (sym c.in-Some.ensures.value) c.requires.there
-
-pub put-requires-clause-format : goal.put-requires-clause-format
-put-requires-clause-format c = c.requires.format ∙ ap (λ (i : ImageValue). i.format) (image_is _ _ _ c.self.view_is c.args.cell _ _ c.name.ensures.value c.slot.ensures.value _ (sym c.in-Some.ensures.value))
-
 pub invariant_of-self : goal.invariant_of-self
 invariant_of-self c =
     let there = image_there _ _ _ c.self.view_is c.args.cell _ _ c.name.ensures.value c.slot.ensures.value _ (sym c.in-Some.ensures.value) c.requires.there in

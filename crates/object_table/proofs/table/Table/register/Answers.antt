@@ -11,12 +11,6 @@ returns-then-is_registered-clause-ok c =
     ap (λ g. is_registered g c.args.delay) (sym c.graph-found.ensures) ∙ sym c.if-is_registered.ensures in
     ap (λ b. with_objects now (if b then now.objects else with_graph now.objects c.args.graph (one_more now.objects (graph_under now.objects c.args.graph) c.args.delay))) (sym there)
 
-pub unreachable-requires : goal.unreachable-requires
-unreachable-requires c = nothing_under _ _ _ c.self.view_is _ c.args.graph (sym c.in_default.ensures.value) c.requires
-
-pub set_delays-requires-clause-kind : goal.set_delays-requires-clause-kind
-set_delays-requires-clause-kind c = kind_under _ _ _ c.self.view_is _ c.args.graph _ (sym c.in-Some.ensures.value) c.requires
-
 pub set_delays-requires-clause-distinct : goal.set_delays-requires-clause-distinct
 set_delays-requires-clause-distinct c =
     subst (AllPairs (λ (a : ℕ) (b : ℕ). a ≢ b)) (sym c.in_ok-delays.ensures.value)

@@ -6,21 +6,10 @@ use Rattle.object_table.proofs.GraphLemmas.{AreLeft, unchanged, charged-after, h
 use Rattle.object_table.proofs.table.Table.remove_node.Goals as goal
 use Rattle.object_table.proofs.table.Table.remove_node.Goals.{In_ok-node}
 
-pub unreachable-requires : goal.unreachable-requires
-unreachable-requires c = nothing_under _ _ _ c.self.view_is _ c.args.graph (sym c.in_default.ensures.value) c.requires.graph
-
-pub remove_node-requires : goal.remove_node-requires
-remove_node-requires c = kind_under _ _ _ c.self.view_is _ c.args.graph _ (sym c.in-Some.ensures.value) c.requires.graph
-
 pub invariant_of-self : goal.invariant_of-self
 invariant_of-self c =
     let same = c.in_err-node.ensures.err in
     IsTable-written _ _ _ _ _ c.remove_node.new.self _ c.self.invariant (sym c.in-Some.ensures.value) (c.get_mut.follows.holds _).0 (ap nodes_in same) (ap object_bytes same)
-
-pub returns-in_err-node-clause-missing : goal.returns-in_err-node-clause-missing
-returns-in_err-node-clause-missing c =
-    let p = err_from_is_err_and c.from_residual.result c.from_residual.ensures.1 in
-    rw p.1 (c.in_err-node.ensures.missing ∙ ap (λ (o : ObjectValue). not (has_node (graph_value o) c.args.number)) (sym (under_is _ _ _ c.self.view_is c.args.graph _ (sym c.in-Some.ensures.value))))
 
 pub returns-in_err-node-clause-err : goal.returns-in_err-node-clause-err
 returns-in_err-node-clause-err c =
@@ -84,10 +73,6 @@ returns-clause-ok c =
     ∙ ap (λ (t : Context). with_objects t (still_held t.objects))
     (shown_name _ _ _ c.self.view_is c.args.graph _ (sym c.in-Some.ensures.value) (λ o. GraphObject (without_node (graph_value o) c.args.number)) c.remove_node.new.self (changed at)
     c.get_mut.ensures.ordered refl c.in_ok-node.ensures.ok)
-
-pub returns-clause-missing : goal.returns-clause-missing
-returns-clause-missing c =
-    c.in_ok-node.ensures.missing ∙ ap (λ (o : ObjectValue). not (has_node (graph_value o) c.args.number)) (sym (under_is _ _ _ c.self.view_is c.args.graph _ (sym c.in-Some.ensures.value)))
 
 pub returns-in_err-node-clause-balances : goal.returns-in_err-node-clause-balances
 returns-in_err-node-clause-balances c =

@@ -3,15 +3,6 @@ use Rattle.object_table.proofs.Common.{object_kind, distribution_value, with_cou
 use Rattle.object_table.proofs.EntryLemmas.{nothing_under, kind_under, under_is, shown_name, IsTable-written, none_of_kind}
 use Rattle.object_table.proofs.table.Table.set_counts.Goals as goal
 
-pub unreachable-requires : goal.unreachable-requires
-unreachable-requires c = nothing_under _ _ _ c.self.view_is _ c.args.name (sym c.in_default.ensures.value) c.requires.kind
-
-pub set_counts-requires-clause-kind : goal.set_counts-requires-clause-kind
-set_counts-requires-clause-kind c = kind_under _ _ _ c.self.view_is _ c.args.name _ (sym c.in-Some.ensures.value) c.requires.kind
-
-pub set_counts-requires-clause-size : goal.set_counts-requires-clause-size
-set_counts-requires-clause-size c = c.requires.size ∙ ap (λ o. (distribution_value o).bins.bins) (under_is _ _ _ c.self.view_is c.args.name _ (sym c.in-Some.ensures.value))
-
 pub invariant_of-self : goal.invariant_of-self
 invariant_of-self c =
     IsTable-written _ _ _ _ _ c.set_counts.new.self _ c.self.invariant (sym c.in-Some.ensures.value) (c.get_mut.follows.holds _).0

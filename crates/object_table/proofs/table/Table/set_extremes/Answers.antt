@@ -3,12 +3,6 @@ use Rattle.object_table.proofs.Common.{object_kind, ExtremesObject, Kind}
 use Rattle.object_table.proofs.EntryLemmas.{nothing_under, kind_under, shown_name, IsTable-written, none_of_kind}
 use Rattle.object_table.proofs.table.Table.set_extremes.Goals as goal
 
-pub unreachable-requires : goal.unreachable-requires
-unreachable-requires c = nothing_under _ _ _ c.self.view_is _ c.args.name (sym c.in_default.ensures.value) c.requires
-
-pub set_extremes-requires : goal.set_extremes-requires
-set_extremes-requires c = kind_under _ _ _ c.self.view_is _ c.args.name _ (sym c.in-Some.ensures.value) c.requires
-
 pub invariant_of-self : goal.invariant_of-self
 invariant_of-self c =
     IsTable-written _ _ _ _ _ c.set_extremes.new.self _ c.self.invariant (sym c.in-Some.ensures.value) (c.get_mut.follows.holds _).0

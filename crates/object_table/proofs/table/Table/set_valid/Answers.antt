@@ -3,18 +3,6 @@ use Rattle.object_table.proofs.Common.{ImageValue, with_valid, ImageObject, IsOb
 use Rattle.object_table.proofs.EntryLemmas.{nothing_held, found_under, image_is, image_there, shown_cell, IsTable-written, no_nodes}
 use Rattle.object_table.proofs.table.Table.set_valid.Goals as goal
 
-pub unreachable-requires : goal.unreachable-requires
-unreachable-requires c = nothing_held _ _ _ c.self.view_is c.args.cell _ c.name.ensures.value (sym c.in_default.ensures.value) c.requires.there
-
-pub set_valid-requires-clause-there : goal.set_valid-requires-clause-there
-set_valid-requires-clause-there c = image_there _ _ _ c.self.view_is c.args.cell _ _ c.name.ensures.value c.slot.ensures.value _ (sym c.in-Some.ensures.value) c.requires.there
-
-pub set_valid-requires-clause-object : goal.set_valid-requires-clause-object
-set_valid-requires-clause-object c = subst IsObject (found_under _ _ _ c.self.view_is c.args.cell _ _ c.name.ensures.value c.slot.ensures.value _ (sym c.in-Some.ensures.value)) c.requires.object
-
-pub set_valid-requires-clause-room : goal.set_valid-requires-clause-room
-set_valid-requires-clause-room c = subst (λ (i : ImageValue). IsWithin c.args.valid i.width i.height) (image_is _ _ _ c.self.view_is c.args.cell _ _ c.name.ensures.value c.slot.ensures.value _ (sym c.in-Some.ensures.value)) c.requires.room
-
 pub invariant_of-self : goal.invariant_of-self
 invariant_of-self c =
     let there = image_there _ _ _ c.self.view_is c.args.cell _ _ c.name.ensures.value c.slot.ensures.value _ (sym c.in-Some.ensures.value) c.requires.there in

@@ -3,21 +3,6 @@ use Rattle.object_table.proofs.Common.{ImageValue, description_of, image_value, 
 use Rattle.object_table.proofs.EntryLemmas.{nothing_held, image_is, image_there, shown_cell, IsTable-written, no_nodes}
 use Rattle.object_table.proofs.table.Table.take.Goals as goal
 
-pub unreachable-requires : goal.unreachable-requires
-unreachable-requires c = nothing_held _ _ _ c.self.view_is c.args.cell _ c.name.ensures.value (sym c.in_default.ensures.value) c.requires
-
-pub take-requires : goal.take-requires
-take-requires c = image_there _ _ _ c.self.view_is c.args.cell _ _ c.name.ensures.value c.slot.ensures.value _ (sym c.in-Some.ensures.value) c.requires
-
-pub returns-clause-desc : goal.returns-clause-desc
-returns-clause-desc c = c.take.ensures.desc ∙ ap description_of (sym (image_is _ _ _ c.self.view_is c.args.cell _ _ c.name.ensures.value c.slot.ensures.value _ (sym c.in-Some.ensures.value)))
-
-pub returns-clause-value : goal.returns-clause-value
-returns-clause-value c = c.take.ensures.value ∙ ap (λ (i : ImageValue). i.samples) (sym (image_is _ _ _ c.self.view_is c.args.cell _ _ c.name.ensures.value c.slot.ensures.value _ (sym c.in-Some.ensures.value)))
-
-pub returns-clause-format : goal.returns-clause-format
-returns-clause-format c = c.take.ensures.format ∙ ap (λ (i : ImageValue). i.format) (sym (image_is _ _ _ c.self.view_is c.args.cell _ _ c.name.ensures.value c.slot.ensures.value _ (sym c.in-Some.ensures.value)))
-
 pub invariant_of-self : goal.invariant_of-self
 invariant_of-self c =
     let there = image_there _ _ _ c.self.view_is c.args.cell _ _ c.name.ensures.value c.slot.ensures.value _ (sym c.in-Some.ensures.value) c.requires in

@@ -3,18 +3,6 @@ use Rattle.object_table.proofs.Common.{description_of, ImageObject, IsObject, no
 use Rattle.object_table.proofs.EntryLemmas.{nothing_held, found_under, image_is, image_there, shown_cell, IsTable-written, no_nodes}
 use Rattle.object_table.proofs.table.Table.write.Goals as goal
 
-pub unreachable-requires : goal.unreachable-requires
-unreachable-requires c = nothing_held _ _ _ c.self.view_is c.args.cell _ c.name.ensures.value (sym c.in_default.ensures.value) c.requires.there
-
-pub write-requires-clause-there : goal.write-requires-clause-there
-write-requires-clause-there c = image_there _ _ _ c.self.view_is c.args.cell _ _ c.name.ensures.value c.slot.ensures.value _ (sym c.in-Some.ensures.value) c.requires.there
-
-pub write-requires-clause-object : goal.write-requires-clause-object
-write-requires-clause-object c = subst IsObject (found_under _ _ _ c.self.view_is c.args.cell _ _ c.name.ensures.value c.slot.ensures.value _ (sym c.in-Some.ensures.value)) c.requires.object
-
-pub write-requires-clause-same : goal.write-requires-clause-same
-write-requires-clause-same c = ap description_of (sym (image_is _ _ _ c.self.view_is c.args.cell _ _ c.name.ensures.value c.slot.ensures.value _ (sym c.in-Some.ensures.value))) ∙ c.requires.same
-
 pub invariant_of-self : goal.invariant_of-self
 invariant_of-self c =
     let there = image_there _ _ _ c.self.view_is c.args.cell _ _ c.name.ensures.value c.slot.ensures.value _ (sym c.in-Some.ensures.value) c.requires.there in

@@ -14,8 +14,8 @@ write_digits-height-requires c =
     let short = side_digits c.args.desc.height c.from.result c.prove_sides.ensures.height (search rules) in
     (omega arith, search rules)
 
-pub put_before-blank-requires-clause-room : goal.put_before-blank-requires-clause-room
-put_before-blank-requires-clause-room c =
+pub put_before-blank-requires-clause-fits : goal.put_before-blank-requires-clause-fits
+put_before-blank-requires-clause-fits c =
     let short = side_digits c.args.desc.height c.from.result c.prove_sides.ensures.height (search rules) in
     omega arith
 
@@ -25,8 +25,8 @@ write_digits-width-requires c =
     let wide = side_digits c.args.desc.width c.from-2.result c.prove_sides.ensures.width (search rules) in
     (omega arith, search rules)
 
-pub put_before-start-requires-clause-room : goal.put_before-start-requires-clause-room
-put_before-start-requires-clause-room c =
+pub put_before-start-requires-clause-fits : goal.put_before-start-requires-clause-fits
+put_before-start-requires-clause-fits c =
     let high = side_digits c.args.desc.height c.from.result c.prove_sides.ensures.height (search rules) in
     let wide = side_digits c.args.desc.width c.from-2.result c.prove_sides.ensures.width (search rules) in
     omega arith

@@ -2,9 +2,9 @@ use Rattle.std.proofs.Common.{◌<◌, ◌+◌, length, refl, arith}
 use Rattle.pixel_pool.specs.Shelf.{stack_at, lengths}
 use Rattle.pixel_pool.specs.Classes.{class_count}
 use Rattle.std.proofs.Math.Nat.{add-mul}
-use Rattle.pixel_pool.proofs.ClassLemmas.{room_small}
-use Rattle.pixel_pool.proofs.FreeLemmas.{room_bound}
-use Rattle.pixel_pool.proofs.StackLemmas.{lent_some, stack_counted, pushed, room_changed, back_value, back_count}
+use Rattle.pixel_pool.proofs.ClassLemmas.{capacity_small}
+use Rattle.pixel_pool.proofs.FreeLemmas.{capacity_bound}
+use Rattle.pixel_pool.proofs.StackLemmas.{lent_some, stack_counted, pushed, capacity_changed, back_value, back_count}
 use Rattle.pixel_pool.proofs.shelf.Shelf.give_back.Goals as goal
 
 pub overflow_add-self : goal.overflow_add-self
@@ -14,18 +14,18 @@ overflow_add-self g c =
 
 pub overflow_add-self-2 : goal.overflow_add-self-2
 overflow_add-self-2 g c =
-    omega (arith, c.class_of-class.ensures.room, c.self.invariant.2, room_bound (lengths c.self.inside.stacks) class_count (omega arith), c.self.invariant.1.counted, c.self.invariant.0, c.capacity.ensures, room_small c.class_of-class.result.0 (omega (arith, c.class_of-class.ensures.class.class_known)))
+    omega (arith, c.class_of-class.ensures.capacity, c.self.invariant.2, capacity_bound (lengths c.self.inside.stacks) class_count (omega arith), c.self.invariant.1.counted, c.self.invariant.0, c.capacity.ensures, capacity_small c.class_of-class.result.0 (omega (arith, c.class_of-class.ensures.class.class_known)))
 
 pub invariant_of-self : goal.invariant_of-self
 invariant_of-self g c =
     let inside : c.class_of-class.result.0 < length c.self.inside.stacks = omega (arith, c.class_of-class.ensures.class.class_known, c.self.invariant.1.all) in (
       omega (arith, lent_some c.self.inside.stacks c.self.inside.lent c.args.self.now c.self.view_is c.requires, c.self.invariant.0, c.insert_reserved-top.ensures.len, c.insert_reserved-top.ensures.capacity),
       pushed c.self.inside.stacks c.self.inside.free c.insert_reserved-top.new.self c.insert_reserved-top.result
-          (record { samples = c.args.samples; class = c.class_of-class.result.0; room = c.class_of-class.result.1; under = stack_at c.self.inside.stacks c.class_of-class.result.0 }) c.self.invariant.1 inside
-          (rw (c.capacity.ensures) at c.class_of-class.ensures.class.within) c.class_of-class.ensures.room refl c.insert_reserved-top.ensures.was_vacant c.insert_reserved-top.ensures.updates c.insert_reserved-top.ensures.len,
-      let changed = room_changed c.self.inside.stacks c.class_of-class.result.0
+          (record { samples = c.args.samples; class = c.class_of-class.result.0; capacity = c.class_of-class.result.1; under = stack_at c.self.inside.stacks c.class_of-class.result.0 }) c.self.invariant.1 inside
+          (rw (c.capacity.ensures) at c.class_of-class.ensures.class.within) c.class_of-class.ensures.capacity refl c.insert_reserved-top.ensures.was_vacant c.insert_reserved-top.ensures.updates c.insert_reserved-top.ensures.len,
+      let changed = capacity_changed c.self.inside.stacks c.class_of-class.result.0
           (record { top = c.insert_reserved-top.result; len = (stack_at c.self.inside.stacks c.class_of-class.result.0).len + 1 }) inside c.self.invariant.1.all in
-          omega (arith, c.class_of-class.ensures.room, c.self.invariant.2, rw add-mul at changed),
+          omega (arith, c.class_of-class.ensures.capacity, c.self.invariant.2, rw add-mul at changed),
     )
 
 pub returns-clause-free : goal.returns-clause-free

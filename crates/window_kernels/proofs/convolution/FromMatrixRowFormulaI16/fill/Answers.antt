@@ -1,9 +1,8 @@
-use Rattle.std.proofs.Common.{◌≡◌, ◌≤◌, ℕ, ℤ, ◌∙◌, ◌+◌, ◌*◌, ◌/◌, ◌%◌, ◌+ℤ◌, ◌-ℤ◌, ap, sym, pos, length, zero-add, arith, int_div, ◌^◌}
-use Rattle.window_kernels.proofs.Common.{clamp, sample_or_border, convolution_result, run, length-run, run_shifted, sum_of_rows, IsNear, Each1-get_or}
+use Rattle.std.proofs.Common.{◌≡◌, ◌≤◌, ℕ, ℤ, ◌∙◌, ◌+◌, ◌*◌, ◌/◌, ◌+ℤ◌, ◌-ℤ◌, ap, sym, pos, length, zero-add, arith, int_div, ◌^◌}
+use Rattle.window_kernels.proofs.Common.{clamp, sample_or_border, convolution_result, run, run_shifted, sum_of_rows, IsNear, Each1-get_or}
 use Rattle.vx_base.proofs.TableLaws.{length-table}
 use Rattle.vx_base.specs.declared.format.Format.{Format}
-use Rattle.window_kernels.specs.Rotated.{rotated_coefficient}
-use Rattle.window_kernels.proofs.MatrixLaws.{are_tables, odd_side, sum_is_product}
+use Rattle.window_kernels.proofs.MatrixLaws.{are_tables, length-pairs, odd_side, sum_is_product}
 use Rattle.window_kernels.proofs.RowLaws.{same_values}
 use Rattle.window_kernels.proofs.convolution.FromMatrixRowFormulaI16.fill.Goals as goal
 
@@ -17,7 +16,7 @@ invariant_of-matrix g c =
       small = c.exponent.ensures.limit;
       rows_len = ap length c.load_rows.ensures.value ∙ length-table (length c.args.out.now + 48) m.rows (λ k l. sample_or_border s.image.now s.border (pos (c.args.x + k) -ℤ pos (m.columns / 2)) (pos c.args.y +ℤ pos (m.rows / 2) -ℤ pos l)) ∙ ap (λ n. n * (length c.args.out.now + 48)) (sym c.rows-count.ensures.value);
       near = λ i d below. Each1-get_or (IsNear 255) c.load_rows.new.rows i d below c.load_rows.ensures.limit;
-      tables_len = ap length s.rotated_coefficient ∙ length-run (λ n. rotated_coefficient m (n / 80) (n % 80 / 16 * 2 + n % 2)) 0 (m.rows * 80) ∙ ap (λ n. n * 80) (sym c.rows-count.ensures.value);
+      tables_len = omega (arith, ap length s.rotated_coefficient, length-pairs m (m.rows * 5), c.rows-count.ensures.value);
       paired = λ l below. are_tables m s.tables.now (c.from-3.result / 2 + 1) s.rotated_coefficient pairs l (omega (arith, c.rows-count.ensures.value, below));
       fits = s.fits;
     }

@@ -1,7 +1,0 @@
-use Rattle.std.proofs.Common.{pos, map, ap, ◌∙◌, refl}
-use Rattle.vx_base.specs.Pixelwise.{or_bits}
-use Rattle.lane_rows.proofs.StoreLaws.{bytes_made}
-use Rattle.lane_rows.proofs.bits.OrOfPairU8U8U8.lanes.Goals as goal
-
-pub returns : goal.returns
-returns c = ap (map pos) c.store_32_bytes.ensures ∙ bytes_made _ or_bits (λ x y. refl) c.args.first.now c.args.second.now c.requires.first_len c.requires.second_len

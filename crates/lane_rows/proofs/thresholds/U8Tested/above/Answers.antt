@@ -1,7 +1,0 @@
-use Rattle.std.proofs.Common.{pos, map, take_all, ap, ◌∙◌, arith}
-use Rattle.vx_base.specs.declared.threshold.ThresholdKind.TheVariants.{Binary}
-use Rattle.lane_rows.specs.Chosen.{threshold_choice}
-use Rattle.lane_rows.proofs.thresholds.U8Tested.above.Goals as goal
-
-pub returns : goal.returns
-returns c = c.bytes_above.ensures ∙ ap (λ l. map (threshold_choice (Binary (pos c.args.limit)) c.args.true_value c.args.false_value) (map pos l)) (take_all 32 c.args.row.now (omega (arith, c.requires)))
