@@ -1,5 +1,5 @@
-"""Checks the names and links in documents, the names of definitions, and the style of documents and
-comments."""
+"""Checks the names and links in documents, the names of definitions, the style of documents and
+comments, and unfinished merges."""
 
 from typing import Iterator
 

@@ -8,7 +8,7 @@ from typing import Optional
 
 
 class Manager:
-    """systemd, if this program is a service of it that notifies."""
+    """The service manager systemd, if this program runs as a service that notifies it."""
 
     def __init__(self) -> None:
         # Removed from the environment, because the servers have nothing to notify.
