@@ -165,7 +165,8 @@ class Context(Uncopied):
         """
         Returns an image of these samples: a NumPy array of shape (height, width) and dtype uint8,
         int16 or uint32, another buffer of that shape, or rows of numbers, which are U8 unless a
-        format is given. Raises BadPicture for anything else.
+        format is given. Raises BadPicture for anything else, and TypeError if the samples have
+        another format than `fmt`.
         """
         if fmt is None:
             return self._image_of(samples_of(samples), name)
