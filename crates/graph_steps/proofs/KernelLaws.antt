@@ -15,13 +15,12 @@ use Rattle.vx_base.specs.Formats.{takes_formats}
 use Rattle.vx_base.specs.Function.{parameters, accumulates}
 use Rattle.vx_base.specs.Image.{ImageValue, description_of, image_over, band, pixel_at}
 use Rattle.vx_base.specs.Object.{ObjectValue, ImageObject, object_kind}
-use Rattle.vx_base.specs.Outputs.{image_of_one, node_image}
-use Rattle.vx_base.specs.Pixelwise.{from_two, formula_of_two}
-use Rattle.vx_base.specs.Window.{from_nine, formula_of_nine}
+use Rattle.vx_base.specs.Outputs.{node_image, second_or_output}
 use Rattle.vx_base.proofs.TableLaws.{band-same, length-table}
 use Rattle.vx_base.proofs.ImageLaws.{samples_are_band}
 use Rattle.image_core.specs.declared.band.Band.{Band}
 use Rattle.image_core.specs.declared.image_mut.ImageMut.{ImageMut}
+use Rattle.image_core.specs.declared.second.SecondInput.{SecondInput}
 use Rattle.image_core.specs.Bands.{IsInRows, has_row, image_over_rows, rows_in}
 use Rattle.image_core.specs.Rows.{sample_at}
 use Rattle.image_core.specs.Second.{second_object}
@@ -37,33 +36,29 @@ use Rattle.graph_steps.proofs.PlaneLaws.{lent_rows, rows_among}
 
 -- ---- by the function
 
--- from two images
-pub two_written : (n : Node) (function : Function) (format : Format) (a b : ImageValue) (old new : ImageMut) → n.function ≡ function → old.desc.format ≡ format
-    → Writes (from_two format (formula_of_two function format n.policy n.amount) a b) old new → Writes (from_two old.desc.format (formula_of_two n.function old.desc.format n.policy n.amount) a b) old new
-two_written n function format a b old new is known =
-    written_same (from_two old.desc.format (formula_of_two n.function old.desc.format n.policy n.amount) a b) (from_two format (formula_of_two function format n.policy n.amount) a b) old new
-    (ap (λ (f : Function). from_two old.desc.format (formula_of_two f old.desc.format n.policy n.amount) a b) is ∙ ap (λ (f : Format). from_two f (formula_of_two function f n.policy n.amount) a b) known)
+-- the image of a node if its function is this one
+abbrev pub function_image : Function → Node → Output → Format → ImageValue → Option ObjectValue → ImageValue → ImageValue
+function_image function n which format first second own =
+    let node : Node = record n { function = function } in
+    node_image node which format first (second_or_output node second (ImageObject own))
 
--- a gradient
-pub gradient_written : (n : Node) (which output : Output) (a : ImageValue) (old new : ImageMut) → n.function ≡ Sobel → which ≡ output → old.desc.format ≡ S16
-    → Writes (from_nine S16 (formula_of_nine Sobel output) n.border a) old new → Writes (image_of_one n.function n which old.desc.format a) old new
-gradient_written n which output a old new is which_is known =
-    written_same (image_of_one n.function n which old.desc.format a) (from_nine S16 (formula_of_nine Sobel output) n.border a) old new
-    (ap (λ (f : Function). image_of_one f n which old.desc.format a) is
-    ∙ ap (λ (o : Output). from_nine old.desc.format (formula_of_nine Sobel o) n.border a) which_is
-    ∙ ap (λ (f : Format). from_nine f (formula_of_nine Sobel output) n.border a) known)
+-- a kernel's result, once its function, output, second input and output format are known
+pub written_by_function : (k : Kernel) (function : Function) (which : Output) (second : SecondInput) (format : Format) (old new : ImageMut)
+    → k.step.now.node.function ≡ function → k.step.now.which ≡ which → k.second.now ≡ second → old.desc.format ≡ format
+    → Writes (function_image function k.step.now.node which format k.first.now (second_object second) (held_image old)) old new
+    → Writes (kernel_image k (held_image old)) old new
+written_by_function k function which second format old new function_is which_is second_is known =
+    written_same (kernel_image k own) (image function which second format) old new
+    (ap (λ (f : Function). image f k.step.now.which k.second.now own.format) function_is
+    ∙ ap (λ (o : Output). image function o k.second.now own.format) which_is
+    ∙ ap (λ (s : SecondInput). image function which s own.format) second_is
+    ∙ ap (λ (f : Format). image function which second f) known)
+  where
+    own : ImageValue
+    own = held_image old
 
--- ---- functions that accumulate
-
-pub accumulate_format : (function : Function) (a : Format) (second : Option Format) (out : Format) → accumulates function ≡ true → takes_formats function a second (Some out) ≡ true → out ≡ S16
-accumulate_format other a second out h t = grind arith
-
--- the step's image is the output with the function's result added
-pub sum_written : (s : Step) (first : ImageValue) (second : Option ObjectValue) (own : ImageValue) (old new : ImageMut) → accumulates s.node.function ≡ true
-    → Writes (node_image s.node s.which own.format first (Some (ImageObject own))) old new → Writes (image_from_inputs s first second own) old new
-sum_written s first second own old new sums is =
-    written_same (image_from_inputs s first second own) (node_image s.node s.which own.format first (Some (ImageObject own))) old new
-    (ap (λ b. node_image s.node s.which own.format first (cond b (Some (ImageObject own)) second)) sums) is
+    image : Function → Output → SecondInput → Format → ImageValue
+    image f o s out = function_image f k.step.now.node o out k.first.now (second_object s) own
 
 -- ---- integral images
 
