@@ -19,7 +19,7 @@ use crate::bind::{put_image, take_image};
 use crate::tables::table_of;
 use crate::tallies::{set_tally, tally_for};
 use graph_steps::{Kernel, Step};
-use image_core::SecondInput;
+use image_core::{Band, SecondInput};
 use object_table::Table;
 use vx_base::{Kind, Node, ObjRef, Output};
 
@@ -66,7 +66,8 @@ fn write_to(table: &mut Table, node: &Node, which: Output, output: ObjRef)
         first: &first,
         second: &second,
     };
-    plane.write_all(&kernel);
+    let rows = Band::whole(plane.desc());
+    plane.write(&kernel, rows);
     put_image(table, output, &mut plane);
 }
 

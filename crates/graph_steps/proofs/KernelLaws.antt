@@ -1,5 +1,5 @@
 -- A kernel writes the step's image.
-use Rattle.std.proofs.Common.{◌≡◌, ℕ, ℤ, ◌*◌, ◌+◌, ◌-◌, ◌<◌, zero, suc, true, List, length, map, take, drop, Option, Some, None, IfSome, refl, ap, ◌∙◌, sym, arith, cond, ◌==◌, eqb-true, add-zero}
+use Rattle.std.proofs.Common.{◌≡◌, ℕ, ℤ, ◌*◌, ◌+◌, ◌-◌, ◌<◌, ◌≤◌, zero, suc, true, List, length, map, take, drop, Option, Some, None, IfSome, refl, ap, ◌∙◌, sym, arith, cond, ◌==◌, eqb-true, add-zero, subst}
 use borrow.Rule.Slice.PartMut.{put_mid}
 use Rattle.std.proofs.lemmas.Bool.{and_parts}
 use Rattle.std.proofs.lemmas.Bool.Decides.{nat_tests}
@@ -21,7 +21,7 @@ use Rattle.vx_base.proofs.ImageLaws.{samples_are_band}
 use Rattle.image_core.specs.declared.band.Band.{Band}
 use Rattle.image_core.specs.declared.image_mut.ImageMut.{ImageMut}
 use Rattle.image_core.specs.declared.second.SecondInput.{SecondInput}
-use Rattle.image_core.specs.Bands.{IsInRows, has_row, image_over_rows, rows_in}
+use Rattle.image_core.specs.Bands.{IsInRows, all_rows, has_row, image_over_rows, rows_in}
 use Rattle.image_core.specs.Rows.{sample_at}
 use Rattle.image_core.specs.Second.{second_object}
 use Rattle.image_core.specs.Target.{target_image, IsTarget, Writes}
@@ -30,9 +30,9 @@ use Rattle.image_core.proofs.HeldRows.{at_held}
 use Rattle.node_rows.proofs.RowLaws.{node_description}
 use Rattle.graph_steps.specs.declared.step.Step.{Step}
 use Rattle.graph_steps.specs.declared.kernel.Kernel.{Kernel}
-use Rattle.graph_steps.specs.Planes.{PlaneValue, rows_of_block, written_among}
+use Rattle.graph_steps.specs.Planes.{IsWhole, PlaneValue, TakesRows, block_image, plane_image, rows_of_block, with_read_rows, with_rows, written_among}
 use Rattle.graph_steps.specs.Steps.{CanMake, image_from_inputs, is_integral, kernel_image, held_image, scan_image}
-use Rattle.graph_steps.proofs.PlaneLaws.{lent_rows, rows_among}
+use Rattle.graph_steps.proofs.PlaneLaws.{all_read, lent_rows, rows_among, written_whole}
 
 -- ---- by the function
 
@@ -169,3 +169,42 @@ sized_image s first second own = sized (cond (accumulates s.node.function) (Some
   where
     sized : (elsewhere : Option ObjectValue) → length (node_image s.node s.which own.format first elsewhere).samples ≡ first.height * first.width
     sized z = grind (arith, length-table)
+
+-- ---- a plane that holds the whole image
+
+-- all its rows can be written
+pub whole_takes : (p : PlaneValue) (rows : Band) → IsWhole p → rows ≡ all_rows p.desc.height → TakesRows rows p
+whole_takes p rows w is = subst (λ (r : Band). TakesRows r p) (sym is) (record {
+  format = w.format;
+  within = omega arith;
+  valid = w.valid;
+  top = (let t = w.top in omega arith);
+  room =
+      (let t = w.top in
+      let n : 0 - p.top + p.desc.height ≡ p.desc.height = omega arith in
+      let m : (0 - p.top + p.desc.height) * p.desc.width ≡ p.desc.height * p.desc.width = ap (λ k. k * p.desc.width) n in
+      let s = w.size in
+      omega arith);
+})
+
+-- and then it holds the step's image
+module _ (s : Step) (first : ImageValue) (second : Option ObjectValue) (p : PlaneValue) (whole : IsWhole p) (can : CanMake s first second p.desc) where
+  abbrev made : ImageValue
+  made = image_from_inputs s first second (block_image p)
+
+  made_size : length made.samples ≡ made.height * made.width
+  made_size =
+      let sides = same_sides p.desc (description_of first) can.size in
+      sized_image s first second (block_image p)
+      ∙ ap (λ n. n * first.width) (sym sides.1) ∙ ap (λ n. p.desc.height * n) (sym sides.0)
+      ∙ ap (λ (d : Description). d.height * d.width) (sym (made_description s first second p.desc (block_image p) can refl))
+
+  all_own : plane_image (with_read_rows (all_rows p.desc.height) p) ≡ block_image p
+  all_own = all_read (with_read_rows (all_rows p.desc.height) p) (record { format = whole.format; top = whole.top; size = whole.size; valid = whole.valid }) refl
+
+  pub all_written : (new : PlaneValue) (rows : Band) → rows ≡ all_rows p.desc.height → new ≡ with_rows rows (image_from_inputs s first second (plane_image (with_read_rows rows p))) p → block_image new ≡ made
+  all_written new rows is written =
+      ap block_image written
+      ∙ ap (λ (r : Band). block_image (with_rows r (image_from_inputs s first second (plane_image (with_read_rows r p))) p)) is
+      ∙ ap (λ (own : ImageValue). block_image (with_rows (all_rows p.desc.height) (image_from_inputs s first second own) p)) all_own
+      ∙ written_whole p made (sym (made_description s first second p.desc (block_image p) can refl)) whole made_size
