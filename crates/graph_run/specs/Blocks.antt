@@ -46,7 +46,7 @@ abbrev pub band_plan : ℕ → List ℕ → List VirtualOutput → List ℕ → 
 band_plan size halos outs slots p =
     record p { slot_samples = λ format k. samples_from size halos 0 outs slots (slot_place p format k) }
 
--- the list of the task that runs a step; empty without a step
+-- the tasks of a step: one, or none without a step
 abbrev pub step_tasks : Option Step → List Task
 step_tasks None = []
 step_tasks (Some s) = Write s ∷ []

@@ -1,4 +1,4 @@
-use Rattle.std.proofs.Common.{◌≡◌, ◌∙◌, ap, rules, subst, sym}
+use Rattle.std.proofs.Common.{◌∙◌, ap, rules, subst, sym}
 use Rattle.graph_run.proofs.Common.{Description, IsImage, second_object}
 use Rattle.image_core.specs.Bands.{all_rows}
 use Rattle.graph_steps.specs.Planes.{PlaneValue}
