@@ -1,6 +1,6 @@
 """Measures OpenCV's calls for the graphs of bench/clients on one thread, and prints the seconds as
 JSON: python3 clients_peer.py. "motion" is a frame of 1280x720, "station" a picture of 2448x2048.
-Each has two times: writing to existing arrays, and allocating new ones."""
+Each has two times: with outputs written to existing arrays, and with new arrays."""
 
 import json
 import sys
@@ -17,7 +17,8 @@ REPLICATE = cv2.BORDER_REPLICATE
 
 
 def outputs(count, shape, are_kept):
-    """Returns the output arrays of the calls, or None for each array that the call allocates."""
+    """Returns the output arrays of the calls; None in place of each array that the call
+    allocates."""
     return [numpy.empty(shape, numpy.uint8) if are_kept else None for _ in range(count)]
 
 

@@ -68,7 +68,7 @@ def run(calls, length=4):
 
 
 def looked_at(look):
-    """Computes the difference, statistics of it, and a threshold of it."""
+    """Computes the difference, statistics of the difference, and a threshold of it."""
     apart, out = arrays[:2]
     difference(first, apart)
     look(apart)
@@ -80,7 +80,7 @@ def measure(a):
     cv2.minMaxLoc(a)
 
 
-# With OpenCV's rounding to nearest, this gives a quarter of a gradient, rounded down.
+# With OpenCV's rounding to nearest, these give a quarter of a gradient, rounded down.
 QUARTER, DOWN = 1 / 4, -3 / 8
 
 

@@ -52,7 +52,7 @@ class Server:
 
 
 def best_seconds(function, count=1):
-    """Returns the least time of a call, over rounds of this many calls."""
+    """Returns the least seconds of a call, over several rounds of `count` calls."""
     function()
     best = float("inf")
     for _ in range(ROUNDS):
@@ -64,8 +64,8 @@ def best_seconds(function, count=1):
 
 
 def opencv():
-    """Returns a python3 that has OpenCV. Without one, prints a line that says so and returns
-    None."""
+    """Returns the path of a python3 that has OpenCV; None without one, after printing a line that
+    says so."""
     for python in (sys.executable, "/usr/bin/python3"):
         try:
             if subprocess.run([python, "-c", "import cv2"], capture_output=True).returncode == 0:
@@ -78,8 +78,8 @@ def opencv():
 
 
 def opencv_times(python, program, *words):
-    """Returns OpenCV's name of the function and the seconds for each case that OpenCV has, as a
-    peer program prints them. The arrays use pages of the usual size, like the server's images and
+    """Returns OpenCV's name of the function and the seconds, for each case that OpenCV has. A peer
+    program prints them. Its arrays use pages of the usual size, like the server's images and
     OpenCV's own; NumPy would ask for huge pages."""
     command = [python, os.path.join(HERE, program), *map(str, words)]
     environment = dict(os.environ, NUMPY_MADVISE_HUGEPAGE="0")

@@ -41,7 +41,7 @@ RED = (30, 30, 230)
 
 
 def bytes_of(pixels: Any) -> Picture:
-    """OpenCV's results, with their types."""
+    """Returns an OpenCV result as U8 samples, with a type."""
     picture: Picture = numpy.asarray(pixels, numpy.uint8)
     return picture
 

@@ -23,8 +23,8 @@ WINDOWS = "window_kernels::"
 
 
 class Kernel(NamedTuple):
-    """A kernel's characteristic instruction: at least this many of it, with or without the v of
-    AVX, in the functions whose name contains a word; none if the least is 0."""
+    """A kernel's characteristic instruction, with or without the v of AVX. There must be at least
+    `least` of it in the functions whose names contain `word`."""
 
     name: str
     instruction: str

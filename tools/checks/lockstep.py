@@ -16,7 +16,7 @@ class Fault(Exception):
 
 
 class WrongAnswer(Fault):
-    """A wrong reply, or none."""
+    """A wrong reply, or no reply."""
 
 
 class Server:

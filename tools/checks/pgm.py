@@ -160,7 +160,7 @@ class OpenCv:
             yield width, height, samples
 
     def texts(self) -> Iterator[Text]:
-        """Writes only the maxvals 255 and 65535."""
+        """Yields OpenCV's texts of the pictures. It writes only the maxvals 255 and 65535."""
         known = [(word, picture) for word in ("raw", "plain") for picture in pictures()
                  if picture.maxval in (255, 65535)]
         lines = []
@@ -182,7 +182,7 @@ Program = Union[Netpbm, OpenCv]
 
 
 def requests_on(name: int, fmt: int, text: Text) -> List[bytes]:
-    """Writes a text to an image, and reads it back in both ways."""
+    """Returns the requests that write a text to an image, and read it back in both ways."""
     width, height = text.picture.width, text.picture.height
     return [wire.create_image(CLIENT, fmt, width, height),
             wire.write_image_pgm(CLIENT, name, text.text),

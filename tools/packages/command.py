@@ -48,8 +48,8 @@ def c_library(programs: Dict[str, bytes]) -> Tuple[int, int]:
 
 
 def date() -> str:
-    """Returns the date of every file in the packages, in seconds since 1970: that of the last
-    commit, or else 1980, the earliest date that a wheel can have."""
+    """Returns the date of every file in the packages, in seconds since 1970. It is that of the last
+    commit, or 1980, the earliest date that a wheel can have."""
     run = subprocess.run(["git", "-C", ROOT, "log", "-1", "--format=%ct"], text=True, check=False,
                          stdout=subprocess.PIPE, stderr=subprocess.DEVNULL)
     return run.stdout.strip() or "315532800"

@@ -65,8 +65,8 @@ def build_development(made: str, target: str) -> str:
 
 
 def build(folder: str, oldest: Callable[[Dict[str, bytes]], Tuple[int, int]]) -> List[str]:
-    """Returns the paths of the packages. `oldest` returns the oldest C library that some data
-    needs."""
+    """Builds the packages, and returns their paths. `oldest` returns the version of the oldest C
+    library that some data needs."""
     with tempfile.TemporaryDirectory() as made:
         install(made)
         with open(os.path.join(made, MULTIARCH, "libfeqyldan.so.0"), "rb") as file:

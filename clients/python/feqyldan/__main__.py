@@ -70,7 +70,7 @@ def main(words: Optional[Sequence[str]] = None) -> int:
     except KeyboardInterrupt:
         return 130
     except BrokenPipeError:
-        # Python writes what is left when it ends, and would report the closed pipe once more.
+        # At exit Python flushes standard output, which would report the closed pipe again.
         os.dup2(os.open(os.devnull, os.O_WRONLY), sys.stdout.fileno())
         return 1
     except (FeqyldanError, OSError, ValueError, ImportError) as error:
@@ -99,20 +99,20 @@ def run(told: argparse.Namespace) -> None:
 
 
 def result_of(path: str, results: Iterator[Tuple[Any, Tuple[Any, ...]]]) -> Tuple[Any, ...]:
-    """Returns the results of the graph for a picture. An error names the file."""
+    """Returns the results of the graph for a picture. Raises ValueError that names the file."""
     try:
         return next(results)[1]
     except (FeqyldanError, OSError, ValueError, ImportError) as error:
         words = str(error)
         if isinstance(error, Refused):
-            # The place in a program is one of this file.
+            # The place is a line of this file, which tells the user nothing.
             words = words.replace(error.place, error.place.partition(",")[0])
         raise ValueError(words if path in words else f"{path}: {words}") from None
 
 
 def paths_of(patterns: Sequence[str]) -> List[str]:
-    """Returns the files that match the patterns, those of each pattern in the natural order of
-    their names."""
+    """Returns the paths that match the patterns, pattern by pattern, each in the natural order of
+    names."""
     found: List[str] = []
     for pattern in patterns:
         if os.path.isdir(pattern):
@@ -180,8 +180,8 @@ class Report:
 
     def _look_at_files(self, told: argparse.Namespace, paths: Sequence[str],
                        others: Sequence[str]) -> None:
-        """Refuses results that would overwrite a picture, another file that is read, or one
-        another."""
+        """Raises ValueError if a result would overwrite an input file or the result of another
+        picture."""
         read = {identity(path): path for path in (*paths, *others)}
         if told.csv is not None and identity(told.csv) in read:
             raise ValueError(f"--csv {told.csv} would overwrite {read[identity(told.csv)]}, which "
@@ -204,13 +204,13 @@ class Report:
                                  "folder")
 
     def _files_of(self, paths: Sequence[str]) -> Iterator[Tuple[str, str]]:
-        """Returns each picture with each file that may be written for it."""
+        """Yields each picture's path with each file that may be written for that picture."""
         return ((path, stem + ending) for path in paths
                 for name, stem in self._stems_of(path).items()
                 for ending in ENDINGS[self._images[name].fmt])
 
     def _stems_of(self, path: str) -> Dict[str, str]:
-        """Returns the files for a picture's images, without their endings."""
+        """Returns the paths of a picture's output images, without file name extensions."""
         stem = os.path.join(self._folder or "", os.path.splitext(os.path.basename(path))[0])
         return {name: f"{stem}.{name}" if len(self._images) > 1 else stem for name in self._images}
 
@@ -231,7 +231,7 @@ def opened(path: str) -> TextIO:
 
 
 def files_in(path: str, contents: Dict[str, Any]) -> List[str]:
-    """Returns the file of a graph with these contents, and the picture files that they name."""
+    """Returns the path of a graph file, and those of the picture files that its contents name."""
     return [path, *(os.path.join(os.path.dirname(path), described["file"])
                     for described in contents["objects"].values() if "file" in described)]
 
@@ -245,12 +245,12 @@ def identity(path: str) -> Tuple[Any, ...]:
     return there.st_dev, there.st_ino
 
 
-# How files of an image of each format may end: PNG hasn't all samples.
+# File name extensions for images of each format: PNG has no negative and no U32 samples.
 ENDINGS = {Format.U8: (".png",), Format.S16: (".png", ".npy"), Format.U32: (".npy",)}
 
 
 def write(path: str, picture: Any) -> None:
-    """Writes a PNG file, or one of NumPy's if PNG can't have the samples: negative ones and U32."""
+    """Writes a PNG file, or an .npy file if there are negative or U32 samples."""
     try:
         write_png(f"{path}.png", picture)
     except ValueError:
@@ -258,7 +258,7 @@ def write(path: str, picture: Any) -> None:
 
 
 def columns_of(outputs: Dict[str, Any]) -> Iterator[str]:
-    """Returns the column heads of the outputs' numbers."""
+    """Yields the column heads for the numbers of the outputs."""
     for name, thing in outputs.items():
         if isinstance(thing, Distribution):
             yield from (f"{name}.{number}" for number in range(thing.bins))

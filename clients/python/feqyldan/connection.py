@@ -1,15 +1,14 @@
 """
-Sends request frames and reads reply frames, in order, over two file descriptors: those of a
-program's pipes, or one socket.
+Sends request frames and reads reply frames, in order. The writer and the reader are two file
+descriptors, or one socket.
 
 Requests may be sent ahead of their replies. While anything is sent, replies are read as they come,
 so that two full pipes never wait for each other.
 
-An exception, such as KeyboardInterrupt, may come at any bytecode, and loses nothing. Three rules
-ensure that. The count of a system call is stored by the C function that makes the call, see
-`moved`. A request is taken, and a reply is given to its request, by one store. Everything else
-follows from the counts, the queue of requests and their answers, and the next call computes it
-again.
+An exception, such as KeyboardInterrupt, may come at any bytecode, and no request or reply is lost.
+Three rules ensure that. The C function that makes a system call also stores its count, see `moved`.
+A request is taken, and a reply is given to its request, by one store. Everything else follows from
+the counts, the queue of requests and their answers, and the next call computes it again.
 """
 
 from __future__ import annotations
@@ -30,41 +29,40 @@ from . import pages
 from .errors import Closed, FeqyldanError, Refused, ServerEnded, TimedOut, UnexpectedReply, refusal
 from .wire import BODY_BYTES, CODES, GREATEST_LENGTH, GREATEST_SIDE
 
-# A part of a frame of at most this many bytes may wait to be sent with what follows; a longer one
-# has been sent when send() returns.
+# At most this many bytes wait to be sent with the next request. If more are unsent, send() sends
+# them all.
 SMALL = 1 << 15
-# How many parts one system call is given at most (Linux takes 1,024), and how many unsent requests
-# are looked through for them.
+# The most parts that one system call gets (Linux takes 1,024), and the most unsent requests that
+# they come from.
 PARTS, REQUESTS = 64, 16
-# How long the server is given to read what was lent, before it is looked at again, in seconds.
+# Seconds between two checks whether the server has read lent memory.
 PAUSE = 0.0005
-# How long the rest of a reply may take to come, in milliseconds, where it is only looked for.
+# Milliseconds that look() waits for the rest of a reply that has begun.
 REST = 5
-# How many buffers for long replies are kept.
+# The most buffers for long replies that are kept for reuse.
 KEPT = 4
-# So many bytes are read at once.
+# The size of the buffer for short replies, in bytes.
 CHUNK = 1 << 16
-# A reply has so many bytes before its body: its length, its client, its op and its code.
+# The head of a reply: its length, client number, op and code.
 HEAD = struct.Struct(">IHBB")
-# What a reply has before samples: its head, and a format and two sides.
+# Bytes of a reply before its samples: the head, a format, a width and a height.
 BEFORE_SAMPLES = HEAD.size + 5
-# A reply that has no samples, and is copied as it is.
+# Bytes of a head and a name. A reply of at most this many bytes gets no buffer of its own.
 HEAD_AND_NAME = 12
-# A reply stands in its buffer from here on: so its samples, 13 bytes after its start, begin at a
-# multiple of 16.
+# A reply begins at this offset of its buffer, so that its samples, 13 bytes on, begin at a multiple
+# of 16.
 LEAD = 3
-# No reply is longer: 9 bytes, and the samples of the greatest image, of 4 bytes each. It is told
-# without the four bytes of itself.
+# The greatest length field of a reply: 9 bytes, and the samples of the largest image, of 4 bytes
+# each. The field doesn't count its own 4 bytes.
 GREATEST_REPLY = 9 + 4 * GREATEST_SIDE**2
-# No request is longer, told likewise: the server ends where it reads a greater length.
+# The greatest length field of a request: the server ends if it reads a greater one.
 GREATEST_REQUEST = GREATEST_LENGTH
 
-# Stands for a success that was taken.
+# Replaces a reply that take_reply() has returned.
 TAKEN = memoryview(bytes(8))
 
 Part = Union[bytes, memoryview]
-# What of a request's objects is at fault, in words, for the code that the server refused it with;
-# empty if unknown.
+# Returns the fault of a refused request in words, given the status code; empty if unknown.
 Explain = Callable[[int], str]
 
 
@@ -99,9 +97,10 @@ BODIES: Dict[int, Body] = {op: Body(size) for op, size in BODY_BYTES.items()}
 
 class Request:
     """
-    A request that was sent or is about to be: its words, its place in its pipeline, and its answer
-    once that has come. The answer is the reply's whole frame, and the position where it ends among
-    all replies. `body` is the expected body of a success.
+    A request that was sent, or waits to be sent. `words` describe it in messages, `place` is its
+    call in a pipeline, and `body` the expected body of a success. `answer` is None until the reply
+    has come. Then it is the reply's frame, and the position in the stream of replies where the
+    frame ends.
     """
 
     __slots__ = ("words", "client", "op", "answer", "on_refusal", "on_answer", "explain", "place",
@@ -114,27 +113,28 @@ class Request:
         self.body: Body = BODIES.get(op, NO_BODY) if body is None else body
         self.place: Optional[Place] = None
         self.answer: Optional[Tuple[memoryview, int]] = None
-        # Called with this request, whose reply is there by then: when that is a refusal, and in
-        # any case. Each may be called again after an interruption.
+        # Called when the reply has come: on_answer for each reply, on_refusal for a refusal. Each
+        # may be called again after an interruption.
         self.on_refusal: Optional[Callable[[Request], None]] = None
         self.on_answer: Optional[Callable[[memoryview], None]] = None
-        # Its frame until it was sent, and where that begins and ends among all that is sent.
+        # The frame until it was sent, and the positions in the stream of requests where it begins
+        # and ends.
         self.parts: Sequence[Part] = ()
         self.start = self.end = 0
-        # Whether a long part of it may be lent to the server's pipe, and whether some of it was.
+        # Whether a long part may be lent to the server's pipe, and whether some of it was lent.
         self.may_lend = self.has_lent = False
-        # Where the samples of its reply go; then the answer has only what stands before them.
+        # Where the samples of the reply go; the answer then has only the bytes before them.
         self.into: Optional[memoryview] = None
         self._error: Optional[Refused] = None
 
     @property
     def reply(self) -> Optional[memoryview]:
-        """The reply's whole frame, once it has come."""
+        """The reply's frame; None until it has come."""
         return None if self.answer is None else self.answer[0]
 
     @property
     def error(self) -> Optional[Refused]:
-        """The refusal in the reply, which has come; None for a success."""
+        """The refusal in the reply; None for a success. The reply must have come."""
         assert self.answer is not None
         code = self.answer[0][7]
         if code == 0:
@@ -146,7 +146,7 @@ class Request:
         return self._error.with_traceback(None)
 
     def look_at(self, length: int, client: int, op: int, code: int) -> None:
-        """Raises UnexpectedReply if a reply that begins like this can't be for this request."""
+        """Raises UnexpectedReply if a reply with this head can't answer this request."""
         if client != self.client or op != self.op:
             raise UnexpectedReply(f"{self.words}: the reply is to op {op} of client {client}, not "
                                   f"to op {self.op} of client {self.client}")
@@ -159,7 +159,8 @@ class Request:
                                   f"{size} bytes, not of {wanted}")
 
     def arrive(self, reply: memoryview, end: int) -> None:
-        """Takes the reply to this request, and the position where it ends among all replies."""
+        """Stores the reply, and the position where it ends in the stream of replies. Raises
+        UnexpectedReply if the body doesn't begin as expected."""
         code, begin = reply[7], self.body.begin
         found = bytes(reply[HEAD.size : HEAD.size + len(begin)])
         if begin and code == 0 and found != begin:
@@ -172,15 +173,16 @@ class Request:
         self.answer = reply, end
 
     def take_reply(self) -> memoryview:
-        """Returns the reply, which has come and is a success. It can be taken once: the request
-        drops it, so that its memory is free when the caller drops it too."""
+        """Returns the reply to a successful request. The request drops the reply, so that its
+        memory is free when the caller drops it too; so this works only once."""
         assert self.answer is not None
         reply, end = self.answer
         self.answer = TAKEN, end
         return reply
 
     def own(self) -> None:
-        """Copies its frame, which isn't completely sent yet: the caller may change the samples."""
+        """Copies the frame, which isn't completely sent yet, so that the caller may change the
+        samples."""
         self.may_lend = False
         if not all(isinstance(part, bytes) for part in self.parts):
             self.parts = [bytes(part) for part in self.parts]
@@ -189,22 +191,22 @@ class Request:
 def moved(counts: List[int], call: Callable[[int, Any], int], descriptor: int,
           buffers: Sequence[Any]) -> None:
     """
-    Appends to the counts, the last of which is the number of bytes moved in all, the sum with what
-    a system call moves.
+    Makes a system call that moves bytes, and appends the new total to the counts. The last count is
+    the number of bytes that were moved in all.
 
-    No bytecode runs between the call and the append, so no exception comes between them either: a
-    signal's handler runs before the call moves anything, or after the count is stored.
+    No bytecode runs between the call and the append, so no exception comes between them: a signal's
+    handler runs before the call moves anything, or after the count is stored.
     """
     del counts[:-1]
     counts.extend(accumulate(map(call, (descriptor,), (buffers,)), initial=counts[0]))
 
 
 def references(buffers: Sequence[bytearray]) -> List[int]:
-    """Returns how many references there are to each of these, if Python counts references."""
+    """Returns the number of references to each buffer, if Python counts references."""
     return [sys.getrefcount(buffer) for buffer in buffers]
 
 
-# How many references there are to a buffer that only a list has; None where nobody can tell.
+# The number of references to a buffer that only a list holds; None if Python doesn't count them.
 ALONE = (references([bytearray()])[0]
          if sys.implementation.name == "cpython" and getattr(sys, "_is_gil_enabled", lambda: True)()
          else None)
@@ -212,8 +214,8 @@ ALONE = (references([bytearray()])[0]
 
 class Buffers:
     """
-    Memory for long replies. A buffer is used again once nobody has its picture any more: allocating
-    new memory takes as long as reading into it.
+    Memory for long replies. A buffer is reused when nobody holds its picture any more, because
+    allocating new memory takes as long as reading into it.
     """
 
     def __init__(self) -> None:
@@ -236,7 +238,7 @@ class Replies:
     Splits the bytes of a file descriptor into reply frames, each in a buffer of its own.
 
     All positions count bytes of the whole stream of replies. The bytes from `base` on are in the
-    buffer that is read into: a chunk, or the buffer of one frame that isn't whole yet.
+    buffer that is read into: a chunk, or the buffer of one incomplete frame.
     """
 
     def __init__(self, descriptor: int) -> None:
@@ -244,12 +246,13 @@ class Replies:
         self._buffers = Buffers()
         self._counts = [0]
         self._chunk = memoryview(bytearray(CHUNK))
-        # The buffer that is read into, its base, and of one frame's buffer what its request gets.
+        # The buffer that is read into, its base and, if it is the buffer of one frame, the reply
+        # that the request gets.
         self._into: Tuple[memoryview, int, Optional[memoryview]] = self._chunk, 0, None
 
     def read(self, at: int) -> bool:
-        """Reads once, given the position up to which all replies were taken. Returns whether bytes
-        came; False at the end of the replies."""
+        """Makes one read call. All replies before the position `at` were taken. Returns whether
+        bytes came; False at the end of the replies."""
         received = self._counts[-1]
         if received == at:
             self._into = self._chunk, at, None
@@ -259,14 +262,14 @@ class Replies:
 
     @property
     def received(self) -> int:
-        """The position where the bytes that were read end."""
+        """The number of bytes read, which is the position of the next byte."""
         return self._counts[-1]
 
     def frame_at(self, at: int, received: int,
                  request: Optional[Request]) -> Optional[Tuple[memoryview, int]]:
-        """Returns the whole frame that begins at this position, where the last one ended, and the
-        position where it ends; the frame must answer the request. Only bytes before `received` have
-        been read. None if the frame isn't whole yet; then there is memory to read on."""
+        """Returns the frame that begins at position `at`, and the position where it ends. Returns
+        None if it isn't complete; then there is memory to read on. Bytes before the position
+        `received` were read. Raises UnexpectedReply if the frame doesn't answer the request."""
         buffer, base, reply = self._into
         if reply is not None:
             end = base + len(buffer)
@@ -281,7 +284,7 @@ class Replies:
         if request is None:
             raise UnexpectedReply(f"a reply to op {op} of client {client} came without a request: "
                                   "is the other end a Feqyldan server?")
-        # No memory is taken for what is no reply.
+        # Checked first, so that no memory is allocated for a wrong reply.
         request.look_at(size, client, op, code)
         length, end = 4 + size, at + 4 + size
         if length <= HEAD_AND_NAME and end <= received:
@@ -298,8 +301,8 @@ class Replies:
 
     def _place(self, into: memoryview, at: int,
                received: int) -> Optional[Tuple[memoryview, int]]:
-        """Returns the same as frame_at() for a reply whose samples go to a place of their own:
-        a frame without samples, and the position where it ends."""
+        """Does the work of frame_at() for a reply whose samples are read `into` other memory. The
+        returned frame has no samples."""
         buffer, base, _ = self._into
         chunk = buffer[at - base : received - base]
         if len(chunk) < BEFORE_SAMPLES:
@@ -314,14 +317,14 @@ class Replies:
         return None
 
     def let_go(self, place: memoryview) -> None:
-        """Redirects the bytes that are still to come for a place."""
+        """Redirects the samples that are still to come for `place` to other memory."""
         buffer, base, reply = self._into
         if buffer is place:
             self._into = memoryview(bytearray(len(place))), base, reply
 
     def _make_room(self, rest: memoryview, at: int) -> None:
-        """Begins a new chunk with the rest, which is at most seven bytes of a frame whose head
-        isn't known yet."""
+        """Begins a new chunk with the few bytes that have come of the frame at position `at`.
+        Raises UnexpectedReply if their length field is wrong."""
         size = int.from_bytes(rest[:4], "big")
         if len(rest) >= 4 and not 4 <= size <= GREATEST_REPLY:
             raise bad_length(size)
@@ -333,18 +336,18 @@ class Replies:
 
 class Connection:
     """
-    The connection to a server. Several threads may use it: each call is completed before that of
-    another thread begins. `ended` returns how the server ended, once it has. If a reply takes
-    longer than the timeout, in seconds, `give_up` is called, and nothing more is sent or read.
+    The connection to a server. Several threads may use it: each call is completed before another
+    thread's call begins. `ended` returns how the server ended, once it has. If a reply takes longer
+    than the timeout, in seconds, `give_up` is called, and nothing more is sent or read.
     """
 
     def __init__(self, writer: int, reader: int, ended: Callable[[bool], ServerEnded],
                  give_up: Callable[[], None], timeout: Optional[float] = None) -> None:
         self._writer, self._reader, self._ended, self._give_up = writer, reader, ended, give_up
         self._timeout = timeout
-        # How long the oldest request without a reply has been waited for, in seconds.
+        # Seconds spent so far waiting for the oldest request without a reply.
         self._waited = 0.0
-        # A pipe's end that only replies come through may block where nothing else is waited for.
+        # Reading may block if the reader isn't also the writer, and there is no timeout.
         self._may_block = reader != writer and timeout is None
         self._is_pipe = stat.S_ISFIFO(os.fstat(writer).st_mode)
         os.set_blocking(writer, False)
@@ -355,15 +358,16 @@ class Connection:
         self._either.register(reader, select.POLLIN)
         self._either.register(writer, select.POLLOUT | (select.POLLIN if writer == reader else 0))
         self._lock = threading.RLock()
-        # The last request that was answered, and those after it; at the start one that stands for
-        # an answered one.
+        # The last answered request, and all requests after it. At first a substitute for an
+        # answered request.
         start = Request("the start", 0, 0)
         start.answer = memoryview(b""), 0
         self._line: Deque[Request] = deque([start])
-        # Those of them that aren't sent to the end, and how many bytes of all are, see `moved`.
+        # The requests among them that aren't completely sent, and the counts of sent bytes, see
+        # `moved`.
         self._unsent: Deque[Request] = deque()
         self._counts = [0]
-        # Whether all frames that were read are with their requests.
+        # Whether each frame that was read has been given to its request.
         self._is_delivered = True
         self._fault: Optional[FeqyldanError] = None
 
@@ -389,16 +393,17 @@ class Connection:
                 raise
 
     def _await_reader(self) -> None:
-        """Waits until the server has read what was sent."""
+        """Waits until the server has read all that was sent."""
         while self._fault is None and not pages.is_read(self._writer):
             time.sleep(PAUSE)
 
     def send(self, request: Request, parts: List[Part], is_followed: bool = False) -> None:
         """
-        Takes the parts of a request's frame. A short frame is sent as far as the server takes it
-        now, and the rest together with the next request. A long frame has been sent when this
-        returns. Either way the caller may change what was sent, unless another request follows:
-        then all is sent with that. After an interruption a frame was taken whole or not at all.
+        Queues a request's frame, and sends as much as the server takes now. The rest of a short
+        frame is sent with the next request; a long frame has been sent when this returns. The
+        caller may then change the samples. If `is_followed`, the frame is only queued and isn't
+        copied, because the next request follows soon. After an interruption the frame was queued
+        completely or not at all.
         """
         with self._lock:
             if self._fault is not None:
@@ -421,9 +426,9 @@ class Connection:
 
     def wait(self, request: Optional[Request] = None, limit: Optional[float] = None,
              wake: Optional[int] = None) -> bool:
-        """Waits until the reply to a request has come, or the replies to all, and returns whether
-        it has. Waits for at most this many seconds, or until the file descriptor `wake` is
-        readable."""
+        """Waits for the reply to a request, or for all replies if no request is given. Waits at
+        most `limit` seconds, or until the file descriptor `wake` is readable. Returns whether the
+        reply has come."""
         until = None if limit is None else time.monotonic() + limit
         with self._lock:
             if request is not None and request.answer is not None:
@@ -445,15 +450,16 @@ class Connection:
         return True
 
     def own_unsent(self) -> None:
-        """Copies what was taken and isn't sent yet: it may belong to the caller, who may change
-        it."""
+        """Copies the queued frames that aren't completely sent, so that the caller may change their
+        samples."""
         with self._lock:
             self._mend()
             for request in self._unsent:
                 request.own()
 
     def let_go(self, place: memoryview) -> None:
-        """After an interruption, redirects the samples that are still to come for a place."""
+        """Redirects the samples that are still to come for `place` to other memory, after an
+        interruption."""
         with self._lock:
             for request in self._line:
                 if request.into is place:
@@ -461,8 +467,8 @@ class Connection:
             self._replies.let_go(place)
 
     def look(self) -> None:
-        """Reads the replies that have come, and sends what the server takes now, without waiting.
-        If the server is waiting to send the rest of a reply, that is read too."""
+        """Reads the replies that have come, and sends what the server takes now. Waits only for the
+        rest of a reply that has begun, for REST milliseconds at a time."""
         with self._lock:
             self._refuse_if_ended()
             self._mend()
@@ -479,7 +485,7 @@ class Connection:
             self._fault = self._fault or Closed("the connection to the server was closed")
 
     def lose(self, why: str) -> None:
-        """Ends the connection in the child of a fork, where another thread may have had the
+        """Ends the connection in the child of a fork, where a thread of the parent may hold the
         lock."""
         self._lock = threading.RLock()
         self._fault = Closed(why)
@@ -491,7 +497,7 @@ class Connection:
     # ---- what is sent
 
     def _take(self, request: Request, parts: List[Part]) -> None:
-        """Appends a whole frame to what is to be sent."""
+        """Queues a request's frame."""
         last = self._line[-1]
         if last.end > self._counts[-1]:
             self._mend()
@@ -501,8 +507,8 @@ class Connection:
         self._unsent.append(request)
 
     def _send_whole(self, request: Request, parts: List[Part]) -> bool:
-        """Takes and sends a short frame, if everything before it was sent. Returns whether it was
-        taken; what the server hasn't read of it is then unsent."""
+        """Queues and sends a short frame, if everything before it was sent. Returns whether the
+        frame was queued; the bytes that the server didn't take stay unsent."""
         start = self._line[-1].end
         end = start + sum(map(len, parts))
         if end - start > SMALL or self._counts[-1] != start:
@@ -521,19 +527,20 @@ class Connection:
         return True
 
     def _mend(self) -> None:
-        """Sends a request that was taken just before an interruption."""
+        """Adds the last request to the unsent ones, if an interruption came before that was
+        done."""
         last = self._line[-1]
         if last.end > self._counts[-1] and (not self._unsent or self._unsent[-1] is not last):
             self._unsent.append(last)
 
     def _flush(self) -> None:
-        """Sends all that was taken."""
+        """Sends all that was queued, and reads replies meanwhile."""
         while self._unsent:
             if not self._write() and self._unsent and not self._read():
                 self._await(self._either, None)
 
     def _write(self) -> bool:
-        """Sends as much as the server takes, without waiting. Returns whether it took something."""
+        """Sends as much as the server takes now. Returns whether it took something."""
         sent = self._drop_sent()
         if not self._unsent:
             return False
@@ -553,12 +560,12 @@ class Connection:
         return True
 
     def _lends(self, request: Request, parts: Sequence[Part]) -> bool:
-        """Returns whether the last part of the unsent request is to be lent."""
+        """Returns whether the last part of an unsent request is to be lent."""
         return (request.may_lend and len(self._unsent) == 1 and len(parts[-1]) >= pages.LEAST
                 and pages.can_lend())
 
     def _lend(self, request: Request, parts: Sequence[Part]) -> None:
-        """Sends what comes before a request's long part, or lends that part."""
+        """Sends the parts before a request's long part, or lends the long part."""
         if len(parts) > 1:
             moved(self._counts, os.writev, self._writer, parts[:-1])
             return
@@ -568,11 +575,11 @@ class Connection:
         except (BlockingIOError, BrokenPipeError):
             raise
         except OSError:
-            # As of a device's memory. It is copied.
+            # Some memory can't be lent, for example a device's. It is copied.
             request.may_lend = False
 
     def _drop_sent(self) -> int:
-        """Drops what was sent. Returns how many bytes were."""
+        """Drops the frames that were sent. Returns the number of bytes that were sent in all."""
         sent, unsent = self._counts[-1], self._unsent
         while unsent and unsent[0].end <= sent:
             unsent.popleft().parts = ()
@@ -609,8 +616,9 @@ class Connection:
 
     def _await(self, poll: select.poll, limit: Optional[float]) -> List[Tuple[int, int]]:
         """
-        Waits. Only the time spent here counts towards the timeout: replies that came while nobody
-        read them aren't late, and each request has its own time.
+        Waits for events of a poll object, at most `limit` seconds, and returns them. Only the time
+        spent here counts towards the timeout: replies that came while nobody read them aren't late,
+        and each request has its own time.
         """
         if self._timeout is None:
             return poll.poll(None if limit is None else limit * 1000 + 1)
@@ -631,8 +639,7 @@ class Connection:
         raise self._fault
 
     def _read(self, blocks: bool = False) -> bool:
-        """Reads replies that have come; waits for one if reading blocks. Returns whether bytes
-        came."""
+        """Reads replies that have come; if `blocks`, waits for one. Returns whether bytes came."""
         at = self._answered
         if not self._is_delivered:
             self._deliver(at)
@@ -653,7 +660,7 @@ class Connection:
 
     @property
     def _answered(self) -> int:
-        """The position where the replies that were given to their requests end."""
+        """The position where the last reply ends that a request has got."""
         line = self._line
         while len(line) > 1 and line[1].answer is not None:
             line.popleft()

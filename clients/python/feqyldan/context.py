@@ -58,7 +58,7 @@ class Vxu(Uncopied, Functions[None]):
 
 
 def fault_of(call: Call, code: int) -> str:
-    """Returns the fault of a call by itself, given the code that it was refused with."""
+    """Returns the fault in a call's own arguments, in words, given the code of its refusal."""
     if code == wire.INVALID_FORMAT:
         one, other = (getattr(operand, "fmt", None) for operand in call.operands[:2])
         return (f"{call.name} takes {formats_in_words(call.name)}"
@@ -98,15 +98,15 @@ class Context(Uncopied):
     def __init__(self, server: Server, connection: Connection, number: int) -> None:
         self._server, self._connection, self._number = server, connection, number
         self._vxu = Vxu(self)
-        # The pipeline that is open, as long as somebody has it: where an interruption came within
-        # its __enter__, nobody does.
+        # The open pipeline. The reference is weak: after an interruption within __enter__ nobody
+        # holds the pipeline, and it counts as closed.
         self._pipeline: Optional[weakref.ref[Pipeline]] = None
-        # The objects that Python has, by their names; and those that it has forgotten, which are
-        # released before the next request.
+        # The objects in Python by their names on the server; and those that Python has freed, which
+        # are released before the next request.
         self._alive: Dict[int, Death] = {}
         self._dead: Deque[Death] = deque()
-        # Those that the server has made for a thread and no object in Python has: where that is so
-        # at the thread's next request, an interruption came between.
+        # The objects on the server that no Python object has yet, with the thread that asked for
+        # each. If one is left at that thread's next request, an interruption came between.
         self._unclaimed: Dict[int, int] = {}
         # Held by the thread that releases what Python has forgotten.
         self._releasing = threading.RLock()
@@ -152,8 +152,8 @@ class Context(Uncopied):
 
     def image_like(self, exemplar: AnyImage, fmt: Optional[Format] = None, *,
                    name: str = "") -> Image:
-        """Returns a new image with the size of this one, and with its format unless another is
-        given. No sample is copied."""
+        """Returns a new image with the size of `exemplar`, and its format unless `fmt` is given. No
+        sample is copied."""
         self.look_at("image_like", exemplar)
         if not isinstance(exemplar, AnyImage):
             raise TypeError(f"image_like takes an image, not {type(exemplar).__name__}: give the "
@@ -165,7 +165,8 @@ class Context(Uncopied):
         """
         Returns an image of these samples: a NumPy array of shape (height, width) and dtype uint8,
         int16 or uint32, another buffer of that shape, or rows of numbers, which are U8 unless a
-        format is given. Raises BadPicture for anything else.
+        format is given. Raises BadPicture for anything else, and TypeError if the samples have
+        another format than `fmt`.
         """
         if fmt is None:
             return self._image_of(samples_of(samples), name)
@@ -177,7 +178,7 @@ class Context(Uncopied):
 
     def image_from_pgm(self, text: bytes, *, name: str = "") -> Image:
         """Returns an image of the picture in a PGM text, P5 or P2: U8 for a maxval up to 255, S16
-        for one up to 32767."""
+        for one up to 32767. Raises BadPicture for anything else."""
         image = self.image(*size_of_pgm(text), name=name)
         try:
             image.write_pgm(text)
@@ -203,7 +204,7 @@ class Context(Uncopied):
 
     def lut(self, fmt: Format, entries: Numbers, *, name: str = "") -> Lut:
         """Returns a lookup table of U8 with 256 entries, or of S16 with 65,536. The first entry is
-        for the least sample."""
+        for the least sample. Raises ValueError for another number of entries."""
         made = format_of(fmt)
         content = entries_of(entries, made)
         wanted = {Format.U8: 256, Format.S16: 2 * 65536}.get(made)
@@ -220,8 +221,8 @@ class Context(Uncopied):
         """
         Returns a threshold of U8 or S16 samples. A sample passes if it is greater than `above`
         (VX_THRESHOLD_TYPE_BINARY), or if it is `between` two limits, both included
-        (VX_THRESHOLD_TYPE_RANGE). The output has the true value, or else the false value, from 0 to
-        255.
+        (VX_THRESHOLD_TYPE_RANGE). The output is the true value where a sample passes, and the false
+        value elsewhere; both are from 0 to 255.
         """
         if (above is None) == (between is None):
             given = "neither" if above is None else "both"
@@ -240,8 +241,8 @@ class Context(Uncopied):
     def convolution(self, coefficients: Rows, scale: int = 1, *, name: str = "") -> Convolution:
         """
         Returns a convolution. The coefficients are rows of numbers, or an array, from -32768 to
-        32767, in 3, 5, 7 or 9 rows and columns. Sums are divided by the scale, which is a power of
-        2 up to 2^31.
+        32767, in 3, 5, 7 or 9 rows and columns. The weighted sums are divided by the scale, a power
+        of 2 up to 2^31.
         """
         rows = rows_of_kernel(coefficients)
         divisor = whole(scale, "the scale of a convolution", "a whole number, a power of 2")
@@ -258,8 +259,8 @@ class Context(Uncopied):
 
     def distribution(self, bins: int, offset: int = 0, range: int = 256, *,
                      name: str = "") -> Distribution:
-        """Returns a distribution of 1 to 256 bins of the same width. They begin at the offset, from
-        0 to 255, and cover `range` values together."""
+        """Returns a distribution of 1 to 256 bins of the same width. The bins begin at the offset,
+        from 0 to 255, and together cover `range` values."""
         sides = (within(bins, "a distribution's number of bins", UNSIGNED,
                         "a whole number from 1 to 256"),
                  within(offset, "a distribution's offset", UNSIGNED,
@@ -275,7 +276,7 @@ class Context(Uncopied):
 
     def delay(self, exemplar: AnyImage, slots: int, *, name: str = "") -> Delay:
         """Returns a delay of 1 to 16 slots with new images. They have the format and the size of
-        this image; its samples aren't used."""
+        `exemplar`, whose samples aren't used."""
         self.look_at("delay", exemplar)
         count = within(slots, "the number of a delay's slots", BYTE, "a whole number from 1 to 16")
         words = f"create a delay of {count} slots like {exemplar}"
@@ -291,16 +292,17 @@ class Context(Uncopied):
 
     def load_graph(self, path: Path) -> GraphFile:
         """
-        Returns the graph of a JSON file, as Graph.save() writes it or a program or a person did.
-        The result has the `graph`, its `inputs` and `outputs` by name, and all `objects` by name.
+        Returns the graph of a JSON file, which Graph.save(), another program or a person wrote. The
+        result has the `graph`, its `inputs` and `outputs` by name, and all `objects` by name.
+        Raises GraphFileError if the file doesn't describe a graph.
         """
         return read_graph(self, path)
 
     def usage(self) -> Usage:
         """
         Returns how many objects this context has, and how many bytes of the quota its images take.
-        The package counts them itself: an object is gone when Python frees it or it is closed,
-        unless a node of a graph uses it.
+        The package counts them itself. An object counts until it is closed or Python frees it, and
+        after that while a node of a graph uses it.
         """
         self._release_forgotten()
         return self._used.usage(self._server.quota)
@@ -314,7 +316,7 @@ class Context(Uncopied):
     # ---- requests
 
     def pipeline(self) -> Pipeline:
-        """Returns a pipeline, for a `with` in which requests are sent ahead."""
+        """Returns a pipeline: requests within its `with` are sent ahead of their replies."""
         return Pipeline(self)
 
     def enter_pipeline(self, pipeline: Pipeline) -> None:
@@ -329,8 +331,8 @@ class Context(Uncopied):
 
     @property
     def barred(self) -> Set[int]:
-        """The threads that may not use the context, because a stream of it runs its iterator in
-        them."""
+        """The threads that may not use the context, because they run the iterator of one of its
+        streams."""
         return self._barred
 
     def _look_at_thread(self, words: str) -> None:
@@ -352,11 +354,11 @@ class Context(Uncopied):
              body: Optional[Body] = None, into: Optional[memoryview] = None,
              waits: bool = False) -> Request:
         """
-        Sends a request. `make` returns it for the client's number and these arguments; the content
-        follows it. In a pipeline a refusal is kept for the end; otherwise the reply has come on
-        return if `waits`. `explain` returns what is at fault if the request is refused. `body` is
-        the expected body of a success, if the op alone doesn't say it; its samples go `into` a
-        place, if one is given.
+        Sends a request. `make` returns its frame for the client number and these arguments;
+        `content` follows the frame. With `waits` the reply has come on return, except in a
+        pipeline, which notes a refusal for later. `explain` returns the fault of a refused request.
+        `body` is the expected body of a success, if the op alone doesn't determine it. The samples
+        of the reply are read `into` a place, if one is given.
         """
         why_closed = self._why_closed
         if why_closed is not None:
@@ -389,9 +391,9 @@ class Context(Uncopied):
 
     def ask(self, words: str, make: Callable[..., bytes], decode: Callable[[memoryview], Value],
             body: Optional[Body] = None, into: Optional[memoryview] = None) -> Value:
-        """Sends a request, waits for its reply, and returns the result. In a pipeline, a result
-        that comes after a refused request may be of an older picture, so that refusal is raised
-        instead. After an interruption nothing more goes `into` the place."""
+        """Sends a request, waits for its reply, and returns the decoded result. In a pipeline a
+        result after a refused request may be of an older picture, so that refusal is raised
+        instead. After an interruption nothing more is written `into` the place."""
         try:
             request = self.send(words, make, body=body, into=into, waits=True)
             value = decode(self._reply_to(request))
@@ -405,24 +407,24 @@ class Context(Uncopied):
         return value
 
     def create(self, words: str, make: Callable[..., bytes], *arguments: Any, size: int = 0) -> int:
-        """Sends a request that creates an object, waits for the reply, and returns its name. The
-        size is the number of bytes of the quota that it takes."""
+        """Sends a request that creates an object, waits for the reply, and returns the object's
+        name. The object takes `size` bytes of the quota."""
         thread = threading.get_ident()
         request = self.send(words, make, *arguments, explain=self._limit_for(size), waits=True,
                             on_answer=lambda reply: self._note_made(reply, size, thread))
         return int(wire.name_of(self._reply_to(request)))
 
     def _note_made(self, reply: memoryview, size: int, thread: int) -> None:
-        """Notes an object for the thread that asked for it. The thread that reads the reply calls
-        this, and may be another one."""
+        """Notes a new object for the thread that asked for it. The caller is the thread that reads
+        the reply, which may be another one."""
         if reply[7] == wire.SUCCESS:
             name = wire.name_of(reply)
             self._used.add(name, size)
             self._unclaimed[name] = thread
 
     def claim(self, name: int, thing: Named) -> None:
-        """Gives the name to an object in Python. The name is released when Python frees that
-        object."""
+        """Gives the name of an object on the server to an object in Python. The name is released
+        when Python frees the Python object."""
         death = Death(thing, self._dead.append)  # type: ignore[arg-type]
         death.name = name
         self._alive[name] = death
@@ -430,8 +432,8 @@ class Context(Uncopied):
 
     def add_node(self, graph: Graph, call: Call, added: Callable[[int], None]) -> int:
         """Sends a request that adds a node to a graph, waits for the reply, and returns the node's
-        number. `added` is called with the number, also after an interruption once the reply
-        comes."""
+        number. When the reply comes, also after an interruption, `added` is called with the
+        number."""
         request = self.send(f"add {call} to {graph}", wire.add_node, graph.name,
                             *call.fields(self.references_of(call)), waits=True,
                             explain=lambda code: fault_of(call, code), on_answer=lambda reply: (
@@ -452,21 +454,22 @@ class Context(Uncopied):
         return [None if operand is None else operand.reference for operand in call.operands]
 
     def look_at(self, what: str, *operands: Any, words: object = None) -> None:
-        """Raises if something isn't an object of this context."""
+        """Raises TypeError if an operand isn't an object, and InvalidScope if it is of another
+        context."""
         for operand in operands:
             if not isinstance(operand, (AnyImage, Named, type(None))):
                 raise TypeError(f"{what} takes images and other objects of its context, not "
                                 f"{type(operand).__name__}: context.image_from() makes an image of "
                                 "an array; context.threshold(), lut() and convolution() make the "
                                 "parameters")
-            # Names count up from 1 in each context, so that this one has other objects by the same
+            # Names count up from 1 in each context, so this context has other objects with the same
             # names.
             if operand is not None and operand.context is not self:
                 advice = f"{operand} belongs to another context: create it in this one."
                 raise InvalidScope(str(words or what), None, advice)
 
     def _limit_for(self, size: int) -> Explain:
-        """Returns which limit an object of this many bytes would exceed."""
+        """Returns an Explain that says which limit a new object of this many bytes exceeds."""
         return lambda code: ("" if code != wire.NO_RESOURCES
                              else self._used.fault(size, self._server.quota))
 
@@ -476,7 +479,7 @@ class Context(Uncopied):
             frame = make(self._number, *arguments)
         except (struct.error, ValueError) as error:
             raise ValueError(f"{words}: {error}") from None
-        # The server ends where it reads a greater length.
+        # The server ends if it reads a greater length.
         size = len(frame) - 4 + content
         if size > GREATEST_REQUEST:
             raise ValueError(f"{words}: the request has {size:,} bytes, and at most "
@@ -484,7 +487,7 @@ class Context(Uncopied):
         return frame
 
     def _reply_to(self, request: Request) -> memoryview:
-        # It is raised here, so a pipeline that is open needn't keep it.
+        # A refusal is raised here, so an open pipeline needn't note it.
         request.on_refusal = None
         if request.answer is None:
             self._connection.wait(request)
@@ -494,8 +497,8 @@ class Context(Uncopied):
         return request.take_reply()
 
     def _release_forgotten(self) -> None:
-        """Releases the objects that Python has freed. After an interruption some may be released
-        twice; the second request is refused."""
+        """Releases the objects that Python has freed. After an interruption it may release some
+        again; the server refuses the second request."""
         thread = threading.get_ident()
         for name in [name for name, maker in list(self._unclaimed.items()) if maker == thread]:
             self._release_unseen(name)
@@ -526,8 +529,8 @@ class Context(Uncopied):
 
     def close(self) -> None:
         """
-        Ends the context with all of its objects. It does nothing if the context is closed already,
-        or if the server is known to be gone.
+        Ends the context with all of its objects. Does nothing if the context was closed before, or
+        if the server is known to be gone.
         """
         if self._why_closed is None:
             self._pipeline, is_released = None, False
@@ -541,8 +544,9 @@ class Context(Uncopied):
 
     def close_within(self, thing: Any, error: Optional[BaseException]) -> None:
         """
-        Closes the context at the end of a `with`. An error of the `with` isn't replaced by another
-        one. After an interruption nothing is waited for, because that may be what was interrupted.
+        Closes an object, or this context, at the end of its `with`. An error within the `with`
+        isn't replaced by an error of the closing. After an interruption, such as KeyboardInterrupt,
+        nothing is closed, because closing waits for a reply.
         """
         if error is not None and not isinstance(error, Exception):
             return
@@ -560,8 +564,8 @@ class Context(Uncopied):
         self.close_within(self, error)
 
     async def run(self, function: Callable[..., Value], *arguments: Any) -> Value:
-        """Runs a function that uses this context in a thread, and waits for it in the event loop,
-        so that other tasks go on. Only one task may use a context at a time."""
+        """Runs a function that uses this context in a thread, and awaits it, so that other tasks of
+        the event loop go on. Only one task may use a context at a time."""
         loop = asyncio.get_running_loop()
         return await loop.run_in_executor(None, lambda: function(*arguments))
 
@@ -580,7 +584,7 @@ _AN_OUTPUT = ("a threshold's true or false value", BYTE, "a whole number from 0 
 
 
 def two_limits(between: Any) -> Tuple[Any, Any]:
-    """Returns the limits of a threshold that is `between` them."""
+    """Returns the two limits of `between`. Raises TypeError for anything else."""
     try:
         lower, upper = between
     except (TypeError, ValueError):
@@ -589,7 +593,8 @@ def two_limits(between: Any) -> Tuple[Any, Any]:
 
 
 def rows_of_kernel(coefficients: Rows) -> Tuple[Tuple[int, ...], ...]:
-    """Returns the coefficients of a convolution, row by row."""
+    """Returns the coefficients of a convolution, row by row. Raises TypeError or ValueError unless
+    they are whole numbers in rows of the same length."""
     try:
         given = [list(row) for row in coefficients]
     except TypeError:
@@ -603,7 +608,8 @@ def rows_of_kernel(coefficients: Rows) -> Tuple[Tuple[int, ...], ...]:
 
 
 def coefficient_of(value: Any) -> int:
-    """Returns a coefficient of a convolution, as frames have it."""
+    """Returns a coefficient of a convolution as an int. Raises TypeError or ValueError if it isn't
+    a whole number from -32768 to 32767."""
     try:
         return within(value, "a coefficient of a convolution", SIGNED,
                       "a whole number from -32768 to 32767")

@@ -24,8 +24,7 @@ if TYPE_CHECKING:
     from distributed import Client, Future
 
 Build = Callable[[Context, int, int], Tuple[Graph, AnyImage, AnyImage]]
-# How many graphs that no picture uses now a worker keeps for the next ones, each in a context of
-# its own.
+# The most idle graphs that a worker keeps for further pictures, each in a context of its own.
 IDLE_GRAPHS = 8
 
 
@@ -51,15 +50,15 @@ def map_pictures(client: Client, graph: Build, pictures: Iterable[Any], *,
     `graph` is a function, because functions can be sent to workers and objects of a context can't.
     It is called as graph(context, width, height), in samples, and returns the graph, the image that
     each picture is written to, and the image that is read after the run. A worker calls it for each
-    size, and again for each further graph that has to run at the same time; it may reuse what the
-    function returned. So a graph that keeps something from one picture to the next, for example by
-    a delay, has outputs that depend on how dask distributes the pictures. Objects that no node uses
+    size, and again for each further graph that has to run at the same time. A worker may reuse what
+    the function returned. So if a graph keeps something from one picture to the next, for example
+    by a delay, its outputs depend on how dask distributes the pictures. Objects that no node uses
     are dropped when the function returns.
 
     `pictures` are NumPy arrays of shape (height, width), rows of numbers, or futures of them. The
-    picture of a future never passes through the client. Other pictures are sent with their task,
-    and the scheduler keeps them until their future is dropped, so that they can be used again if a
-    worker ends. An output is a NumPy array, or rows of numbers on a worker without NumPy.
+    picture of a future never passes through the client. Other pictures are sent with their task.
+    The scheduler keeps each until its future is dropped, so that another worker can use it if the
+    first one ends. An output is a NumPy array, or rows of numbers on a worker without NumPy.
 
     `program` is the path of vx_main on the workers; without it each worker finds the program as
     Server does. `quota` and `work` are those of Server, `options` those of Client.map.
@@ -85,15 +84,14 @@ def map_pictures(client: Client, graph: Build, pictures: Iterable[Any], *,
 
 
 class Rows:
-    """Rows of numbers in a task: without this class dask would look for futures among the numbers
-    of a list."""
+    """Rows of numbers in a task. In a plain list dask would look for futures among the numbers."""
 
     def __init__(self, rows: Any) -> None:
         self.rows = rows
 
 
 def carried(picture: Any) -> Any:
-    """Returns a picture as it is sent."""
+    """Returns a picture in the form in which it is sent to a worker."""
     return Rows(picture) if isinstance(picture, (list, tuple)) else picture
 
 
@@ -109,12 +107,13 @@ class Line(NamedTuple):
         self.source.write(picture)
         self.graph.process()
         output = self.target.read()
-        # A memoryview, which is read where there is no NumPy, can't travel.
+        # Without NumPy the output is a memoryview, which can't be sent.
         return output if is_array(output) else output.tolist()
 
 
 def line_of(context: Context, built: Any) -> Line:
-    """Builds the line of a job's function."""
+    """Returns the line of what a job's function has built. Raises TypeError if that isn't a tuple
+    of three that begins with a graph."""
     if not (isinstance(built, tuple) and len(built) == 3 and isinstance(built[0], Graph)):
         raise TypeError("the function that builds the graph must return a tuple of the graph, its "
                         f"input image and its output image, not {built!r}")
@@ -122,17 +121,16 @@ def line_of(context: Context, built: Any) -> Line:
 
 
 class WorkerServer:
-    """The server of a worker, with the graphs that wait for pictures."""
+    """The server of a worker, and the idle graphs on it."""
 
     def __init__(self, server: Server) -> None:
         self.server = server
         self._lock = threading.Lock()
-        # Those idle since longest are first.
+        # The line that has been idle for the longest time is first.
         self._idle: OrderedDict[Line, Tuple[str, int, int]] = OrderedDict()
 
     def take(self, key: Tuple[str, int, int], build: Build) -> Line:
-        """Returns a line that nobody else is using, for a job's pictures of this width and
-        height."""
+        """Returns an idle line for a job's pictures of this width and height, or builds one."""
         with self._lock:
             line = next((line for line, its_key in self._idle.items() if its_key == key), None)
             if line is not None:
@@ -154,8 +152,7 @@ class WorkerServer:
 
 
 class Job(NamedTuple):
-    """A task's data apart from its picture. Its number tells its graph from those of other
-    calls."""
+    """The data of a task without its picture. `number` identifies the call of map_pictures."""
 
     number: str
     build: Build
@@ -164,7 +161,7 @@ class Job(NamedTuple):
     work: Optional[int]
 
     def run(self, picture: Any) -> Any:
-        """Returns the output for a picture. It runs on a worker, in one of its threads."""
+        """Returns the output for a picture. Runs on a worker, in one of its threads."""
         picture = picture.rows if isinstance(picture, Rows) else picture
         height, width = shape_of(picture)
         key = self.number, width, height
@@ -184,7 +181,8 @@ class Job(NamedTuple):
 
 
 def shape_of(picture: Any) -> Tuple[int, int]:
-    """Returns the height and the width of a picture. Raises BadPicture if it has none."""
+    """Returns the height and the width of a picture. Raises BadPicture if the value is no
+    picture."""
     if is_array(picture):
         height, width = of_two_sides(numpy_module().asarray(picture)).shape
     else:
@@ -192,14 +190,14 @@ def shape_of(picture: Any) -> Tuple[int, int]:
     return height, width
 
 
-# Of this process, by the program, the quota and the work bytes.
+# The servers of this process, by program, quota and work bytes.
 SERVERS: Dict[Tuple[Optional[str], Optional[int], Optional[int]], WorkerServer] = {}
 SERVERS_LOCK = threading.Lock()
 
 
 def worker_server_of(job: Job) -> WorkerServer:
-    """Returns the server of this process for a job, and starts its server if there is none. A
-    process that was forked from one with a server closes that server, and starts its own."""
+    """Returns this process's server for a job, and starts one if there is none. If the process was
+    forked from one with a server, that server is closed here, and a new one starts."""
     with SERVERS_LOCK:
         key = job.program, job.quota, job.work
         worker = SERVERS.get(key)
@@ -209,8 +207,8 @@ def worker_server_of(job: Job) -> WorkerServer:
 
 
 def server_of(job: Job) -> Server:
-    """Starts a server. Its error message names the machine, because it may be read on another
-    one."""
+    """Starts a server. An error names the worker's machine, because its message may be read on
+    another machine."""
     try:
         return Server(job.program, quota=job.quota, work=job.work)
     except OSError as error:
@@ -222,8 +220,8 @@ def server_of(job: Job) -> Server:
 
 def drop(worker: WorkerServer) -> None:
     """
-    Drops a server that has ended: the next picture starts another. It isn't closed here, so that
-    other threads that use it get the reason why it ended.
+    Drops a server that has ended: the next picture starts another server. The ended one isn't
+    closed here, so that other threads that use it learn why it ended.
     """
     with SERVERS_LOCK:
         for key in [key for key, other in SERVERS.items() if other is worker]:

@@ -11,7 +11,7 @@ from typing import TYPE_CHECKING, Any, Dict, Iterable, List, Mapping, NamedTuple
 if TYPE_CHECKING:
     from .functions import Call
 
-# How many seconds Graphviz may take.
+# Seconds that Graphviz may take.
 PATIENCE = 20
 # The sides of a box, and the gaps between boxes, in points.
 BOX_WIDTH, BOX_HEIGHT, ACROSS, DOWN, MARGIN = 150, 40, 50, 16, 10
@@ -64,7 +64,7 @@ def drawing_of(calls: Mapping[int, Call]) -> Drawing:
 
 
 def _key_of(drawing: Drawing, operand: Any) -> str:
-    """Returns the key of an object, whose box is drawn once."""
+    """Returns the key of an object. Its box is added if the drawing doesn't have it yet."""
     key = f"object{operand.reference.hex()}"
     kind = "virtual" if operand.is_virtual else "object"
     drawing.boxes.setdefault(key, Box(key, operand.title, operand.about, kind))
@@ -87,7 +87,8 @@ def _by_graphviz(text: str) -> Optional[str]:
 
 
 def _in_columns(drawing: Drawing) -> str:
-    """Returns the boxes in columns, each after the last of those with an arrow to it."""
+    """Returns the drawing as SVG, with each box to the right of all boxes that have an arrow to
+    it."""
     columns = _columns_of(drawing)
     places: Dict[str, Tuple[int, int]] = {}
     filled: Dict[int, int] = {}
@@ -104,7 +105,7 @@ def _in_columns(drawing: Drawing) -> str:
 
 
 def _columns_of(drawing: Drawing) -> Dict[str, int]:
-    """Returns the column of each box. It ends even for a cycle."""
+    """Returns the column of each box, from 0. Terminates even if the arrows form a cycle."""
     columns = dict.fromkeys(drawing.boxes, 0)
     for _ in drawing.boxes:
         for source, target in drawing.arrows:

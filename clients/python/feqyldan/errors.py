@@ -1,5 +1,4 @@
-"""Exceptions: a class for each status code of the protocol, and those that aren't refusals of the
-server."""
+"""Exceptions: a class for each status code of the protocol, and classes for all other errors."""
 
 from __future__ import annotations
 
@@ -18,8 +17,8 @@ class Closed(FeqyldanError, ValueError):
 
 class ServerEnded(FeqyldanError):
     """
-    The server has ended, or closed its connection, and won't answer any more. `status` is its exit
-    status, or None if it isn't known; `said` is what it wrote to standard error.
+    The server has ended, or has closed its connection, and won't answer any more. `status` is its
+    exit status, or None if it isn't known; `said` is the text that it wrote to standard error.
     """
 
     def __init__(self, words: str, status: Optional[int] = None, said: str = "") -> None:
@@ -36,8 +35,7 @@ class ProgramNotFound(FeqyldanError, FileNotFoundError):
 
 
 class OrderWarning(UserWarning):
-    """A node of a graph writes what a node that was added earlier reads, and so it runs before that
-    node."""
+    """A node of a graph writes an object that a node added earlier reads. The writer runs first."""
 
 
 class NotYet(FeqyldanError, TimeoutError):
@@ -46,19 +44,19 @@ class NotYet(FeqyldanError, TimeoutError):
 
 class BadPicture(FeqyldanError):
     """
-    What should be written to an image isn't a picture of its format and size, or isn't a picture at
-    all. The subclasses are NotAPicture, a TypeError; WrongPicture, a ValueError; and the server's
-    refusals WrongPictureSize, WrongPictureFormat and WrongPictureSample.
+    A value can't be written to an image: it isn't a picture, or its format or size isn't the
+    image's. The subclasses are NotAPicture, a TypeError; WrongPicture, a ValueError; and the
+    server's refusals WrongPictureSize, WrongPictureFormat and WrongPictureSample.
     """
 
 
 class NotAPicture(BadPicture, TypeError):
-    """The type of the value can't be a picture: an array of floats, a path, None."""
+    """A value of this type can't be a picture, such as an array of floats, a path or None."""
 
 
 class WrongPicture(BadPicture, ValueError):
-    """The shape of the picture or a number in it is wrong: a colour picture, rows of several
-    lengths, 256."""
+    """The shape of a picture or one of its numbers is wrong, such as a colour picture, rows of
+    different lengths, or a sample of 256."""
 
 
 class UnexpectedReply(FeqyldanError):
@@ -69,8 +67,8 @@ class Refused(FeqyldanError):
     """
     The server refused a request, which has changed nothing. `code` is the number of the status
     code, `name` its name in docs/wire.md, `request` the request in words, `advice` what to do.
-    `place` is the call in its pipeline, and `fault` the fault of a graph; both are empty if there
-    is nothing to say.
+    `place` is the call in its pipeline, and `fault` the fault of a graph; each is empty if it isn't
+    known.
     """
 
     code = -1
@@ -86,8 +84,7 @@ class Refused(FeqyldanError):
         super().__init__(" ".join(filter(None, words)))
 
     def __reduce__(self) -> Tuple[Type[Refused], Tuple[str, None, str, str, str]]:
-        # It travels between processes as it was made: by default the words would be taken for the
-        # request.
+        # For pickle, which by default would pass the message as the request.
         return type(self), (self.request, None, self.advice, self.place, self.fault)
 
 
@@ -104,7 +101,7 @@ class InvalidParameters(Refused):
 
 
 class InvalidReference(Refused, Closed):
-    """An object is used after it was closed."""
+    """An object was used after it was closed."""
 
     code = wire.INVALID_REFERENCE
     advice = "An object that it uses was closed: create another, or close it later."
@@ -167,8 +164,7 @@ class NoResources(Refused):
 
 
 class BrokerFull(NoResources):
-    """The broker has as many connections as it allows. One may be free soon: connect(retry=) waits
-    for it."""
+    """The broker has as many connections as it allows. connect(retry=) waits for a free one."""
 
 
 class WrongPictureSize(InvalidDimension, BadPicture):
@@ -189,14 +185,14 @@ CLASSES: Dict[int, Type[Refused]] = {
         InvalidDimension, InvalidValue, InvalidType, InvalidGraph, InvalidLink, MultipleWriters,
         OptimizedAway, NoResources)}
 
-# A class of its own for a code that a request is refused with.
+# The classes for a code in the reply to a certain op.
 OWN_CLASSES: Dict[Tuple[int, Optional[int]], Type[Refused]] = {
     (wire.NO_RESOURCES, wire.OPEN_CONTEXT): BrokerFull,
     **{(kind.code, op): kind for op in (wire.WRITE_IMAGE, wire.WRITE_IMAGE_PGM)
        for kind in (WrongPictureSize, WrongPictureFormat, WrongPictureSample)},
 }
 
-# What to do where a request has a reason of its own for a code.
+# Advice for a code in the reply to a certain op.
 _SIDES = "An image has from 1 to {0} columns, and from 1 to {0} rows.".format(wire.GREATEST_SIDE)
 _SIZE_OF_A_PICTURE = ("The picture must have the size of the image: write another one, or create "
                       "an image of this size.")

@@ -16,10 +16,10 @@ def load(path: Path) -> Any:
     """
     Returns the picture in a file, as OpenCV, PIL or NumPy read it: a grey array of uint8 or int16.
     Colours are converted to grey. Raises OSError if the file can't be read, BadPicture if it has no
-    picture, and ImportError if nothing is installed that reads such files.
+    picture, and ImportError if no installed package reads such files.
     """
     path = os.fspath(path)
-    # It says why a file can't be read; OpenCV doesn't.
+    # open() says why a file can't be read; OpenCV doesn't.
     with open(path, "rb"):
         pass
     if path.endswith(".npy"):
@@ -50,7 +50,7 @@ def pixels_of_pgm(path: str, text: bytes) -> memoryview:
 
 
 def _module(name: str) -> Any:
-    """Returns a module if it and NumPy, which it needs here, are installed."""
+    """Returns a module that needs NumPy here; None if the module or NumPy isn't installed."""
     try:
         return importlib.import_module(name) if numpy_module() is not None else None
     except ImportError:
@@ -75,17 +75,17 @@ def _by_pil(pil: Any, path: str) -> Any:
             grey = picture if is_grey else picture.convert("L")
             pixels = needed_numpy(path).asarray(grey)
     except (OSError, SyntaxError):
-        # PIL has both for a file that is cut off or damaged.
+        # PIL raises these for a file that is truncated or damaged.
         raise unread(path, "PIL") from None
     return pixels
 
 
-# How files begin that have a certain end.
+# The first and the last bytes of files in some formats.
 ENDS = {b"\x89PNG\r\n\x1a\n": (b"IEND", "PNG"), b"\xff\xd8\xff": (b"\xff\xd9", "JPEG")}
 
 
 def unread(path: str, reader: str) -> WrongPicture:
-    """Returns why a file has no picture."""
+    """Returns the exception for a file that has no picture."""
     content = read_bytes(path)
     if not content:
         return WrongPicture(f"{path} is empty: copy it again")
@@ -98,7 +98,7 @@ def unread(path: str, reader: str) -> WrongPicture:
 
 
 def _narrowed(path: str, pixels: Any) -> Any:
-    """Converts samples of 16 bits or more to int16 if they fit."""
+    """Converts samples of 16 bits or more to int16. Raises BadPicture if they don't fit."""
     numpy = numpy_module()
     if pixels.dtype.kind in "iu" and pixels.dtype.itemsize > 1:
         least, greatest = int(pixels.min()), int(pixels.max())
@@ -111,7 +111,7 @@ def _narrowed(path: str, pixels: Any) -> Any:
 
 
 def save(path: Path, picture: Any) -> None:
-    """Writes an image or an array to a file in the format of the name's ending."""
+    """Writes an image or an array to a file in the format of the name's extension."""
     path = os.fspath(path)
     pixels = picture.read() if isinstance(picture, Readable) else picture
     ending = os.path.splitext(path)[1].lower()

@@ -1,7 +1,7 @@
 """
 Closes connections in the child of a fork, as multiprocessing may make it. The child has a copy of
-each connection, but the replies are the parent's. Closing the copies leaves one reader for each
-byte, and lets a server's input end with the parent.
+each connection, but the replies belong to the parent. Closing the copies leaves one reader for each
+reply, and lets a server's input end when the parent ends.
 """
 
 from __future__ import annotations
@@ -10,7 +10,7 @@ import os
 import threading
 import weakref
 
-# Why nothing can be asked in the child.
+# Why a server can't be used in the child.
 FORKED = "its server was opened before this process was forked: open a server in this process"
 
 
@@ -20,12 +20,12 @@ class Forked:
     __slots__ = ()
 
     def lose(self) -> None:
-        """Closes what belongs to the parent, without sending anything to the server. No other
-        thread runs."""
+        """Closes the child's copies of the parent's connections, and sends nothing to the server.
+        No other thread runs meanwhile."""
         raise NotImplementedError
 
 
-# Held while a pipe or a socket is there that isn't in HELD yet.
+# Held from the opening of a pipe or a socket until its owner is in HELD.
 OPENING = threading.RLock()
 HELD: weakref.WeakSet[Forked] = weakref.WeakSet()
 

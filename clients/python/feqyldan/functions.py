@@ -4,7 +4,7 @@ runs them immediately, as vxuAbsDiff does; a `Graph` adds them as nodes, as vxAb
 is defined here once, for both.
 
 The valid pixels of an output are those that are valid in all input images. An output that is added
-to is valid only where it was valid before, too. Some functions below make fewer pixels valid. All
+to stays valid only where it was valid before. Some functions below make fewer pixels valid. All
 other samples of an output become 0.
 """
 
@@ -27,16 +27,16 @@ from .whole import BYTE, within
 if TYPE_CHECKING:
     from .graphs import VirtualImage
 
-# An image, a slot of a delay, or in a graph a virtual image of it.
+# An image, a slot of a delay or, in a graph, one of its virtual images.
 Operand = Union[AnyImage, "VirtualImage"]
-# What each method gives: nothing in immediate mode, the node in a graph.
+# What each method returns: None in immediate mode, the node in a graph.
 Given = TypeVar("Given")
 Method = TypeVar("Method", bound=Callable[..., Any])
 
 
 class Policy(IntEnum):
-    """What happens to a result out of the output's range: WRAP counts modulo 2^8 or 2^16, SATURATE
-    takes the nearest sample."""
+    """The policy for results outside the output's range: WRAP takes them modulo 2^8 or 2^16,
+    SATURATE takes the nearest sample."""
 
     WRAP = wire.WRAP
     SATURATE = wire.SATURATE
@@ -44,9 +44,9 @@ class Policy(IntEnum):
 
 class Border(NamedTuple):
     """
-    The border mode: what a window sees outside the valid pixels of its input. With UNDEFINED the
-    output is valid only where the whole window is; with REPLICATE the window sees the nearest valid
-    pixel; with constant(value) it sees that value, from 0 to 255.
+    The border mode: what a window sees outside the valid pixels of its input. With UNDEFINED an
+    output pixel is valid only if its whole window is valid; with REPLICATE the window sees the
+    nearest valid pixel; with constant(value) it sees that value, from 0 to 255.
     """
 
     mode: int
@@ -56,18 +56,19 @@ class Border(NamedTuple):
 UNDEFINED, REPLICATE = Border(wire.UNDEFINED), Border(wire.REPLICATE)
 
 
-# A policy may be that of frames too.
+# Callers may also use the policies of `wire`.
 POLICIES = Policy, wire.Policy
 
 
 def constant(value: int) -> Border:
-    """Returns the border of one value everywhere, from 0 to 255."""
+    """Returns the border mode in which a window sees this value, from 0 to 255, outside the valid
+    pixels."""
     return Border(wire.CONSTANT,
                   within(value, "a border's value", BYTE, "a whole number from 0 to 255"))
 
 
 class Function(NamedTuple):
-    """A function: its number in frames, and its name in OpenVX after vx and vxu."""
+    """A function: its number in frames, and its OpenVX name without vx or vxu."""
 
     number: int
     openvx: str
@@ -90,15 +91,15 @@ def function(number: int, openvx: str) -> Callable[[Method], Method]:
 
 
 def telling_order(method: Method) -> Method:
-    """Wraps a method that has a policy: if its arguments are too few or too many, the error lists
-    them, because the policy is the one that is often forgotten."""
+    """Wraps a method that has a policy. If the number of arguments is wrong, the error lists them,
+    because the policy is often forgotten."""
 
     @functools.wraps(method)
     def called(*arguments: Any, **named: Any) -> Any:
         try:
             return method(*arguments, **named)
         except TypeError as error:
-            # One that was raised within the method has a frame of it.
+            # An error that was raised within the method has a frame of that method.
             if error.__traceback__ is None or error.__traceback__.tb_next is not None:
                 raise
             words = str(error)
@@ -110,7 +111,8 @@ def telling_order(method: Method) -> Method:
 
 
 def functions_for_names(before: str) -> Dict[str, str]:
-    """Returns the functions by their names in OpenCV and in OpenVX, with words before each."""
+    """Returns `before` and the name of each function here, by the function's names in OpenCV and
+    OpenVX."""
     names = {**OTHERS, **{other: name for name, function in FUNCTIONS.items()
                           for other in (function.openvx, f"vxu{function.openvx}",
                                         f"vx{function.openvx}Node")}}
@@ -118,13 +120,13 @@ def functions_for_names(before: str) -> Dict[str, str]:
 
 
 def order_of(name: str) -> str:
-    """Returns the words for a function with its parameters in order."""
+    """Returns a function's name and parameters in order, in words."""
     parameters = list(inspect.signature(getattr(Functions, name)).parameters)[1:]
     return f"{name}({', '.join(parameters)})"
 
 
 def place_of(name: str, parameter: str) -> str:
-    """Returns the position of a parameter among a function's arguments."""
+    """Returns the position of a parameter among a function's arguments, in words."""
     parameters = list(inspect.signature(getattr(Functions, name)).parameters)
     return f"it is argument {parameters.index(parameter)} of {order_of(name)}"
 
@@ -151,7 +153,7 @@ class Call(NamedTuple):
             self.name].number, in1, in2, out1, self.policy, self.amount, *self.border, out2
 
 
-# What in2 of a function is, where it has one.
+# What in2 is, in words, for the functions that have one.
 BINARY = {**dict.fromkeys(("and_", "or_", "xor", "add", "subtract", "multiply", "absdiff", "min",
                            "max"), "its second input"),
           "threshold": "its threshold", "table_lookup": "its table", "convolve": "its convolution"}
@@ -160,7 +162,8 @@ BINARY = {**dict.fromkeys(("and_", "or_", "xor", "add", "subtract", "multiply", 
 def call_of(name: str, operands: Tuple[Optional[Union[Operand, Named]], ...], policy: Policy,
             amount: int,
             border: Border) -> Call:
-    """Returns a call, or raises if a frame can't express it."""
+    """Returns a call. Raises InvalidParameters, TypeError or ValueError if a frame can't express
+    it."""
     for at, what in enumerate(("its input", BINARY.get(name, ""))):
         if what and operands[at] is None:
             words = f"{what[0].upper()}{what[1:]} is None: give an object."
@@ -181,7 +184,8 @@ def call_of(name: str, operands: Tuple[Optional[Union[Operand, Named]], ...], po
 
 
 def not_a_policy(name: str, value: Any) -> Exception:
-    """Returns the exception for an argument that should be a policy: a number may be a shift."""
+    """Returns the exception for an argument that should be a policy. For a number it is the
+    server's refusal."""
     words = f"a policy must be vx.WRAP or vx.SATURATE, not {value!r}; {place_of(name, 'policy')}"
     if isinstance(value, int):
         return InvalidParameters(name, None, f"{words[0].upper()}{words[1:]}.")
@@ -203,7 +207,7 @@ class Functions(Generic[Given]):
 
     @classmethod
     def _others(cls) -> Dict[str, str]:
-        """Returns what this class offers for the names of other libraries."""
+        """Returns this class's names for the functions and methods of other libraries."""
         return functions_for_names("")
 
     def _do(self, name: str, in1: Operand, in2: Optional[Union[Operand, Named]],
@@ -213,42 +217,43 @@ class Functions(Generic[Given]):
 
     @function(wire.AND_BITS, "And")
     def and_(self, in1: Operand, in2: Operand, output: Operand) -> Given:
-        """The bits that are 1 in both inputs. U8 and U8 to U8."""
+        """Writes the bits that are 1 in both inputs. U8 and U8 to U8."""
         return self._do("and_", in1, in2, output)
 
     @function(wire.OR_BITS, "Or")
     def or_(self, in1: Operand, in2: Operand, output: Operand) -> Given:
-        """The bits that are 1 in either input. U8 and U8 to U8."""
+        """Writes the bits that are 1 in either input. U8 and U8 to U8."""
         return self._do("or_", in1, in2, output)
 
     @function(wire.XOR_BITS, "Xor")
     def xor(self, in1: Operand, in2: Operand, output: Operand) -> Given:
-        """The bits that differ between the inputs. U8 and U8 to U8."""
+        """Writes the bits that differ between the inputs. U8 and U8 to U8."""
         return self._do("xor", in1, in2, output)
 
     @function(wire.NOT_BITS, "Not")
     def not_(self, input: Operand, output: Operand) -> Given:
-        """255 - a. U8 to U8."""
+        """Writes 255 - a. U8 to U8."""
         return self._do("not_", input, None, output)
 
     @function(wire.ADD, "Add")
     def add(self, in1: Operand, in2: Operand, policy: Policy, output: Operand) -> Given:
         """
-        a + b by the policy, WRAP or SATURATE. U8 and U8 to U8; or each input U8 or S16, to S16. A
-        virtual output of open format becomes S16.
+        Writes a + b by the policy, WRAP or SATURATE. U8 and U8 to U8; or two inputs of U8 or S16,
+        in any combination, to S16. A virtual output of open format becomes S16.
         """
         return self._do("add", in1, in2, output, policy=policy)
 
     @function(wire.SUBTRACT, "Subtract")
     def subtract(self, in1: Operand, in2: Operand, policy: Policy, output: Operand) -> Given:
-        """a - b by the policy. Formats as for add."""
+        """Writes a - b by the policy. Formats as for add."""
         return self._do("subtract", in1, in2, output, policy=policy)
 
     @function(wire.MULTIPLY, "Multiply")
     def multiply(self, in1: Operand, in2: Operand, shift: int, policy: Policy,
                  output: Operand) -> Given:
         """
-        a * b / 2^shift by the policy; the quotient is rounded toward zero. Formats as for add.
+        Writes a * b / 2^shift by the policy; the quotient is rounded toward zero. Formats as for
+        add.
 
         The shift, from 0 to 15, is the standard's scale 1 / 2^shift: scale 1 is shift 0, 1/256 is
         shift 8. The scale 1/255 is not supported. VX_ROUND_POLICY_TO_ZERO is the only rounding
@@ -258,70 +263,71 @@ class Functions(Generic[Given]):
 
     @function(wire.ABSOLUTE_DIFFERENCE, "AbsDiff")
     def absdiff(self, in1: Operand, in2: Operand, output: Operand) -> Given:
-        """The absolute difference of a and b, at most 32767. U8 and U8 to U8; S16 and S16 to
+        """Writes the absolute difference of a and b, at most 32767. U8 and U8 to U8; S16 and S16 to
         S16."""
         return self._do("absdiff", in1, in2, output)
 
     @function(wire.MIN_PIXEL, "Min")
     def min(self, in1: Operand, in2: Operand, output: Operand) -> Given:
-        """The smaller of both. U8 and U8 to U8; S16 and S16 to S16."""
+        """Writes the smaller of a and b. U8 and U8 to U8; S16 and S16 to S16."""
         return self._do("min", in1, in2, output)
 
     @function(wire.MAX_PIXEL, "Max")
     def max(self, in1: Operand, in2: Operand, output: Operand) -> Given:
-        """The greater of both. U8 and U8 to U8; S16 and S16 to S16."""
+        """Writes the greater of a and b. U8 and U8 to U8; S16 and S16 to S16."""
         return self._do("max", in1, in2, output)
 
     @function(wire.THRESHOLD, "Threshold")
     def threshold(self, input: Operand, threshold: Threshold, output: Operand) -> Given:
-        """The threshold's true value if a sample passes, else its false value. The threshold's
-        format to U8."""
+        """Writes the threshold's true value where a sample passes, and its false value elsewhere.
+        The input has the threshold's format; the output is U8."""
         return self._do("threshold", input, threshold, output)
 
     @function(wire.TABLE_LOOKUP, "TableLookup")
     def table_lookup(self, input: Operand, lut: Lut, output: Operand) -> Given:
-        """The table's entry for each sample. U8 to U8 or S16 to S16, as the table is."""
+        """Writes the table's entry for each sample. U8 to U8 or S16 to S16, as the table is."""
         return self._do("table_lookup", input, lut, output)
 
     @function(wire.CONVERT_DEPTH, "ConvertDepth")
     def convert_depth(self, input: Operand, output: Operand, policy: Policy, shift: int) -> Given:
         """
-        U8 to S16: a * 2^shift. S16 to U8: a / 2^shift, rounded down, by the policy. The shift is
-        from 0 to 7.
+        Converts samples to the other format. U8 to S16: a * 2^shift. S16 to U8: a / 2^shift,
+        rounded down, by the policy. The shift is from 0 to 7.
         """
         return self._do("convert_depth", input, None, output, policy=policy, amount=shift)
 
     @function(wire.BOX, "Box3x3")
     def box3x3(self, input: Operand, output: Operand, border: Border = UNDEFINED) -> Given:
-        """The mean of the nine pixels around each, rounded down. U8 to U8."""
+        """Writes the mean of the 3x3 window around each pixel, rounded down. U8 to U8."""
         return self._do("box3x3", input, None, output, border=border)
 
     @function(wire.GAUSSIAN, "Gaussian3x3")
     def gaussian3x3(self, input: Operand, output: Operand, border: Border = UNDEFINED) -> Given:
-        """The mean of the nine by the weights 1 2 1, 2 4 2, 1 2 1, rounded down. U8 to U8."""
+        """Writes the mean of the 3x3 window by the weights 1 2 1, 2 4 2, 1 2 1, rounded down. U8 to
+        U8."""
         return self._do("gaussian3x3", input, None, output, border=border)
 
     @function(wire.MEDIAN, "Median3x3")
     def median3x3(self, input: Operand, output: Operand, border: Border = UNDEFINED) -> Given:
-        """The fifth of the nine by size. U8 to U8."""
+        """Writes the median of the 3x3 window. U8 to U8."""
         return self._do("median3x3", input, None, output, border=border)
 
     @function(wire.ERODE, "Erode3x3")
     def erode3x3(self, input: Operand, output: Operand, border: Border = UNDEFINED) -> Given:
-        """The least of the nine. U8 to U8."""
+        """Writes the least sample of the 3x3 window. U8 to U8."""
         return self._do("erode3x3", input, None, output, border=border)
 
     @function(wire.DILATE, "Dilate3x3")
     def dilate3x3(self, input: Operand, output: Operand, border: Border = UNDEFINED) -> Given:
-        """The greatest of the nine. U8 to U8."""
+        """Writes the greatest sample of the 3x3 window. U8 to U8."""
         return self._do("dilate3x3", input, None, output, border=border)
 
     @function(wire.SOBEL, "Sobel3x3")
     def sobel3x3(self, input: Operand, output_x: Optional[Operand], output_y: Optional[Operand],
                  border: Border = UNDEFINED) -> Given:
         """
-        The gradients: of the nine by the weights -1 0 1, -2 0 2, -1 0 1, and by -1 -2 -1, 0 0 0, 1
-        2 1. U8 to S16. One of the outputs may be None.
+        Writes the gradients in x and in y: the sums of the 3x3 window by the weights -1 0 1, -2 0
+        2, -1 0 1, and by -1 -2 -1, 0 0 0, 1 2 1. U8 to S16. One of the outputs may be None.
         """
         return self._do("sobel3x3", input, None, output_x, out2=output_y, border=border)
 
@@ -329,9 +335,9 @@ class Functions(Generic[Given]):
     def convolve(self, input: Operand, convolution: Convolution, output: Operand,
                  border: Border = UNDEFINED) -> Given:
         """
-        The sum of the window by the convolution's coefficients, over its scale, rounded to zero and
-        then saturated; the first coefficient is for the window's last pixel. U8 to U8 or S16; a
-        virtual output of open format is S16.
+        Writes the sum of the window by the convolution's coefficients, divided by its scale,
+        rounded toward zero and then saturated. The first coefficient is for the window's last
+        pixel. U8 to U8 or S16. A virtual output of open format becomes S16.
         """
         return self._do("convolve", input, convolution, output, border=border)
 
@@ -343,35 +349,36 @@ class Functions(Generic[Given]):
 
     @function(wire.INTEGRAL, "IntegralImage")
     def integral_image(self, input: Operand, output: Operand) -> Given:
-        """At each valid pixel the sum of the valid samples neither to the right of it nor below it,
-        modulo 2^32. U8 to U32."""
+        """Writes at each valid pixel the sum of the valid samples neither to the right of it nor
+        below it, modulo 2^32. U8 to U32."""
         return self._do("integral_image", input, None, output)
 
     @function(wire.MIN_MAX_LOCATION, "MinMaxLoc")
     def min_max_loc(self, input: Operand, extremes: MinMax) -> Given:
         """
-        The least and the greatest valid sample of a U8 or S16 image, how many there are and where
-        the first of each is.
+        Finds the least and the greatest valid sample of a U8 or S16 image, how many pixels have
+        each, and the first such pixel.
 
-        The standard's six outputs are one object here, which MinMax.read() gives; of each place
-        there is the first.
+        The standard's six outputs are one object here, which MinMax.read() returns. Of the
+        standard's lists of locations it has the first location.
         """
         return self._do("min_max_loc", input, None, extremes)
 
     @function(wire.ACCUMULATE, "AccumulateImage")
     def accumulate(self, input: Operand, accum: AnyImage) -> Given:
         """
-        Adds each sample to the one that accum holds there; a sum above 32767 is 32767. U8, to S16.
+        Adds each sample to the sample of accum at the same pixel. A sum above 32767 becomes 32767.
+        U8, to S16.
 
-        In a graph each run adds once, and what reads accum reads the new sums. It can't be a
-        virtual image, which holds nothing between runs.
+        In a graph each run adds once, and nodes that read accum read the new sums. accum can't be a
+        virtual image, because that holds nothing between runs.
         """
         return self._do("accumulate", input, None, accum)
 
     @function(wire.ACCUMULATE_SQUARE, "AccumulateSquareImage")
     def accumulate_square(self, input: Operand, shift: int, accum: AnyImage) -> Given:
         """
-        Adds a * a / 2^shift, rounded down, to the sample that accum holds there, as accumulate
+        Adds a * a / 2^shift, rounded down, to the sample of accum at the same pixel, as accumulate
         does. The shift is from 0 to 15. U8, to S16.
         """
         return self._do("accumulate_square", input, None, accum, amount=shift)

@@ -1,6 +1,6 @@
 """
-Graphs as JSON files: the objects by their names, and the nodes by what their functions' parameters
-are called.
+Graphs as JSON files: the objects by their names, and the nodes by the names of their functions'
+parameters.
 
     {"feqyldan": 1,
      "objects": {
@@ -14,8 +14,8 @@ are called.
        {"function": "threshold", "input": "away", "threshold": "limit", "output": "marks"}]}
 
 A slot of a delay is written as `smooth[0]` or `smooth[-1]`. An image may have a valid rectangle, as
-`"valid": [x0, y0, x1, y1]`. FIELDS has what an object of each kind is described by; a file that
-says more of one is refused.
+`"valid": [x0, y0, x1, y1]`. FIELDS lists the fields of each kind of object; a file with any other
+field is refused.
 """
 
 from __future__ import annotations
@@ -50,7 +50,7 @@ SLOT = re.compile(r"(.+)\[(0|-[0-9]+)\]")
 
 
 class GraphFileError(FeqyldanError, ValueError):
-    """A file doesn't describe a graph. The message says in which object or node, and what is
+    """A file doesn't describe a graph. The message names the object or the node, and what is
     wrong."""
 
 
@@ -67,7 +67,7 @@ class GraphFile(NamedTuple):
 # ---- writing
 
 def write_graph(graph: Graph, path: Path, inputs: Optional[Sequence[AnyImage]]) -> None:
-    """Writes a graph and its objects, as Graph.save() says."""
+    """Writes a graph and its objects to a file, see Graph.save()."""
     written = {operand.reference for call in graph.calls.values() for operand in call.operands[2:]
                if operand is not None}
     names = Names(graph)
@@ -108,8 +108,7 @@ def _checked_inputs(graph: Graph, inputs: Any) -> Sequence[AnyImage]:
 
 
 def fault_of_input(graph: Graph, image: Any) -> str:
-    """Returns why an object can't be an image that gets a picture before each run; empty if it
-    can."""
+    """Returns why an object can't be an input image of a saved graph; empty if it can."""
     if isinstance(image, Slot):
         return ("a slot of a delay gets its picture from a node: let graph.max(camera, camera, "
                 "slot) copy it from an image, which is the input")
@@ -167,8 +166,8 @@ def _description(thing: Any, graph: Graph, written: Any, inputs: Any) -> Dict[st
 
 
 def _content(image: Image, graph: Graph, is_written: bool) -> Dict[str, Any]:
-    """Returns the parts of an image that a run depends on: samples that no node writes, and the
-    valid rectangle of these and of sums, if it isn't the whole image."""
+    """Returns the content of an image that a run depends on: the samples, if no node writes them,
+    and the valid rectangle, if no node writes the image or a node adds to it."""
     is_sum = any(call.name in ADDING and call.operands[2] is image for call in graph.calls.values())
     content: Dict[str, Any] = {}
     if not is_written:
@@ -195,7 +194,7 @@ def _parameters(thing: Any) -> Dict[str, Any]:
     return {}
 
 
-# Which operand of a call a parameter of its function is.
+# The index of each parameter among the operands of a call.
 OPERANDS = {"input": 0, "in1": 0, "in2": 1, "threshold": 1, "lut": 1, "convolution": 1, "output": 2,
             "accum": 2, "distribution": 2, "extremes": 2, "output_x": 2, "output_y": 3}
 
@@ -230,7 +229,8 @@ def function_of(node: Any) -> str:
 
 
 def checked(told: Any, what: str, field: str) -> Dict[str, Any]:
-    """Returns a node or an object of a file. Raises ValueError if it isn't a JSON object."""
+    """Returns a node or an object of a file. Raises ValueError if it isn't a JSON object with the
+    field."""
     if not isinstance(told, dict):
         raise ValueError(f'{what} must be a JSON object with a "{field}", not {told!r}')
     return told
@@ -238,7 +238,7 @@ def checked(told: Any, what: str, field: str) -> Dict[str, Any]:
 
 @contextlib.contextmanager
 def at_place(path: Path, place: str) -> Iterator[None]:
-    """A context whose errors name the file and the place in it."""
+    """Yields once; errors within the `with` name the file and the place in it."""
     try:
         yield
     except KeyError as error:
@@ -284,7 +284,7 @@ def _entered(drawing: Drawing, name: str, objects: Dict[str, Any]) -> str:
 # ---- reading
 
 def told_by(path: Path) -> Dict[str, Any]:
-    """Returns the contents of a file, which has objects and nodes."""
+    """Returns the contents of a graph file. Raises GraphFileError if they lack objects or nodes."""
     with open(path, "rb") as file:
         text = file.read()
     try:
@@ -301,11 +301,11 @@ def told_by(path: Path) -> Dict[str, Any]:
 
 
 def read_graph(context: Context, path: Path) -> GraphFile:
-    """Creates the graph of a file, as Context.load_graph() says."""
+    """Creates the graph of a file, see Context.load_graph()."""
     return Reader(context, os.fspath(path)).read(told_by(path))
 
 
-# What an object of each kind is described by.
+# The fields of each kind of object.
 _IMAGE = ("format", "width", "height")
 FIELDS: Dict[str, Tuple[str, ...]] = {
     "image": (*_IMAGE, "input", "samples", "file", "valid"), "virtual image": _IMAGE,
@@ -316,7 +316,7 @@ FIELDS: Dict[str, Tuple[str, ...]] = {
 
 
 class Reader:
-    """Creates the objects and nodes of a file; its errors say where it failed."""
+    """Creates the objects and nodes of a file; an error names the object or the node."""
 
     def __init__(self, context: Context, path: str) -> None:
         self._context, self._path = context, path
@@ -324,7 +324,7 @@ class Reader:
         self._things: Dict[str, Any] = {}
 
     def read(self, told: Dict[str, Any]) -> GraphFile:
-        """Reads the whole file."""
+        """Creates everything in the file's contents."""
         objects = told["objects"]
         for name, described in objects.items():
             with self._at(f'object "{name}"'):
@@ -467,7 +467,7 @@ def one_of(kind: Any, name: Any, what: str) -> Any:
 
 
 def border_named(value: Any) -> Border:
-    """Returns the border UNDEFINED, REPLICATE, or of one value."""
+    """Returns the border of a node in a file: UNDEFINED, REPLICATE or a constant value."""
     if value is None or value == "UNDEFINED":
         return UNDEFINED
     if value == "REPLICATE":

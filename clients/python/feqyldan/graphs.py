@@ -32,7 +32,8 @@ Frame = TypeVar("Frame")
 class VirtualImage(Named, Readable):
     """
     An image between nodes of one graph, which has samples only while the graph runs. `fmt`, `width`
-    and `height` are as declared; those that are None are resolved from the node that writes it.
+    and `height` are as declared. Those that are None are resolved from the node that writes the
+    image.
     """
 
     __slots__ = ("_declared",)
@@ -102,8 +103,8 @@ class Node(Uncopied):
         return self._call.name
 
     def remove(self) -> None:
-        """Removes the node from its graph. It does nothing if that was done before, or the graph
-        was closed."""
+        """Removes the node from its graph. Does nothing if the node was removed before, or the
+        graph was closed."""
         if self._is_there and not self._graph.closed:
             self._graph.remove(self)
 
@@ -174,9 +175,9 @@ class Graph(Named, Functions[Node]):
 
     def virtual_image(self, fmt: Optional[Format] = None, width: Optional[int] = None,
                       height: Optional[int] = None, *, name: str = "") -> VirtualImage:
-        """Returns a virtual image of this graph, which passes one node's output to others. Whatever
-        isn't declared is resolved from the node that writes it: for add, subtract, multiply,
-        sobel3x3 and convolve the format is then S16."""
+        """Returns a virtual image of this graph, which passes one node's output to others. A format
+        or size that isn't declared is resolved from the node that writes the image. From add,
+        subtract, multiply, sobel3x3 and convolve the format is then S16."""
         allowed = f"a whole number from 1 to {wire.GREATEST_SIDE}, or None where it is open"
         columns, rows = (None if side is None else within(side, f"a virtual image's {what}",
                                                           UNSIGNED, allowed)
@@ -192,20 +193,20 @@ class Graph(Named, Functions[Node]):
 
     def verify(self, warn: bool = True) -> None:
         """
-        Checks whether the graph can run as it is now, and raises the refusal with what is at fault
-        if it can't. process() checks it too.
+        Checks whether the graph can run as it is now. If it can't, raises the refusal, which says
+        what is at fault. process() checks the graph too.
 
-        If a node writes what a node that was added earlier reads, the writer still runs first.
-        Because this may be a surprise, it gives a Python warning, OrderWarning, unless `warn` is
-        False.
+        A node that writes an object runs first even if a node that reads the object was added
+        earlier. Because this may surprise, verify() then gives a Python warning, OrderWarning,
+        unless `warn` is False.
         """
         self._judge("verify", wire.verify_graph)
         for words in overwritten(self.members) if warn else ():
             warnings.warn(words, OrderWarning, stacklevel=2)
 
     def process(self) -> None:
-        """Runs each node once, after those whose outputs it reads. If the graph is refused, nothing
-        has run."""
+        """Runs each node once, after the nodes whose outputs it reads. If the graph is refused, no
+        node has run."""
         self._judge("process", wire.process_graph)
 
     @overload
@@ -237,22 +238,22 @@ class Graph(Named, Functions[Node]):
         and extremes; their values come as a tuple.
 
         Up to `ahead` further frames are sent before a result has come, and each result is yielded
-        as soon as it has. An error is raised at the frame that failed, after the results of those
-        before it: a refusal of one of its requests, BadPicture, or what `frames` raises.
+        as soon as it has come. An error is raised at the frame that failed, after the results of
+        earlier frames: a refusal of one of its requests, BadPicture, or an error of `frames`.
 
         Lists, tuples and arrays of frames are used as they are. Any other iterator runs in a thread
-        of its own, which takes each frame before the last one was sent. So each frame has to be an
-        array of its own, and the iterator can't use this context. When the stream is left, the
-        iterator yields the frame that was asked for, and no further one.
+        of its own, which takes each frame before the previous one was sent. So each frame has to be
+        an array of its own, and the iterator can't use this context. When the stream is left, the
+        iterator still yields the frame that was asked for, and no further one.
         """
         from .streams import Station, stream
         return stream(frames, [Station(self, camera, out)], ahead)
 
     def profile(self, rounds: int = 5) -> Profile:
         """
-        Runs each node by itself in immediate mode, and returns its time: the least of `rounds`
-        runs. Printed, the result is a table. It works on images of its own, so the graph's outputs
-        don't change; these images count towards the quota.
+        Runs each node by itself in immediate mode, and returns the time of each in seconds: the
+        least of `rounds` runs. The result prints as a table. The runs use images of their own, so
+        the graph's outputs don't change; these images count towards the quota.
         """
         from .profiles import profile
         return profile(self, rounds)
@@ -261,8 +262,8 @@ class Graph(Named, Functions[Node]):
         """
         Writes the graph and its objects to a JSON file, for Context.load_graph() and the command
         line. `inputs` are the images that get a picture before each run. The file includes the
-        samples and the valid rectangles of all other images that nodes read and none writes.
-        Without `inputs` there may be only one such image.
+        samples and the valid rectangles of all other images that nodes read and no node writes.
+        Without `inputs` nodes may read only one image that no node writes.
         """
         from .graph_files import write_graph
         write_graph(self, path, inputs)
@@ -314,11 +315,11 @@ class Graph(Named, Functions[Node]):
 
     @property
     def members(self) -> Tuple[Member, ...]:
-        """The nodes as values, to find out what is at fault."""
+        """The nodes with their operands' descriptions, to find the fault of the graph."""
         return tuple(member_of(number, call) for number, call in self._calls.items())
 
     def _judge(self, verb: str, make: Callable[..., bytes]) -> None:
-        # In a pipeline the graph may be another one when the reply comes.
+        # In a pipeline the graph may have changed by the time the reply comes.
         calls, work = self._calls.copy(), self._context.server.work
         self._context.tell(f"{verb} {self}", make, self.name,
                            explain=lambda code: explained(code, [

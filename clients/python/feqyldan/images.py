@@ -70,7 +70,7 @@ class AnyImage(Readable):
 
     @property
     def ndim(self) -> int:
-        """2, as NumPy has it."""
+        """The number of dimensions, 2, as NumPy has it."""
         return 2
 
     @property
@@ -90,7 +90,7 @@ class AnyImage(Readable):
         fmt, width, height, content = samples_of(samples, described)
         if (fmt, width, height) != described:
             sides_of_frame(width, height)
-        # As str(fmt), which takes longer.
+        # The same as str(fmt), but faster.
         words = f"write {width} by {height} {fmt._name_} samples to {self}"
         self.context.tell(words, wire.write_image_head, self.reference, fmt, width, height,
                           content=content,
@@ -108,9 +108,9 @@ class AnyImage(Readable):
     def read(self, out: Optional[numpy.ndarray[Any, Any]] = None) -> Picture:
         """
         Returns all samples as a NumPy array of shape (height, width) and dtype uint8, int16 or
-        uint32; without NumPy as a memoryview of that shape. It belongs to the caller, and may be
-        changed. With `out`, an array of that shape and dtype, they are read into that array, which
-        is returned.
+        uint32; without NumPy as a memoryview of that shape. The caller owns the result, and may
+        change it. With `out`, an array of that shape and dtype, reads the samples into `out` and
+        returns it. Raises BadPicture for any other `out`.
         """
         if out is None:
             return self.context.ask(*self.reading())
@@ -138,14 +138,13 @@ class AnyImage(Readable):
 
     def save(self, path: Path) -> None:
         """
-        Writes the picture to a file in the format of the name's ending: .pgm, .png and NumPy's .npy
-        by this package, any other by OpenCV or PIL if one of them is installed.
+        Writes the picture to a file in the format of the name's extension: .pgm, .png and NumPy's
+        .npy by this package, any other by OpenCV or PIL if one of them is installed.
         """
         save(path, self)
 
     def __array__(self, dtype: Any = None, copy: Optional[bool] = None) -> numpy.ndarray[Any, Any]:
-        """Returns the samples for numpy.asarray(image). They come from the server, so they are a
-        copy."""
+        """Returns a copy of the samples on the server, for numpy.asarray(image)."""
         if copy is False:
             raise ValueError(f"the samples of {self} are on its server, so NumPy only gets a copy: "
                              "leave out copy=False")
@@ -155,9 +154,9 @@ class AnyImage(Readable):
 
     def _repr_png_(self) -> Optional[bytes]:
         """
-        Returns the picture for a notebook, with a frame around the valid rectangle if that isn't
-        the whole image. S16 and U32 samples are scaled so that the least is black and the greatest
-        white. None if the image can't be read any more.
+        Returns the picture as PNG for a notebook, with a frame around the valid rectangle unless
+        that is the whole image. S16 and U32 samples are scaled so that the least is black and the
+        greatest white. Returns None if the image can't be read any more.
         """
         try:
             return shown(self.read(), self.valid)
@@ -200,8 +199,8 @@ class AnyImage(Readable):
     def valid(self) -> Rectangle:
         """
         The valid rectangle x0, y0, x1, y1: the columns x0 to x1 - 1 of the rows y0 to y1 - 1.
-        Setting it makes each sample outside it 0 for good: setting a larger rectangle later doesn't
-        restore them. A rectangle without pixels is 0, 0, 0, 0.
+        Setting it makes each sample outside it 0; setting a larger rectangle later doesn't restore
+        the samples. A rectangle without pixels is 0, 0, 0, 0.
         """
         return self.query().valid
 
@@ -323,6 +322,6 @@ class Delay(Named):
         return html_of((f"slot {slot.number}", slot._repr_png_()) for slot in self)
 
     def age(self) -> None:
-        """Moves each image on by one slot: slot 0 to -1, and so on, and the last one to 0. After
-        Graph.register_auto_aging() each run of the graph does it."""
+        """Moves each image to the next older slot, 0 to -1 and so on, and the image of the last
+        slot to slot 0. Each run of a graph does this after Graph.register_auto_aging()."""
         self._context.tell(f"age {self}", wire.age_delay, self.name)

@@ -18,13 +18,13 @@ if TYPE_CHECKING:
 
 Own = TypeVar("Own", bound="Named")
 Value = TypeVar("Value")
-# What is asked of the server: the request in words, what gives its frame of the client's number,
-# and the decoder.
+# A query: its words, the function that makes its frame for a client number, the decoder of its
+# reply, and the expected body if the op doesn't determine it.
 Asked = Tuple[str, Callable[[int], bytes], Callable[[memoryview], Value], Optional[Body]]
 
 
 class Rectangle(NamedTuple):
-    """The pixels in the columns x0 to x1 - 1 and the rows y0 to y1 - 1; the empty one is four
+    """The pixels in the columns x0 to x1 - 1 and the rows y0 to y1 - 1. An empty rectangle is four
     zeros."""
 
     x0: int
@@ -34,8 +34,8 @@ class Rectangle(NamedTuple):
 
 
 class Description(NamedTuple):
-    """The description of an image: its format, its width and height, and its valid rectangle. For a
-    virtual image, None is what was left open."""
+    """The description of an image: its format, its width and height, and its valid rectangle. What
+    a virtual image leaves open is None."""
 
     fmt: Optional[Format]
     width: Optional[int]
@@ -47,15 +47,15 @@ Extremes = wire.Extremes
 
 
 def in_words(fmt: Optional[Format], width: Optional[int], height: Optional[int]) -> str:
-    """Returns the format and the size of an image in words. Those of a virtual one may be open."""
+    """Returns the format and the size of an image in words. A virtual image may leave them open."""
     if fmt is None and width is None and height is None:
         return "open"
     return f"{fmt or 'open'}, {width or 'open'} by {height or 'open'}"
 
 
 class Made(NamedTuple):
-    """An object that the server created: its name there, and the label that the program gave it, or
-    an empty one."""
+    """An object that the server created: its name there, and the label that the caller gave it,
+    which may be empty."""
 
     name: int
     label: str = ""
@@ -65,7 +65,7 @@ class Named(Uncopied):
     """
     An object in a context. `name` is its number on the server, `label` its name in messages. It is
     released by close(), at the end of its `with`, when Python frees it, or with its context. On the
-    server it lives on as long as a node of a graph uses it.
+    server the object lives on as long as a node of a graph uses it.
     """
 
     __slots__ = ("_context", "_made", "_about", "_is_closed", "_words", "_reference", "__weakref__")
@@ -77,7 +77,8 @@ class Named(Uncopied):
     def __init__(self, context: Context, made: Made, about: str = "") -> None:
         self._context, self._made, self._about = context, made, about
         self._is_closed = False
-        # Kind, name and, where there is more to say, the format or the sides, for messages.
+        # For messages: the kind, the name, the label and the format or the sides, as far as there
+        # are any.
         label = f' "{made.label}"' if made.label else ""
         self._words = f"{self.kind} {made.name}{label}{f' ({about})' if about else ''}"
         self._reference: bytes = wire.reference(made.name)
@@ -110,7 +111,7 @@ class Named(Uncopied):
         return self._is_closed or self._context.closed
 
     def close(self) -> None:
-        """Releases the object. It does nothing if that was done before, or its context or its
+        """Releases the object. Does nothing if it was released before, or if its context or its
         server has ended."""
         if not self.closed:
             self._is_closed = True
@@ -142,7 +143,7 @@ class Named(Uncopied):
 class Threshold(Named):
     """
     A threshold for Context.vxu.threshold and samples of its format. `above` is the limit of a
-    binary threshold, `between` the two limits of a range; the other one is None.
+    binary threshold, else None; `between` has the two limits of a range threshold, else None.
     """
 
     __slots__ = ("_fmt", "_limits", "_outputs")
@@ -180,8 +181,7 @@ class Threshold(Named):
 
 
 class Lut(Named):
-    """A lookup table with an entry for each sample of its format, the one for the least sample
-    first."""
+    """A lookup table with an entry for each sample of its format, in the order of the samples."""
 
     __slots__ = ("_fmt", "_entries")
     kind = "lookup table"
@@ -231,7 +231,7 @@ class Convolution(Named):
 
 class Distribution(Named):
     """The counts of a histogram, one for each bin. The bins have the same width, begin at the
-    offset, and cover `range` values together."""
+    offset, and together cover `range` values."""
 
     __slots__ = ("_sides",)
     kind = "distribution"
@@ -256,7 +256,7 @@ class Distribution(Named):
         return f", from {self.offset} on, {self.range} long"
 
     def read(self) -> Tuple[int, ...]:
-        """Returns the count of each bin, the one at the offset first."""
+        """Returns the count of each bin, beginning with the bin at the offset."""
         return self._context.ask(*self.reading())
 
     def reading(self) -> Asked[Tuple[int, ...]]:
@@ -267,7 +267,7 @@ class Distribution(Named):
 
 class MinMax(Named):
     """The results of min_max_loc: the least and the greatest sample, how many pixels have each, and
-    the first of them."""
+    the first such pixel."""
 
     __slots__ = ()
     kind = "extremes"
@@ -275,7 +275,7 @@ class MinMax(Named):
     def read(self) -> Extremes:
         """
         Returns `min` and `max`, `min_count` and `max_count` in pixels, and `min_at` and `max_at`,
-        the (x, y) of the first pixel of each, row by row from the top. All are 0 if no pixel was
+        the (x, y) of the first pixel with each, row by row from the top. All are 0 if no pixel was
         valid.
         """
         return self._context.ask(*self.reading())
@@ -287,7 +287,8 @@ class MinMax(Named):
 
 
 def sides_of_frame(width: Any, height: Any) -> Tuple[int, int]:
-    """Returns the width and the height of an image, if a frame can express them."""
+    """Returns the width and the height of an image as ints. Raises TypeError or ValueError if a
+    frame can't express them."""
     allowed = f"a whole number from 1 to {wire.GREATEST_SIDE}"
     return within(width, "an image's width", UNSIGNED, allowed), within(height, "an image's height",
                                                                         UNSIGNED, allowed)

@@ -14,9 +14,9 @@ from functools import lru_cache
 from itertools import accumulate
 from typing import Any, List
 
-# Less is copied: that takes less time.
+# Bytes. A shorter part is copied, which takes less time.
 LEAST = 1 << 16
-# Returns at once where the pipe is full.
+# SPLICE_F_NONBLOCK: the call returns immediately if the pipe is full.
 NONBLOCK = 2
 
 
@@ -41,9 +41,10 @@ def can_lend() -> bool:
 
 def lend(counts: List[int], pipe: int, part: Any) -> None:
     """
-    Lends a part to a pipe, and appends to the counts, as connection.moved() does, how many bytes
-    the pipe has taken. They must not change until they were read. Raises BlockingIOError if the
-    pipe is full, and another OSError if memory of this kind can't be lent.
+    Lends a part to a pipe, and appends the new total of bytes that the pipe has taken to the
+    counts, as connection.moved() does. The part must not change until the server has read it.
+    Raises BlockingIOError if the pipe is full, and another OSError if memory of this kind can't be
+    lent.
     """
     import ctypes
     import numpy

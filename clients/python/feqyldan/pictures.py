@@ -24,7 +24,7 @@ _SHAPE_OF_COLOURS = "a coloured picture must have the shape (height, width, 3)"
 
 
 class Raster(NamedTuple):
-    """Rows of bytes for PNG: one or two bytes a pixel for grey, three for colour."""
+    """Rows of bytes for PNG: one or two bytes per pixel for grey, three for colour."""
 
     width: int
     height: int
@@ -39,8 +39,8 @@ def read_bytes(path: Path) -> bytes:
 
 def size_of_pgm(text: bytes) -> Size:
     """
-    Returns the format and the size of the picture in a PGM text. Only the header is read: the
-    server checks the rest.
+    Returns the format and the size of the picture in a PGM text, or raises BadPicture. Only the
+    header is read: the server checks the rest.
     """
     header = HEADER.match(text)
     if not header:
@@ -51,7 +51,7 @@ def size_of_pgm(text: bytes) -> Size:
 
 
 def _hint_at(begin: bytes) -> str:
-    """Returns what kind of file begins like this, if it isn't PGM."""
+    """Returns in words what kind of file begins like this, if it isn't PGM."""
     kinds = ((b"\xff\xd8", "a JPEG"), (b"\x89PNG", "a PNG"), (b"P6", "a colour picture, PPM"),
              (b"P3", "a colour picture, PPM"), (b"P4", "a bitmap, PBM"), (b"BM", "a BMP"))
     for start, kind in kinds:
@@ -61,7 +61,8 @@ def _hint_at(begin: bytes) -> str:
 
 
 def write_pgm(path: Path, picture: Any) -> None:
-    """Writes a PGM file (P5) of a U8 image, array of shape (height, width) or rows of numbers."""
+    """Writes a PGM file (P5) of a U8 image, an array of shape (height, width) or rows of numbers.
+    Raises ValueError for other formats."""
     samples = _samples(picture)
     if samples.fmt != Format.U8:
         raise ValueError(f"a PGM file has U8 samples, and this picture is {samples.fmt}: save it "
@@ -77,7 +78,7 @@ def write_npy(path: Path, picture: Any) -> None:
     fmt, width, height, content = _samples(picture)
     kind = {Format.U8: "|u1", Format.S16: ">i2", Format.U32: ">u4"}[fmt]
     about = f"{{'descr': '{kind}', 'fortran_order': False, 'shape': ({height}, {width}), }}"
-    # What stands before the samples is a multiple of 64 bytes long.
+    # The bytes before the samples are a multiple of 64.
     about += " " * (-(11 + len(about)) % 64) + "\n"
     with open(path, "wb") as file:
         file.write(b"\x93NUMPY\1\0" + struct.pack("<H", len(about)) + about.encode())
@@ -88,7 +89,7 @@ def write_png(path: Path, picture: Any) -> None:
     """
     Writes a PNG file of an image, an array or rows of numbers. Grey has shape (height, width), and
     is U8 or S16 without negative samples; colour has shape (height, width, 3), with red, green and
-    blue from 0 to 255.
+    blue from 0 to 255. Raises ValueError for other samples.
     """
     content = png(picture)
     with open(path, "wb") as file:
@@ -96,7 +97,7 @@ def write_png(path: Path, picture: Any) -> None:
 
 
 def png(picture: Any) -> bytes:
-    """Returns the bytes of a PNG file, as write_png writes them."""
+    """Returns the bytes of a PNG file, for the pictures that write_png() takes."""
     return _file_of(_raster(picture))
 
 

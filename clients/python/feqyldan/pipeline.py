@@ -22,8 +22,8 @@ Value = TypeVar("Value")
 
 
 class Stretch:
-    """The requests of a pipeline up to a wait(): those that were refused, in order, and whether the
-    program got the first refusal."""
+    """The requests of a pipeline between two calls of wait(): the refused ones in order, and
+    whether the first refusal was raised."""
 
     __slots__ = ("refused", "is_told")
 
@@ -48,8 +48,8 @@ class Stretch:
             raise error
 
     def raise_before(self, request: Request) -> None:
-        """Raises the first refusal, if its request was sent before this one. The reply to this one
-        has come."""
+        """Raises the first refusal, if its request was sent before the given one. The reply to the
+        given request has come."""
         if self.refused and number_of(self.refused[0]) < number_of(request):
             self.raise_first()
 
@@ -64,13 +64,13 @@ class Result(Uncopied, Generic[Value]):
                  decode: Callable[[memoryview], Value], stretch: Stretch) -> None:
         self._connection, self._request, self._decode = connection, request, decode
         self._stretch = stretch
-        # The one value, once the reply was decoded.
+        # One value when the reply was decoded, none before.
         self._decoded: List[Value] = []
 
     @property
     def is_there(self) -> bool:
-        """Whether value() won't wait. It reads what has come from the server, so a program may poll
-        it."""
+        """Whether value() can return without waiting. Reads what has come from the server, so a
+        program may poll this."""
         if self._request.answer is None:
             try:
                 self._connection.look()
@@ -88,7 +88,7 @@ class Result(Uncopied, Generic[Value]):
         Waits for the reply, and returns its result.
 
         Raises the request's own refusal, or the first refusal of an earlier request of the
-        pipeline, because the result may be of an older picture then. Waits for at most `timeout`
+        pipeline, because the result may then be of an older picture. Waits at most `timeout`
         seconds, if given, and then raises NotYet; value() may be called again.
         """
         self._await(timeout)
@@ -100,8 +100,8 @@ class Result(Uncopied, Generic[Value]):
         return value
 
     def raw(self) -> Value:
-        """Waits for the reply, and returns its result even after a refusal of an earlier request:
-        it may then be of an older picture. Raises the request's own refusal."""
+        """Waits for the reply, and returns its result even after a refusal of an earlier request.
+        The result may then be of an older picture. Raises the request's own refusal."""
         if not self._decoded:
             self._await(None)
             error = self._request.error
@@ -131,12 +131,13 @@ class Pipeline(Uncopied):
 
     calls of the context without a result, such as write() and process(), don't wait for their
     replies. The pipeline's own read(), read_pgm() and query() return a Result, whose value comes
-    later. All other calls wait as always. The server answers everything in the order of the calls.
+    later. All other calls wait as always. The server answers all requests in the order of the
+    calls.
 
-    The server handles requests after a refused one like any others. So whatever is read after a
-    refusal, by value() or by a call that waits, raises that first refusal. At the end all replies
-    are awaited, and the first refusal is raised unless it was raised before. `refusals` has all of
-    them, and each says which call it was.
+    The server handles requests after a refused one like any others. So after a refusal value(), and
+    each call that waits for a result, raises the first refusal. The end of the `with` waits for all
+    replies, and raises the first refusal unless it was raised before. `refusals` lists all
+    refusals, each with its call.
     """
 
     _inner = frozenset(("is_followed", "take", "raise_before"))
@@ -180,8 +181,8 @@ class Pipeline(Uncopied):
 
     def wait(self) -> None:
         """
-        Waits for all replies so far, and raises the first refusal of them unless it was raised
-        before. Earlier refusals no longer affect what is read after this.
+        Waits for all replies so far, and raises the first refusal unless it was raised before.
+        Results that are read later don't depend on these refusals.
         """
         self._context.connection.wait()
         stretch, self._stretch = self._stretch, Stretch()
@@ -189,14 +190,14 @@ class Pipeline(Uncopied):
             stretch.raise_first()
 
     def take(self, request: Request) -> None:
-        """Takes a call that is made within the pipeline."""
+        """Numbers a request that is sent within the pipeline, and notes it if it is refused."""
         self._calls += 1
         frame = calling_frame()
         request.place = Place(self._calls, self._words(), frame.f_code.co_filename, frame.f_lineno)
         request.on_refusal = self._stretch.note
 
     def raise_before(self, request: Request) -> None:
-        """Raises the first refusal, if it is of a request that was sent before this one."""
+        """Raises the first refusal, if its request was sent before the given one."""
         self._stretch.raise_before(request)
 
     def _words(self) -> str:
@@ -222,7 +223,8 @@ class Pipeline(Uncopied):
 
 
 def number_of(request: Request) -> int:
-    """Returns the number of a call in its pipeline. One without a number comes after all others."""
+    """Returns the number of a call in its pipeline. A call without a number comes after all
+    others."""
     return sys.maxsize if request.place is None else request.place.number
 
 

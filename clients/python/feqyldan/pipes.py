@@ -3,12 +3,12 @@
 import contextlib
 import fcntl
 
-# How much a pipe to or from a server holds, where the system allows it.
+# Bytes that a pipe to a server holds, if the system allows it.
 PIPE_BYTES = 1 << 20
 
 
 def enlarge(pipe: int) -> None:
-    """Enlarges the buffer of a pipe, if possible, so that both of its ends are woken up less
+    """Enlarges the buffer of a pipe, if possible, so that the processes at its ends wake up less
     often."""
     with contextlib.suppress(OSError):
         fcntl.fcntl(pipe, getattr(fcntl, "F_SETPIPE_SZ", 1031), PIPE_BYTES)

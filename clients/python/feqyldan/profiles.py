@@ -22,7 +22,7 @@ class Timing(NamedTuple):
 
 
 class Profile(Tuple[Timing, ...]):
-    """The times of nodes, in the order in which they run. Printed, it is a table with the slowest
+    """The times of nodes, in the order in which they run. Prints as a table with the slowest node
     first."""
 
     __slots__ = ()
@@ -41,7 +41,8 @@ class Profile(Tuple[Timing, ...]):
 
 
 def profile(graph: Graph, rounds: int) -> Profile:
-    """Runs each node by itself on objects of its own, in the order of the graph."""
+    """Returns the time of each node by itself, in the order of the graph. The nodes write to
+    substitutes, so the graph's outputs don't change."""
     graph.verify(warn=False)
     stand_ins = Doubles(graph)
     nodes = {node.number: node for node in graph.nodes}
@@ -83,7 +84,7 @@ class Doubles:
             return self._context.distribution(operand.bins, operand.offset, operand.range)
         if isinstance(operand, MinMax):
             return self._context.min_max()
-        # It may be added to.
+        # A copy, because the function may add to the samples.
         if isinstance(operand, AnyImage):
             return operand.copy()
         cell = self._known[operand.reference]

@@ -9,22 +9,23 @@ from typing import List, Set
 from .errors import ProgramNotFound
 
 VARIABLE = "FEQYLDAN_PROGRAM"
-# What the program may be called on PATH.
+# The names of the program on PATH.
 NAMES = ("feqyldan", "vx_main")
 HERE = os.path.dirname(os.path.abspath(__file__))
-# Where a wheel has it that was built with the server inside (tools/package).
+# The folder of the programs in a wheel that includes them (tools/package).
 INSIDE = os.path.join(HERE, "programs")
-# The crate where tools/build leaves it, if this package stands in a checkout.
+# The crate where tools/build puts the program, if this package is in a checkout.
 CRATE = os.path.normpath(os.path.join(HERE, "../../../crates/vx_main"))
-# The build for processors with AVX2, and the one for all. The faster one needs these flags of
+# The build for processors with AVX2, and the build for all. The faster one needs these flags of
 # /proc/cpuinfo (abm is lzcnt; xsave is osxsave where the system allows it).
 FASTER, PLAIN = "vx_main-x86-64-v3", "vx_main-default"
 FASTER_FLAGS = set("abm avx avx2 bmi1 bmi2 f16c fma movbe xsave".split())
 
 
 def find() -> str:
-    """Returns the path of the program: what FEQYLDAN_PROGRAM says, else the one on PATH, else the
-    one inside this package, else the one that was built in this checkout."""
+    """Returns the path of the program: the value of FEQYLDAN_PROGRAM, else the program on PATH,
+    else the one inside this package, else the one built in this checkout. Raises ProgramNotFound if
+    there is no such file."""
     told = os.environ.get(VARIABLE)
     if told:
         if not os.path.isfile(told):
@@ -46,19 +47,20 @@ def find() -> str:
 
 
 def inside() -> List[str]:
-    """Returns the paths of the program inside this package; none if it was installed without
-    one."""
+    """Returns the paths of the programs inside this package; none if it was installed without
+    them."""
     return in_folder(INSIDE) if os.path.isdir(INSIDE) else []
 
 
 def built() -> List[str]:
-    """Returns the paths of builds that this machine's processor can run, the fastest first; none
-    outside a checkout."""
+    """Returns the paths of the builds in this checkout that this machine's processor can run, the
+    fastest first; none outside a checkout."""
     return in_folder(os.path.join(CRATE, "out")) if os.path.isdir(CRATE) else []
 
 
 def in_folder(folder: str) -> List[str]:
-    """Returns the paths in a folder that this machine's processor can run, the fastest first."""
+    """Returns the paths of the builds in a folder that this machine's processor can run, the
+    fastest first."""
     names = [FASTER, PLAIN] if runs_faster() else [PLAIN]
     return [os.path.join(folder, name) for name in names]
 

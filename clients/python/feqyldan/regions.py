@@ -10,8 +10,8 @@ from .samples import Readable, needed_numpy, of_two_sides, refuse_none_and_paths
 
 
 class Region(NamedTuple):
-    """A region of pixels that touch by sides or corners: their number, their bounding rectangle,
-    and their centre (x, y)."""
+    """A region of pixels that touch by sides or corners: the number of pixels, their bounding
+    rectangle, and their centre (x, y)."""
 
     pixels: int
     around: Rectangle
@@ -20,9 +20,9 @@ class Region(NamedTuple):
 
 def regions(marks: Any, least: int = 1) -> List[Region]:
     """
-    Returns the regions of samples that aren't 0 in an image or an array of shape (height, width):
-    those of at least `least` pixels, the largest first. Raises BadPicture for anything else. Needs
-    NumPy, and OpenCV or SciPy.
+    Returns the regions of non-zero samples in an image or an array of shape (height, width). Only
+    regions of at least `least` pixels count, the largest first. Raises BadPicture for anything
+    else. Needs NumPy, and OpenCV or SciPy.
     """
     numpy = needed_numpy("regions()")
     pixels = _pixels_of(numpy, marks) != 0

@@ -1,12 +1,12 @@
 """
-Conversion of samples to what the server takes and back. Frames have samples row by row from the
-top, each big-endian.
+Converts pictures to the samples of frames, and back. Frames have samples row by row from the top,
+each big-endian.
 
-Pictures for the server are NumPy arrays of shape (height, width) and whatever NumPy can convert to
-one; objects with a buffer, as bytes or array.array; and rows of numbers. U8 samples are sent
-without a copy. S16 and U32 samples are copied on machines with the other byte order, which are
-most. A picture from the server is a NumPy array if NumPy is installed, else a memoryview of the
-same shape: samples are [y, x] in both, and tolist() returns their rows.
+Pictures for the server are NumPy arrays of shape (height, width), or objects that NumPy can convert
+to one; objects with a buffer, as bytes or array.array; and rows of numbers. U8 samples are sent
+without a copy. S16 and U32 samples are copied on little-endian machines. A picture from the server
+is a NumPy array if NumPy is installed, else a memoryview of the same shape: samples are [y, x] in
+both, and tolist() returns their rows.
 """
 
 from __future__ import annotations
@@ -26,10 +26,10 @@ from .whole import first_not_whole, whole
 if TYPE_CHECKING:
     import numpy
 
-    # What is read: of shape (height, width), in this machine's byte order. Where NumPy isn't
-    # installed it is a memoryview of that shape.
+    # A picture that was read, of shape (height, width), in this machine's byte order. Without NumPy
+    # it is a memoryview of that shape.
     Picture = numpy.ndarray[Any, Any]
-    # Numbers in one line, and in rows.
+    # Numbers in one dimension, and in rows.
     Numbers = Union[Sequence[int], Iterable[int], numpy.ndarray[Any, Any]]
     Rows = Union[Sequence[Sequence[int]], numpy.ndarray[Any, Any]]
 else:
@@ -47,29 +47,29 @@ class Format(IntEnum):
 
     @property
     def sample_bytes(self) -> int:
-        # 1, 2 and 4: asked for with each frame.
+        # 1, 2 or 4. Each frame asks for it, so it has to be fast.
         return 1 << self._value_ - 1
 
     def __str__(self) -> str:
-        # `name` is worked out each time that it is asked for, and these words are for each frame.
+        # Faster than `name`, which Python computes on each access; each frame asks for it.
         return self._name_
 
 
 def format_of(value: Any) -> Format:
-    """Returns the format with a number of `wire`."""
+    """Returns the format with this number. Raises TypeError or ValueError if there is none."""
     try:
         return Format(whole(value, "a format"))
     except (TypeError, ValueError) as error:
         raise type(error)(f"a format must be vx.U8, vx.S16 or vx.U32, not {value!r}") from None
 
 
-# The letter of a format in array.array and memoryview.
+# The type code of each format in array.array and memoryview.
 LETTERS = {Format.U8: "B", Format.S16: "h", Format.U32: "I"}
 FORMATS = {"B": Format.U8, "h": Format.S16, "I": Format.U32, "L": Format.U32}
-# The kind and the bytes of NumPy's dtypes.
+# The formats by the kind and the number of bytes of NumPy's dtypes.
 DTYPES = {("u", 1): Format.U8, ("i", 2): Format.S16, ("u", 4): Format.U32}
 IS_SWAPPED = sys.byteorder == "little"
-# The sides of the squares in which an array is turned.
+# The side, in samples, of the squares in which _in_rows() copies an array.
 TILE = 128
 
 
@@ -83,7 +83,7 @@ class Samples(NamedTuple):
 
 
 class Size(NamedTuple):
-    """The size and format that a picture's samples don't say themselves."""
+    """The format and the size of a picture, for samples that don't have them, such as bytes."""
 
     fmt: Format
     width: int
@@ -91,7 +91,7 @@ class Size(NamedTuple):
 
 
 class Readable:
-    """Something on a server with samples, which read() returns."""
+    """The base class of objects on a server with samples, which read() returns."""
 
     __slots__ = ()
 
@@ -110,7 +110,7 @@ def numpy_module() -> Any:
 
 
 def needed_numpy(what: str) -> Any:
-    """Returns NumPy, or raises if it isn't installed."""
+    """Returns NumPy. Raises ImportError, which says what needs it, if it isn't installed."""
     there = numpy_module()
     if there is None:
         raise ImportError(f"{what} needs NumPy, which isn't installed: install it")
@@ -131,16 +131,17 @@ def numbers_of(content: bytes, fmt: Format) -> Tuple[int, ...]:
 
 def is_array(value: Any) -> bool:
     """Returns whether NumPy is installed and can convert the value to an array."""
-    # For an array the second takes time.
+    # For an array, looking up the second name takes time.
     has_interface = hasattr(value, "__array__") or hasattr(value, "__array_interface__")
     return has_interface and numpy_module() is not None
 
 
 def samples_of(value: Any, size: Optional[Size] = None) -> Samples:
     """
-    Returns a picture's samples, which have shape (height, width) or (height, width, 1). Samples in
-    one line, such as bytes, have the size that is given and this machine's byte order. Rows of
-    numbers have the format that is given, or U8. A size of 0 by 0 gives the format alone.
+    Returns the samples of a picture of shape (height, width) or (height, width, 1). Bytes and other
+    samples in one dimension have the given size and this machine's byte order. Rows of numbers have
+    the given format, or U8. A size of 0 by 0 gives the format alone. Raises BadPicture if the value
+    is no picture.
     """
     if isinstance(value, Readable):
         value = value.read()
@@ -165,8 +166,8 @@ def _unmasked(value: Any) -> Any:
 
 
 def entries_of(value: Any, fmt: Format) -> bytes:
-    """Returns the big-endian bytes of numbers in one line; an array may have them in one row or
-    column too."""
+    """Returns the big-endian bytes of numbers in one dimension; an array may also have one row or
+    one column."""
     if is_array(value):
         value = numpy_module().asarray(value).reshape(-1).tolist()
     return _ordered(packed(list(value), fmt, "an entry")).tobytes()
@@ -189,8 +190,8 @@ def _in_rows(pixels: Any, numpy: Any) -> Any:
     """
     Returns the array with its rows one after the other in memory.
 
-    An array in column order is copied in squares that fit in the cache: NumPy goes along the rows
-    of its output, and takes ten times as long.
+    An array in column order is copied in squares that fit in the cache. NumPy itself would copy
+    along the rows of its output, which takes ten times as long.
     """
     if pixels.flags.c_contiguous or abs(pixels.strides[1]) <= abs(pixels.strides[0]):
         return pixels
@@ -305,7 +306,7 @@ def of_two_sides(pixels: Any) -> Any:
 
 
 def _rows_in(value: Any) -> Sequence[Sequence[int]]:
-    """Returns the rows of numbers, if the value has them."""
+    """Returns the rows of numbers in a value. Raises BadPicture if it has none."""
     refuse_none_and_paths(value)
     try:
         return [list(row) for row in value]
@@ -325,8 +326,8 @@ def first_outside(numbers: Sequence[int], fmt: Format) -> int:
 
 
 def packed(numbers: Sequence[int], fmt: Format, what: str) -> Any:
-    """Returns the numbers as an array.array of a format's samples. An error names the first that
-    isn't one; `what` is what it calls a number."""
+    """Returns the numbers as an array.array of a format's samples. Raises ValueError or TypeError
+    for the first number that isn't one; `what` is the message's word for a number."""
     try:
         return array.array(LETTERS[fmt], numbers)
     except OverflowError:
@@ -341,12 +342,12 @@ def packed(numbers: Sequence[int], fmt: Format, what: str) -> Any:
 
 
 def _line_of(view: memoryview) -> memoryview:
-    """Returns the bytes of a buffer, one after the other."""
+    """Returns the bytes of a buffer in one dimension."""
     return view.cast("B") if view.c_contiguous else memoryview(view.tobytes())
 
 
 def _ordered(numbers: Any) -> memoryview:
-    """Returns the bytes of an array.array, in the byte order of frames. The array is changed."""
+    """Converts an array.array to the byte order of frames, in place, and returns its bytes."""
     if IS_SWAPPED:
         numbers.byteswap()
     return memoryview(numbers).cast("B")
@@ -363,15 +364,16 @@ def _reordered(content: memoryview, fmt: Format) -> memoryview:
 
 
 def picture_of(reply: memoryview) -> Picture:
-    """Returns the samples of an image that was read, in a buffer of their own that the caller may
-    write to."""
+    """Returns the samples in a reply to ReadImage. They are in a buffer of their own, which the
+    caller may write to."""
     fmt, width, height = wire.size_of(reply)
     return _array_of(reply[13:], Format(fmt), (height, width))
 
 
 def place_in(out: Any, described: Size) -> Optional[memoryview]:
-    """Returns the bytes of an array that samples are to be read into. It must have their shape and
-    type. None if it doesn't have its rows one after the other without gaps."""
+    """Returns the memory of an array that samples are read into; None if there are gaps between its
+    rows. Raises BadPicture unless the array has the samples' shape and dtype, and can be written
+    to."""
     fmt, width, height = described
     numpy = needed_numpy("an array to read into")
     if not isinstance(out, numpy.ndarray):
@@ -385,8 +387,8 @@ def place_in(out: Any, described: Size) -> Optional[memoryview]:
 
 
 def turned(pixels: Picture) -> Picture:
-    """Returns an array whose samples come in the byte order of frames, after converting them to
-    this machine's."""
+    """Converts the samples of an array from the byte order of frames to this machine's, in place,
+    and returns the array."""
     if IS_SWAPPED and pixels.itemsize > 1:
         pixels.byteswap(inplace=True)
     return pixels

@@ -1,4 +1,5 @@
-"""Servers: a program that this one starts, or a running one that is reached by a Unix socket."""
+"""Servers: a program that this process starts, or a running one that is reached by a Unix
+socket."""
 
 from __future__ import annotations
 
@@ -27,11 +28,11 @@ from .uncopied import Uncopied
 from .whole import whole
 
 CLIENTS = 65536
-# How long a server may take to end once its input has, in seconds; and how much is told of what it
-# said.
+# Seconds that a server may take to end after its input has ended; and the most bytes of its
+# standard error that a message quotes.
 PATIENCE = 10.0
 SAID_BYTES = 4096
-# What the server takes where nobody says it.
+# The server's default limits, in bytes.
 QUOTA = WORK = 2**28
 # Seconds between two tries to reach a socket at which nobody listens, or a broker that is full.
 RETRY_PAUSE = 0.1
@@ -39,7 +40,7 @@ RETRY_PAUSE = 0.1
 
 class Server(Forked, Uncopied):
     """
-    A server that this program starts. It ends at the end of its `with`, or with this program.
+    A server that this process starts. It ends at the end of its `with`, or with this process.
 
     `program` is the path of vx_main, or the words of a command that ends with it. Without it, the
     program is the first of these: the environment variable FEQYLDAN_PROGRAM; `feqyldan` or
@@ -51,8 +52,8 @@ class Server(Forked, Uncopied):
     within `timeout` seconds raises TimedOut and ends the server. Several threads may use one
     server, each with a context of its own.
 
-    The server has a session of its own, so that Ctrl-C interrupts this program alone. In a process
-    that is forked from this one it is closed.
+    The server has a session of its own, so that Ctrl-C interrupts this process alone. In the child
+    of a fork the server is closed.
     """
 
     __slots__ = ("_lock", "_next_number", "_free_numbers", "_ended_by", "_quota", "_work",
@@ -64,10 +65,10 @@ class Server(Forked, Uncopied):
                  work: Optional[int] = None, timeout: Optional[float] = None) -> None:
         words = command(find() if program is None else program, quota, work)
         self._lock = threading.Lock()
-        # The first client number that no context ever had, and those that are free again.
+        # The least client number that no context ever had, and the numbers that are free again.
         self._next_number = 0
         self._free_numbers: List[int] = []
-        # Why it can't be used any more; None while it can.
+        # Why the server can't be used any more; None while it can.
         self._ended_by: Optional[str] = None
         self._quota: Optional[int] = QUOTA if quota is None else quota
         self._work: Optional[int] = WORK if work is None else work
@@ -80,10 +81,10 @@ class Server(Forked, Uncopied):
             HELD.add(self)
 
     def _start(self, words: List[str]) -> None:
-        # A file and no pipe, which could fill up while nobody reads it.
+        # A file, because a pipe could fill up while nobody reads it.
         self._said = tempfile.TemporaryFile()
-        # Replies come by a socket: its buffers stay in the processor's cache, where a pipe would
-        # take new pages for each picture.
+        # Replies come by a socket: its buffers stay in the processor's cache, while a pipe takes
+        # new pages for each picture.
         self._output, replies = socket.socketpair()
         try:
             with replies:
@@ -101,7 +102,7 @@ class Server(Forked, Uncopied):
 
     @property
     def closed(self) -> bool:
-        """Whether the server was closed, or has ended."""
+        """Whether the server was closed or has ended."""
         return self._ended_by is not None or self._connection.fault is not None
 
     @property
@@ -132,16 +133,16 @@ class Server(Forked, Uncopied):
             raise
 
     def give_back(self, context: Context, is_released: bool) -> None:
-        """Takes back the number of a context that has ended. It is free again if the server has
-        released the context."""
+        """Takes back the client number of a context that has ended. The number is free again if the
+        server has released the context."""
         if is_released:
             self._free_numbers.append(context.number)
 
     def close(self) -> None:
         """
-        Ends the server and all its contexts: it answers what was sent, its input is closed, and it
-        is waited for. Raises ServerEnded if it doesn't end normally. It does nothing if that was
-        done before.
+        Ends the server and all its contexts: waits for all replies, closes the server's input, and
+        waits for the server to end. Raises ServerEnded if the server doesn't end normally. Does
+        nothing if the server was closed before.
         """
         if self._ended_by is not None:
             return
@@ -163,7 +164,7 @@ class Server(Forked, Uncopied):
             self._input.close()
             self._output.close()
             self._said.close()
-            # Only the parent can wait for it.
+            # Only the parent can wait for the process.
             self._process.returncode = 0
 
     def __enter__(self) -> Server:
@@ -174,7 +175,7 @@ class Server(Forked, Uncopied):
         if error is None:
             self.close()
         elif self._ended_by is None:
-            # What it still answers is wanted by nobody.
+            # Nobody wants the remaining replies.
             self._ended_by = "the server was closed"
             self._process.terminate()
             self._end()
@@ -193,7 +194,7 @@ class Server(Forked, Uncopied):
             return self._next_number - 1
 
     def _end(self) -> ServerEnded:
-        """Closes the server's input, and terminates or kills the server if it doesn't end then.
+        """Closes the server's input, and terminates or kills the server if that doesn't end it.
         Returns how it ended."""
         self._connection.close()
         self._input.close()
@@ -208,7 +209,7 @@ class Server(Forked, Uncopied):
         return ended
 
     def _has_ended(self) -> bool:
-        """Waits for the server to end, and returns whether it has."""
+        """Waits PATIENCE seconds for the server to end, and returns whether it has."""
         try:
             self._process.wait(PATIENCE)
         except subprocess.TimeoutExpired:
@@ -230,8 +231,8 @@ class Server(Forked, Uncopied):
 
 class SocketServer(Server):
     """
-    A server that is reached by a Unix socket, as feqyldan.broker gives it to several programs. Each
-    context has a connection of its own, and the server goes on when this is closed. If nobody
+    A server that is reached by a Unix socket, which feqyldan.broker shares among several programs.
+    Each context has a connection of its own. After close() the server itself goes on. If nobody
     listens or the broker is full, connecting is retried for `retry` seconds, also when a context is
     opened later.
     """
@@ -247,8 +248,8 @@ class SocketServer(Server):
         self._lock = threading.Lock()
         self._ended_by: Optional[str] = None
         self._quota = self._work = None
-        # All sockets; that of each context; and that of the next one, which shows at once whether
-        # somebody listens.
+        # All sockets; the socket of each context; and the socket of the next context, which is
+        # connected early to show whether somebody listens.
         self._streams: Set[socket.socket] = set()
         self._sockets: Dict[Context, socket.socket] = {}
         self._next: Optional[socket.socket] = None
@@ -258,7 +259,7 @@ class SocketServer(Server):
 
     @property
     def closed(self) -> bool:
-        """Whether this was closed."""
+        """Whether the connections were closed."""
         return self._ended_by is not None
 
     def context(self) -> Context:
@@ -297,7 +298,7 @@ class SocketServer(Server):
             self._drop(stream)
 
     def close(self) -> None:
-        """Closes all connections, on which the server releases their contexts."""
+        """Closes all connections. The server then releases their contexts."""
         self._ended_by = self._ended_by or "the connection to the server was closed"
         for context in list(self._sockets):
             self.give_back(context, False)
@@ -337,8 +338,7 @@ class SocketServer(Server):
             self._streams.add(stream)
         try:
             if self._timeout is not None:
-                # A connect that would wait: by settimeout() it would be refused at once where many
-                # wait.
+                # settimeout() would make connect() fail immediately if many others wait.
                 whole, part = divmod(self._timeout, 1)
                 limit = struct.pack("@ll", int(whole), int(part * 1e6))
                 stream.setsockopt(socket.SOL_SOCKET, socket.SO_SNDTIMEO, limit)
@@ -376,23 +376,23 @@ def connect(path: Path, *, timeout: Optional[float] = None, retry: float = 0.0,
     Returns the server that listens at a Unix socket. If nobody listens yet, or a broker is full,
     waits up to `retry` seconds. A request that isn't answered within `timeout` seconds raises
     TimedOut and closes the connection of its context. `owner` is a user's number or name: if
-    another user listens, PermissionError is raised before anything is sent. For a socket that
-    systemd holds, the owner is root.
+    another user listens, PermissionError is raised before anything is sent. If systemd opened the
+    socket, the owner is root.
     """
     return SocketServer(path, timeout=timeout, retry=retry, owner=owner)
 
 
 def user_number(user: Union[int, str]) -> int:
-    """Returns the number of a user, who may be given by name. Raises KeyError if there is no such
-    user."""
+    """Returns the number of a user, given the number or the name. Raises KeyError if there is no
+    such user."""
     return user if isinstance(user, int) else pwd.getpwnam(user).pw_uid
 
 
 def status(path: Path, *, timeout: float = 10.0) -> Dict[str, Any]:
     """
     Returns the state of a broker or a door, from its status socket (--status) at this path. Raises
-    OSError if it doesn't answer within `timeout` seconds, and UnexpectedReply if it is another
-    socket.
+    OSError if nothing answers within `timeout` seconds, and UnexpectedReply if the path is another
+    kind of socket.
     """
     path = os.fspath(path)
     with socket.socket(socket.AF_UNIX, socket.SOCK_STREAM) as stream:
@@ -435,7 +435,7 @@ def shut(stream: socket.socket) -> None:
 
 def socket_ended(is_within_frame: bool) -> ServerEnded:
     """Returns why a connection ended, as far as this end knows. A broker knows more, for example
-    that a connection was idle for too long, and tells its operator."""
+    that a connection was idle for too long, and logs it."""
     where = " in the middle of a reply" if is_within_frame else ""
     return ServerEnded(f"the server closed the connection{where}; a broker's or a door's "
                        "standard error says why")

@@ -1,4 +1,4 @@
-"""Streams of pictures through graphs: for each picture the graph runs, and its outputs are read."""
+"""Streams of pictures through graphs: the graph runs for each picture, and its outputs are read."""
 
 from __future__ import annotations
 
@@ -27,10 +27,9 @@ if TYPE_CHECKING:
     from .graphs import Graph
 
 Frame = TypeVar("Frame")
-# How long the end of the program waits for iterators to give the frame that they are asked for, in
-# seconds.
+# Seconds that the end of the program waits for iterators to yield the frame that was asked for.
 PATIENCE = 2.0
-# How many rows of a frame are looked at, to see whether its array was filled again.
+# The number of rows in a frame's fingerprint, which shows whether its array was overwritten.
 PRINTED = 16
 
 
@@ -47,8 +46,9 @@ def stream(frames: Iterable[Frame], stations: Sequence[Station],
            ahead: int = 2) -> Iterator[Tuple[Frame, Any]]:
     """
     Yields each frame with the results of a graph, as Graph.stream() does, in the order of the
-    frames. The stations take turns: with one server each, as many frames are computed at the same
-    time. Up to `ahead` further frames are sent.
+    frames. The stations take turns: if each has a server of its own, they compute frames at the
+    same time. Besides one frame for each station, up to `ahead` frames are sent before the first
+    result has come.
     """
     if ahead < 0:
         raise ValueError(f"ahead, the number of frames sent ahead, must be 0 or more, not {ahead}")
@@ -60,8 +60,8 @@ def stream(frames: Iterable[Frame], stations: Sequence[Station],
 
 
 def look_at_frames(frames: Any, camera: AnyImage) -> None:
-    """Refuses a path, what has no elements, and a single picture, whose rows would be used as
-    frames."""
+    """Raises TypeError for a path and for a value that isn't iterable, and BadPicture for a single
+    picture, whose rows would be used as frames."""
     if isinstance(frames, str) or not (hasattr(frames, "__iter__")
                                        or hasattr(frames, "__getitem__")):
         raise TypeError("the frames of a stream must be pictures in a list, or from an iterator, "
@@ -89,7 +89,7 @@ def _run(frames: Iterable[Frame], turns: Sequence[Turn],
                 try:
                     sent.append(turns[(number - 1) % len(turns)].send(source.take(), number))
                 except Exception as fault:
-                    # It is raised after the results of the frames before.
+                    # Raised after the results of the earlier frames.
                     error = fault
                     source.close()
             else:
@@ -131,7 +131,7 @@ class FramePipeline(Pipeline):
     def __init__(self, context: Context, number: int) -> None:
         super().__init__(context)
         self._number = number
-        # One system call sends them all.
+        # One system call sends all requests of the frame.
         self.is_followed = True
 
     def _words(self) -> str:
@@ -139,7 +139,7 @@ class FramePipeline(Pipeline):
 
 
 class Turn:
-    """A station at work."""
+    """A station in use: sends frames to it."""
 
     def __init__(self, station: Station) -> None:
         graph, self._camera, out = station
@@ -157,7 +157,8 @@ class Turn:
         return self._context
 
     def send(self, frame: Any, number: int) -> Sent:
-        """Sends all requests of a frame."""
+        """Sends all requests of a frame. Raises BadPicture if the frame isn't a picture for the
+        camera."""
         if not self._is_begun:
             look_at_nodes(self._graph, self._camera, self._out)
             self._is_begun = True
@@ -171,7 +172,7 @@ class Turn:
             results.append(pipeline.read(self._out[-1]))
         finally:
             self._context.leave_pipeline()
-            # Nothing is left but after an exception.
+            # Something is left unsent only after an exception.
             self._context.connection.own_unsent()
         return Sent(frame, tuple(results), self._is_single)
 
@@ -183,12 +184,13 @@ class Turn:
 
 
 def is_object(out: Any) -> bool:
-    """Returns whether a value is one object to read, or could be mistaken for one."""
+    """Returns whether a value is a single object, or None, and not a sequence of objects."""
     return out is None or isinstance(out, (AnyImage, Named))
 
 
 def several(out: Any) -> Tuple[Any, ...]:
-    """Returns the objects of a sequence of objects to read."""
+    """Returns the objects of a sequence. Raises TypeError for another value, and
+    ValueError for an empty sequence."""
     try:
         things = tuple(out)
     except TypeError:
@@ -200,7 +202,7 @@ def several(out: Any) -> Tuple[Any, ...]:
 
 
 def look_at_camera(camera: Any) -> None:
-    """Raises if frames can't be written to the camera."""
+    """Raises TypeError or OptimizedAway if frames can't be written to the camera."""
     if isinstance(camera, VirtualImage):
         camera.write(None)
     if not isinstance(camera, AnyImage):
@@ -209,7 +211,7 @@ def look_at_camera(camera: Any) -> None:
 
 
 def look_at_output(thing: Any) -> None:
-    """Raises if an output can't be read after each run."""
+    """Raises TypeError or OptimizedAway if an output can't be read after each run."""
     if isinstance(thing, VirtualImage):
         thing.read()
     if not isinstance(thing, (AnyImage, Distribution, MinMax)):
@@ -217,8 +219,8 @@ def look_at_output(thing: Any) -> None:
 
 
 def look_at_nodes(graph: Graph, camera: AnyImage, out: Sequence[Any]) -> None:
-    """Raises if a graph's nodes don't use an object of the stream, whose results would have no
-    meaning."""
+    """Raises ValueError if no node reads the camera, if an output is used by no node, or if no node
+    writes an output: results would have no meaning."""
     read, written = graph.reads | graph.aging, graph.writes
     if name_of(camera) not in read:
         raise ValueError(f"the frames of a stream go to {camera}, which no node of {graph} reads: "
@@ -233,8 +235,8 @@ _READ = "a stream reads images, distributions and extremes"
 
 
 class Source:
-    """A source of frames: says whether one has come, and returns it. `descriptor` becomes readable
-    when one comes, or at the end."""
+    """A source of frames: has_frame says whether one has come, and take() returns it. `descriptor`
+    becomes readable when a frame comes, or at the end."""
 
     descriptor = -1
     error: Optional[BaseException] = None
@@ -257,8 +259,8 @@ class Source:
         raise NotImplementedError
 
     def let_go(self, frame: Any) -> None:
-        """Notes that the result of a frame has come. Raises BadPicture if frames changed before
-        that."""
+        """Notes that the result of a frame has come. Raises BadPicture if the array of a frame was
+        overwritten before its result had come."""
 
     def close(self) -> None:
         """Stops taking frames."""
@@ -266,7 +268,7 @@ class Source:
 
 
 class Listed(Source):
-    """Frames that exist already."""
+    """Frames in a sequence."""
 
     def __init__(self, frames: Sequence[Any]) -> None:
         self._frames, self._at = frames, 0
@@ -288,7 +290,7 @@ class Listed(Source):
 
 
 class Taker(threading.Thread):
-    """The thread that runs an iterator. After `leave` it takes no more frames."""
+    """The thread that runs an iterator. After `leave` is called, it takes no more frames."""
 
     def __init__(self, take_all: Callable[[Iterator[Any]], None], frames: Iterator[Any],
                  leave: Callable[[], None]) -> None:
@@ -298,7 +300,8 @@ class Taker(threading.Thread):
 
 def leave_all() -> None:
     """
-    Ends all iterators that still run, after the frame that they were asked for, and waits for them.
+    Ends all iterators that still run, each after the frame that it was asked for, and waits for
+    them at most PATIENCE seconds.
 
     A program that ends while one of its threads is in C++, for example in OpenCV, is aborted:
     Python ends the thread by an exception there.
@@ -317,7 +320,7 @@ atexit.register(leave_all)
 class Prints:
     """
     The arrays of frames that have no result yet, by the address of their samples. A fingerprint of
-    some rows of each shows when an array is reused too early.
+    some rows of each array shows whether it was overwritten too early.
     """
 
     def __init__(self) -> None:
@@ -359,14 +362,14 @@ def print_of(pixels: Any) -> int:
 
 class Threaded(Source):
     """Frames that a thread takes from an iterator, one ahead, so that results can be yielded while
-    a camera is waited for. The thread must not use the contexts of the stream."""
+    the iterator waits for a camera. The thread must not use the contexts of the stream."""
 
     def __init__(self, frames: Iterable[Any], contexts: Sequence[Context]) -> None:
         self._contexts = contexts
         self._ready: Deque[Any] = deque()
         self._prints = Prints()
-        # An item for each frame that may be taken. An interruption within a semaphore, which is in
-        # Python, might leave that locked.
+        # An item for each frame that may be taken. A semaphore is written in Python, and an
+        # interruption within it might leave it locked.
         self._wanted: SimpleQueue[None] = SimpleQueue()
         self._wanted.put(None)
         self._lock = threading.Lock()
@@ -382,7 +385,7 @@ class Threaded(Source):
         try:
             self._take_each(frames)
         finally:
-            # Another thread may get the number.
+            # Another thread may get the same thread number.
             for context in self._contexts:
                 context.barred.discard(thread)
 

@@ -1,4 +1,4 @@
-"""Objects that represent something on a server, of which a copy in Python would not be one."""
+"""The base class of objects that represent something on a server, and so can't be copied."""
 
 from __future__ import annotations
 
@@ -7,12 +7,12 @@ from typing import Any, FrozenSet, List, NoReturn
 
 class Uncopied:
     """
-    Refuses copy.copy(), copy.deepcopy() and pickle: two Python objects would release one object of
-    the server, and in another process there is no connection to it.
+    Refuses copy.copy(), copy.deepcopy() and pickle: two Python objects would release the same
+    object of the server, and another process has no connection to that server.
     """
 
     __slots__ = ()
-    # The names that only this package uses, which completion leaves out.
+    # Names for use within this package, which completion leaves out.
     _inner: FrozenSet[str] = frozenset()
 
     def __dir__(self) -> List[str]:

@@ -1,5 +1,5 @@
-"""How much of its limits a context uses. The package counts it itself, because the server has no
-request for it."""
+"""The limits that a context has, and how much of them it uses. The package counts this itself,
+because the server has no request for it."""
 
 from __future__ import annotations
 
@@ -30,9 +30,9 @@ class Used:
 
     def __init__(self) -> None:
         self._sizes: Dict[int, int] = {}
-        # Those among them that were released: they are there as long as a graph uses them.
+        # The released objects among them. They exist as long as a graph uses them.
         self._released: Set[int] = set()
-        # How many of these there may be before it is seen which are gone.
+        # When there are more released objects, those that no graph uses are dropped.
         self._most_released = SPARE
         self.graphs: weakref.WeakSet[Graph] = weakref.WeakSet()
 
@@ -50,7 +50,7 @@ class Used:
         return Usage(len(self._sizes), MOST_OBJECTS, sum(self._sizes.values()), quota)
 
     def fault(self, size: int, quota: Optional[int]) -> str:
-        """Returns which limit one more object of this many bytes would exceed."""
+        """Returns in words which limit one more object of this many bytes would exceed."""
         used = self.usage(quota)
         if used.objects >= MOST_OBJECTS:
             return f"The context has {used.objects:,} objects, the most that are allowed."
@@ -59,7 +59,7 @@ class Used:
         return f"The object needs {size:,} bytes of the quota, and {of_quota}."
 
     def _drop(self) -> None:
-        """Drops the objects that were released and that no graph uses."""
+        """Drops the released objects that no graph uses."""
         in_graphs = {name for graph in self.graphs if not graph.closed for name in graph.uses}
         for name in self._released - in_graphs:
             self._sizes.pop(name, None)

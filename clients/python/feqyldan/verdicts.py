@@ -1,7 +1,7 @@
 """
 Finds the fault of a graph. The server only returns a status code for a graph that can't run. Here
-the fault is found again from the operands of the nodes, as docs/wire.md says under "Verdicts". If
-that gives another code, or none, nothing is reported.
+the fault is found again from the operands of the nodes, by the rules in docs/wire.md under
+"Verdicts". If these rules give another code, or none, nothing is reported.
 """
 
 from __future__ import annotations
@@ -14,7 +14,7 @@ from .objects import in_words
 from .samples import Format
 
 U8, S16, U32 = Format.U8, Format.S16, Format.U32
-# The formats of in1, of in2 and of an output; None for what has no format, or isn't there.
+# The formats of in1, of in2 and of an output; None for an operand that is absent or has no format.
 Formats = Tuple[Optional[Format], Optional[Format], Optional[Format]]
 _BITS: FrozenSet[Formats] = frozenset({(U8, U8, U8)})
 _ALIKE: FrozenSet[Formats] = frozenset({(U8, U8, U8), (S16, S16, S16)})
@@ -22,9 +22,9 @@ _SUMS: FrozenSet[Formats] = frozenset({(U8, U8, U8),
                                        *((one, other, S16) for one in (U8, S16)
                                          for other in (U8, S16))})
 _BYTES: FrozenSet[Formats] = frozenset({(U8, None, U8)})
-# Those that add to what their output holds.
+# The functions that add to their output.
 ADDING = frozenset({"accumulate", "accumulate_square"})
-# What each function takes together.
+# The combinations of formats that each function takes.
 TAKEN: Dict[str, FrozenSet[Formats]] = {
     **dict.fromkeys(("and_", "or_", "xor"), _BITS),
     **dict.fromkeys(("absdiff", "min", "max", "table_lookup"), _ALIKE),
@@ -38,9 +38,9 @@ TAKEN: Dict[str, FrozenSet[Formats]] = {
     "histogram": frozenset({(U8, None, None)}), "integral_image": frozenset({(U8, None, U32)}),
     "min_max_loc": frozenset({(U8, None, None), (S16, None, None)}),
 }
-# What in2 is where it is no image: it has the format of in1.
+# What in2 is, in words, for functions where it is no image. It has the format of in1.
 _PARAMETERS = {"threshold": "a threshold", "table_lookup": "a table"}
-# The format of a virtual output that leaves it open. Of the functions that aren't here it is in1's.
+# The format of a virtual output that leaves it open. For other functions it is the format of in1.
 OPENED = {
     **dict.fromkeys(("and_", "or_", "xor", "not_", "threshold", "box3x3", "gaussian3x3",
                      "median3x3", "erode3x3", "dilate3x3"), U8),
@@ -69,8 +69,8 @@ def _inputs_in_words(function: str, output: Optional[Format]) -> str:
 
 
 def parameter_for(function: str, fmt: Optional[Format], other: Optional[Format]) -> str:
-    """Returns how to create the threshold or the table for an input of a format, if the given one
-    has another format; else an empty text."""
+    """Returns in words how to create the threshold or the table for an input of the format `fmt`,
+    if the given one has another format; else an empty text."""
     if function not in _PARAMETERS or fmt == other or fmt not in (U8, S16):
         return ""
     makes = {"threshold": "threshold", "table_lookup": "lut"}[function]
@@ -80,7 +80,8 @@ def parameter_for(function: str, fmt: Optional[Format], other: Optional[Format])
 class Cell(NamedTuple):
     """
     An operand of a node: an object, or the image in a slot of a delay. Its reference identifies it.
-    The format and the size are None if it has none, or if a virtual image leaves them open.
+    The format and the size are None if the operand has none, or if a virtual image leaves them
+    open.
     """
 
     reference: bytes
@@ -93,7 +94,7 @@ class Cell(NamedTuple):
 
 
 class Member(NamedTuple):
-    """A node of a graph with its operands; None for an operand that it doesn't have."""
+    """A node of a graph with its operands; an operand that the function doesn't have is None."""
 
     number: int
     function: str
@@ -131,8 +132,8 @@ def _cell_of(operand: Any) -> Cell:
 
 
 def explained(code: int, members: Sequence[Member], work: Optional[int]) -> str:
-    """Returns the fault of a graph of these nodes, which the server refused with a code; empty if
-    it isn't known. The work bytes are None if they aren't known."""
+    """Returns in words the fault of a graph of these nodes, which the server refused with `code`;
+    empty if the fault isn't known. `work` is the limit in bytes, or None if it isn't known."""
     verdict = verdict_on(members, code, work)
     return verdict.fault if verdict is not None and verdict.code == code else ""
 
@@ -140,8 +141,8 @@ def explained(code: int, members: Sequence[Member], work: Optional[int]) -> str:
 def verdict_on(members: Sequence[Member], refused_with: int = wire.SUCCESS,
                work: Optional[int] = None) -> Optional[Verdict]:
     """
-    Returns the first fault of a graph, or None. Only the server knows whether a graph has too many
-    bytes, so that is a fault exactly if the server refused it with that code.
+    Returns the first fault of a graph, or None. Only the server knows whether a graph takes too
+    many bytes, so that fault is found only if the server refused the graph with its code.
     """
     fault = _two_writers(members)
     if fault:
@@ -166,12 +167,12 @@ def verdict_on(members: Sequence[Member], refused_with: int = wire.SUCCESS,
 
 
 def in_order(members: Sequence[Member]) -> List[Member]:
-    """Returns the nodes of a graph without faults, each after those whose outputs it reads."""
+    """Returns the nodes of a graph without faults, each after the nodes whose outputs it reads."""
     return _ordered(members)[0]
 
 
 def resolved(members: Sequence[Member]) -> Dict[bytes, Cell]:
-    """Returns the description of each operand of a graph without faults, with nothing open."""
+    """Returns the resolved description of each operand of a graph without faults, by reference."""
     return _descriptions(in_order(members))
 
 
@@ -188,8 +189,8 @@ def _two_writers(members: Sequence[Member]) -> str:
 
 
 def _ordered(members: Sequence[Member]) -> Tuple[List[Member], List[Member]]:
-    """Returns the nodes, each after those whose outputs it reads; or a cycle of nodes, if they have
-    one."""
+    """Returns the nodes, each after the nodes whose outputs it reads, and an empty list; or an
+    empty list and a cycle of nodes, if there is one."""
     writers = {cell.reference: member for member in members for cell in member.outputs}
     ordered: List[Member] = []
     done: Set[int] = set()
@@ -207,8 +208,7 @@ def _ordered(members: Sequence[Member]) -> Tuple[List[Member], List[Member]]:
 
 
 def _cycle_among(left: Sequence[Member], writers: Dict[bytes, Member]) -> List[Member]:
-    """Returns a cycle of nodes, each of which reads what another one writes, in the order of
-    writing."""
+    """Returns a cycle of nodes, each of which writes an object that the next one reads."""
     numbers = {member.number for member in left}
     path = [left[0]]
     while path[-1] not in path[:-1]:
@@ -219,8 +219,8 @@ def _cycle_among(left: Sequence[Member], writers: Dict[bytes, Member]) -> List[M
 
 
 def _loose_end(members: Sequence[Member]) -> str:
-    """Returns which virtual image is read but not written, or is added to, in words; empty if none
-    is."""
+    """Returns, in words, a virtual image that is read or added to but not written; empty if there
+    is none."""
     written = {cell.reference for member in members for cell in member.outputs}
     unwritten = (f"{cell.words} is read by {member}, and written by no node."
                  for member in members for cell in member.inputs
@@ -232,7 +232,7 @@ def _loose_end(members: Sequence[Member]) -> str:
 
 
 def _descriptions(ordered: Sequence[Member]) -> Dict[bytes, Cell]:
-    """Returns the description of each operand, with those of virtual images resolved from their
+    """Returns the description of each operand. Those of virtual images are resolved from their
     writers."""
     known: Dict[bytes, Cell] = {}
     for member in ordered:
@@ -245,7 +245,7 @@ def _descriptions(ordered: Sequence[Member]) -> Dict[bytes, Cell]:
 
 
 def _closed(cell: Cell, function: str, in1: Cell) -> Cell:
-    """Returns a virtual image that a function writes, with nothing open."""
+    """Returns the resolved description of a virtual image that a function writes."""
     opened = OPENED.get(function, in1.fmt)
     if function == "convert_depth":
         opened = U8 if in1.fmt == S16 else S16
@@ -255,7 +255,7 @@ def _closed(cell: Cell, function: str, in1: Cell) -> Cell:
 
 def _fault_of(member: Member, known: Dict[bytes, Cell],
               members: Sequence[Member]) -> Optional[Verdict]:
-    """Returns the fault of a node by itself."""
+    """Returns the fault of a single node, or None."""
     in1, *others = (known[cell.reference] for cell in (*member.inputs, *member.outputs))
     in2 = None if member.in2 is None else known[member.in2.reference]
     node = f"{str(member)[0].upper()}{str(member)[1:]}"
@@ -273,7 +273,7 @@ def _fault_of(member: Member, known: Dict[bytes, Cell],
 
 
 def _found(member: Member, known: Dict[bytes, Cell], members: Sequence[Member]) -> str:
-    """Returns how the virtual images of a node were resolved, and why, in words."""
+    """Returns in words how the virtual images of a node were resolved, and why."""
     writers = {cell.reference: other for other in members for cell in other.outputs}
     cells = {cell.reference: cell for cell in (*member.inputs, *member.outputs)
              if cell != known[cell.reference]}
@@ -281,8 +281,8 @@ def _found(member: Member, known: Dict[bytes, Cell], members: Sequence[Member]) 
 
 
 def _closing(cell: Cell, writer: Member, known: Dict[bytes, Cell]) -> str:
-    """Returns what a virtual image gets from its writer, and how to give it another format, if that
-    is possible."""
+    """Returns in words what a virtual image gets from its writer, and how to give it another
+    format, if that is possible."""
     now = known[cell.reference]
     resolved_as = in_words(now.fmt, now.width, now.height)
     words = (f" {cell.words[0].upper()}{cell.words[1:]} is {resolved_as}, because node "
@@ -297,8 +297,9 @@ def _closing(cell: Cell, writer: Member, known: Dict[bytes, Cell]) -> str:
 
 
 def overwritten(members: Sequence[Member]) -> List[str]:
-    """Returns where nodes write what nodes that were added earlier read, which then read the new
-    samples. Virtual images have no old samples."""
+    """Returns in words where a node writes an object that a node added earlier reads. The earlier
+    node then reads the new samples. Virtual images don't count, because they have no old
+    samples."""
     return [f"{reader}, reads {cell.words}, which {writer}, writes. The node that writes runs "
             "first, though it was added later. To read the old samples take two graphs, or "
             "immediate mode; verify(warn=False) is silent"

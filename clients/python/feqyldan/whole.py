@@ -1,5 +1,5 @@
-"""Checks whole numbers before they go into frames: other values are refused, and nothing is cut off
-silently."""
+"""Checks whole numbers before they go into frames: all other values are refused, and none is
+truncated silently."""
 
 from __future__ import annotations
 
@@ -18,7 +18,8 @@ BYTE, UNSIGNED, SIGNED = Field(0, 255), Field(0, 65535), Field(-32768, 32767)
 
 
 def whole(value: Any, what: str, allowed: str = "a whole number") -> int:
-    """Returns the number itself, if it is whole. Neither 0.5 nor 2.0 is a whole number here."""
+    """Returns a whole number as an int. Raises TypeError for anything else, even for 0.5 and
+    2.0."""
     try:
         return operator.index(value)
     except TypeError:
@@ -26,8 +27,8 @@ def whole(value: Any, what: str, allowed: str = "a whole number") -> int:
 
 
 def within(value: Any, what: str, field: Field, allowed: str) -> int:
-    """Returns a whole number, if the field can express it. Whether it is allowed is for the server
-    to check."""
+    """Returns a whole number that the field can express. Raises TypeError or ValueError for
+    anything else. The server checks whether the number is allowed."""
     number: int = value if value.__class__ is int else whole(value, what, allowed)
     if not field.least <= number <= field.greatest:
         raise ValueError(f"{what} must be {allowed}, not {number}")
@@ -35,7 +36,7 @@ def within(value: Any, what: str, field: Field, allowed: str) -> int:
 
 
 def first_not_whole(values: Iterable[Any]) -> Any:
-    """Returns the first value that isn't a whole number."""
+    """Returns the first value that isn't a whole number; None if all are."""
     for value in values:
         try:
             operator.index(value)

@@ -14,7 +14,7 @@ from enum import IntEnum
 from functools import lru_cache
 from typing import NamedTuple, Optional, Union
 
-# An image, or another object, by its name or by the bytes of `reference`.
+# An object, by its name or by the bytes that reference() returns.
 Reference = Union[int, bytes]
 
 
@@ -209,19 +209,19 @@ RANGE = Kind.RANGE
 CREATES = (
     CREATE_IMAGE, CREATE_LUT, CREATE_THRESHOLD, CREATE_CONVOLUTION, CREATE_DISTRIBUTION,
     CREATE_MIN_MAX, CREATE_GRAPH, CREATE_VIRTUAL_IMAGE, CREATE_DELAY)
-# How many bytes the reply to a success has after its code, but for what is read, of which its
-# object says that.
+# The bytes of the body of a successful reply, by op. It is 0 here for reads of samples, counts and
+# texts, whose length depends on the object that is read.
 BODY_BYTES: dict[int, int] = {
     **dict.fromkeys(Op, 0), **dict.fromkeys(CREATES, 4), ADD_NODE: 4, QUERY_IMAGE: 13,
     READ_MIN_MAX: 20}
 # A virtual image's format, width or height that isn't declared.
 OPEN = 0
-# The lengths that a request frame can have, which count what comes after them.
+# The least and the greatest length field of a request frame, which counts the bytes after itself.
 LEAST_LENGTH, GREATEST_LENGTH = 3, 536_870_912
 # The most columns of an image, and the most rows.
 GREATEST_SIDE = 8192
 SAMPLE_LETTERS = {U8: "B", S16: "h", U32: "I"}
-# How many frames of a kind are kept that programs send again and again.
+# The most frames of a kind that are cached, because programs send them again and again.
 KEPT = 256
 FORMAT_NAMES = {OPEN: "open", **{fmt: fmt.name for fmt in Format}}
 ABSENT = struct.pack(">IB", 0, 255)
@@ -243,7 +243,7 @@ def frame(client: int, op: int, body: bytes = b"") -> bytes:
 
 
 def frame_head(client: int, op: int, length: int) -> bytes:
-    """Returns the bytes before a request's body of this many bytes."""
+    """Returns the bytes of a request before its body of `length` bytes."""
     return struct.pack(">IHB", length + 3, client, op)
 
 
@@ -252,8 +252,8 @@ def reply_frame(client: int, op: int, code: int = Code.SUCCESS, body: bytes = b"
 
 
 def reference(name: int, slot: int = 255) -> bytes:
-    """Returns the reference to an object, or to a slot of a delay: k for slot -k, so that 0 is the
-    newest."""
+    """Returns the reference to an object, or to a slot of a delay. For slot -k, `slot` is k; 0 is
+    the newest."""
     return struct.pack(">IB", name, slot)
 
 
@@ -289,20 +289,21 @@ def write_image(
 
 @lru_cache(KEPT)
 def write_image_head(client: int, named: Reference, fmt: int, width: int, height: int) -> bytes:
-    """Returns the frame of WriteImage up to its samples, which follow: width times height of them,
-    row by row."""
+    """Returns the frame of WriteImage without its samples. The caller sends width times height of
+    them after it, row by row."""
     described = operand(named) + struct.pack(">BHH", fmt, width, height)
     length = len(described) + width * height * sample_bytes(fmt)
     return frame_head(client, WRITE_IMAGE, length) + described
 
 
 def write_image_pgm_head(client: int, named: Reference, length: int) -> bytes:
-    """Returns the frame of WriteImagePgm up to its text of this many bytes, which follows."""
+    """Returns the frame of WriteImagePgm without its text. The caller sends `length` bytes after
+    it."""
     return frame_head(client, WRITE_IMAGE_PGM, 5 + length) + operand(named)
 
 
 def write_image_pgm(client: int, named: Reference, text: bytes) -> bytes:
-    """Writes a PGM text, P5 or P2, whose picture has the image's format and size."""
+    """Returns the frame that writes a PGM text, P5 or P2, of the image's format and size."""
     return frame(client, WRITE_IMAGE_PGM, operand(named) + text)
 
 
@@ -312,13 +313,13 @@ def read_image(client: int, named: Reference) -> bytes:
 
 
 def read_image_pgm(client: int, named: Reference) -> bytes:
-    """Reads a U8 image as a PGM text."""
+    """Returns the frame that reads a U8 image as a PGM text."""
     return frame(client, READ_IMAGE_PGM, operand(named))
 
 
 def set_valid(client: int, named: Reference, rectangle: Sequence[int]) -> bytes:
-    """Sets the valid rectangle x0, y0, x1, y1: it includes its start and not its end. Four zeros
-    are the empty rectangle."""
+    """Returns the frame that sets the valid rectangle x0, y0, x1, y1, without column x1 and row y1.
+    Four zeros are the empty rectangle."""
     return frame(client, SET_VALID, operand(named) + struct.pack(">4H", *rectangle))
 
 
@@ -332,14 +333,15 @@ def create_lut(client: int, fmt: int, entries: Sequence[int]) -> bytes:
 
 
 def create_lut_of(client: int, fmt: int, entries: bytes) -> bytes:
-    """Creates a lookup table from the bytes of all entries, each big-endian."""
+    """Returns the frame that creates a lookup table from the bytes of all entries, each
+    big-endian."""
     return frame(client, CREATE_LUT, bytes([fmt]) + entries)
 
 
 def create_threshold(
         client: int, fmt: int, limits: Sequence[int], true_value: int = 255,
         false_value: int = 0) -> bytes:
-    """Creates a threshold: BINARY with one limit, RANGE with two."""
+    """Returns the frame that creates a threshold: BINARY with one limit, RANGE with two."""
     kind = RANGE if len(limits) == 2 else BINARY
     body = struct.pack(f">BB{len(limits)}hBB", kind, fmt, *limits, true_value, false_value)
     return frame(client, CREATE_THRESHOLD, body)
@@ -347,14 +349,15 @@ def create_threshold(
 
 def create_convolution(
         client: int, columns: int, rows: int, exponent: int, coefficients: Sequence[int]) -> bytes:
-    """Creates a convolution from its coefficients, row by row from the top. Sums are divided by 2
-    to the exponent."""
+    """Returns the frame that creates a convolution from its coefficients, row by row from the top.
+    Sums are divided by 2 to the exponent."""
     body = struct.pack(f">BBB{len(coefficients)}h", columns, rows, exponent, *coefficients)
     return frame(client, CREATE_CONVOLUTION, body)
 
 
 def create_distribution(client: int, bins: int, offset: int, range: int) -> bytes:
-    """Creates a distribution: this many bins for the samples from the offset on, over the range."""
+    """Returns the frame that creates a distribution of `bins` bins, which cover `range` samples
+    from the offset on."""
     return frame(client, CREATE_DISTRIBUTION, struct.pack(">HHH", bins, offset, range))
 
 
@@ -376,8 +379,8 @@ def create_graph(client: int) -> bytes:
 
 def create_virtual_image(
         client: int, graph: int, fmt: int = OPEN, width: int = OPEN, height: int = OPEN) -> bytes:
-    """Creates a virtual image of a graph. What is left open is resolved from the node that writes
-    the image."""
+    """Returns the frame that creates a virtual image of a graph. What is left open is resolved from
+    the node that writes the image."""
     return frame(client, CREATE_VIRTUAL_IMAGE, struct.pack(">IBHH", graph, fmt, width, height))
 
 
@@ -390,7 +393,7 @@ def age_delay(client: int, name: int) -> bytes:
 
 
 def register_auto_aging(client: int, graph: int, delay: int) -> bytes:
-    """Registers a delay: each successful run of the graph then ages it."""
+    """Returns the frame that registers a delay: each successful run of the graph then ages it."""
     return frame(client, REGISTER_AUTO_AGING, struct.pack(">II", graph, delay))
 
 
@@ -408,7 +411,7 @@ def immediate(
         client: int, function: int, in1: Optional[Reference], in2: Optional[Reference],
         out1: Optional[Reference], policy: int = WRAP, amount: int = 0, border: int = UNDEFINED,
         constant: int = 0, out2: Optional[Reference] = None) -> bytes:
-    """Runs one node by itself."""
+    """Returns the frame that runs one node by itself."""
     run = node(function, in1, in2, out1, policy, amount, border, constant, out2)
     return frame(client, IMMEDIATE, run)
 
@@ -417,13 +420,13 @@ def add_node(
         client: int, graph: int, function: int, in1: Optional[Reference], in2: Optional[Reference],
         out1: Optional[Reference], policy: int = WRAP, amount: int = 0, border: int = UNDEFINED,
         constant: int = 0, out2: Optional[Reference] = None) -> bytes:
-    """Adds a node to a graph."""
+    """Returns the frame that adds a node to a graph."""
     added = node(function, in1, in2, out1, policy, amount, border, constant, out2)
     return frame(client, ADD_NODE, struct.pack(">I", graph) + added)
 
 
 def remove_node(client: int, graph: int, number: int) -> bytes:
-    """Removes a node by the number that AddNode returned."""
+    """Returns the frame that removes a node, by the number that AddNode returned."""
     return frame(client, REMOVE_NODE, struct.pack(">II", graph, number))
 
 
@@ -433,7 +436,7 @@ def verify_graph(client: int, graph: int) -> bytes:
 
 @lru_cache(KEPT)
 def process_graph(client: int, graph: int) -> bytes:
-    """Verifies a graph, and runs all its nodes."""
+    """Returns the frame that verifies a graph, and runs all its nodes."""
     return frame(client, PROCESS_GRAPH, struct.pack(">I", graph))
 
 
@@ -442,8 +445,8 @@ def bitwise_not(client: int, source: Reference, target: Reference) -> bytes:
 
 
 def split(stream: bytes, head: int) -> list[bytes]:
-    """Returns the frames of a stream. `head` is the number of bytes before the body of a frame.
-    Raises ValueError if the stream has anything but whole frames."""
+    """Returns the frames of a stream. `head` is the number of bytes before a frame's body. Raises
+    ValueError if the stream has bytes that aren't part of a complete frame."""
     frames: list[bytes] = []
     at = 0
     while at < len(stream):
@@ -510,7 +513,7 @@ def counts_of(reply: bytes) -> tuple[int, ...]:
 
 class Extremes(NamedTuple):
     """The least and the greatest valid sample, how many pixels have each, and the x, y of the first
-    of each, row by row from the top."""
+    such pixel, row by row from the top."""
 
     min: int
     max: int
@@ -521,8 +524,8 @@ class Extremes(NamedTuple):
 
 
 def extremes_of(reply: bytes) -> Extremes:
-    """Returns the extremes that were read. All numbers are 0 if no pixel was valid, or nothing was
-    found yet."""
+    """Returns the extremes that were read. All numbers are 0 if no pixel was valid, or if
+    min_max_loc hasn't run yet."""
     least, greatest, least_count, greatest_count, *places = struct.unpack(">hhII4H", reply[8:])
     return Extremes(
         least, greatest, least_count, greatest_count, tuple(places[:2]), tuple(places[2:]))

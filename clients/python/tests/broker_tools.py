@@ -24,18 +24,18 @@ from plain_server import HOLD, WHO_ASKED  # noqa: E402
 
 PROGRAM = os.environ.get("FEQYLDAN_PROGRAM")
 PLAIN = [sys.executable, os.path.join(HERE, "plain_server.py"), "serve"]
-# Seconds after which what should have come has not, also where the machine is slow or busy.
+# Seconds after which a test gives up waiting, even on a slow or busy machine.
 LATE = 60.0
-# What all programs here call themselves, unless a test says otherwise.
+# The client number that programs send, unless a test says otherwise.
 CLIENT = 7
 
 
 class Program:
-    """A program's connection to the broker, which sends and reads whole frames."""
+    """A program's connection to the broker, which sends and reads complete frames."""
 
     def __init__(self, path: str) -> None:
         self.sock = socket.socket(socket.AF_UNIX, socket.SOCK_STREAM)
-        # With a time limit connect fails at once where many others are about to connect.
+        # With a timeout connect() would fail immediately while many others wait to connect.
         self.sock.connect(path)
         self.sock.settimeout(LATE)
 
@@ -62,7 +62,7 @@ class Program:
         return bytes(got)
 
     def reply(self) -> bytes:
-        """Reads the next reply, or nothing at the connection's end."""
+        """Reads the next reply; returns no bytes at the connection's end."""
         head = self.bytes(4)
         return head + self.bytes(int.from_bytes(head, "big"))
 
@@ -71,7 +71,8 @@ class Program:
         return self.reply()
 
     def ask_ahead(self, frames: List[bytes]) -> List[bytes]:
-        """Sends all frames as soon as possible, while it reads replies, and returns these."""
+        """Sends all frames as soon as possible, reads replies meanwhile, and returns the
+        replies."""
         waiting, got, replies = memoryview(b"".join(frames)), b"", []
         while len(replies) < len(frames):
             readable, writable, _ = select.select([self.sock], [self.sock] if waiting else [], [],
@@ -131,8 +132,8 @@ def all_of(sock: socket.socket) -> bytes:
 
 
 class Gate:
-    """A named pipe at which a server waits until it is released. So a test knows that the server
-    has a request, and decides when it ends."""
+    """A named pipe at which a server waits until the test releases it. So the test knows when the
+    server has a request, and decides when the request ends."""
 
     def __init__(self, folder: str) -> None:
         self.path = os.path.join(folder, "gate")
@@ -145,9 +146,9 @@ class Gate:
         return plain(HOLD, self.path.encode())
 
     def is_reached(self) -> bool:
-        """Returns whether a server comes to wait here. It waits until it is released."""
+        """Returns whether a server waits here. From then on it waits until let_go()."""
         if self.writer is None:
-            # Nobody reads from the pipe as long as this fails.
+            # Fails as long as nobody reads from the pipe.
             with contextlib.suppress(OSError):
                 self.writer = os.open(self.path, os.O_WRONLY | os.O_NONBLOCK)
         return self.writer is not None
@@ -158,7 +159,7 @@ class Gate:
             self.writer = None
 
 
-# Runs a module as a Linux before 6.16 has it, which can't refuse descriptors.
+# Runs a module as on a Linux before 6.16, where sockets can't refuse descriptors.
 WITHOUT_REFUSAL = """
 import runpy, sys
 from feqyldan.service import descriptors
@@ -204,12 +205,13 @@ class Broker:
         self.close()
 
     def words(self) -> str:
-        """Returns what it has written to standard error so far."""
+        """Returns what the broker has written to standard error so far."""
         with open(self.log.name) as log:
             return log.read()
 
     def wait_for(self, condition: Callable[[], bool]) -> bool:
-        """Returns whether something becomes true in time, while the broker runs or right after."""
+        """Returns whether the condition becomes true in time, while the broker runs or right
+        after."""
         end = time.monotonic() + LATE
         while time.monotonic() < end:
             if condition():
@@ -234,7 +236,7 @@ class Broker:
             return dict(json.loads(all_of(sock)))
 
     def has_passed_on(self, size: int) -> bool:
-        """Returns whether it comes to pass on this many bytes of requests to its servers."""
+        """Returns whether the broker passes this many bytes of requests to its servers in time."""
         return self.wait_for(lambda: int(self.state()["bytes_in"]) == size)
 
     def program(self) -> Program:
@@ -291,7 +293,7 @@ class BrokerTest(unittest.TestCase):
     kind: "type[Broker]" = Broker
 
     def begin(self, *options: str, **keywords: object) -> Broker:
-        """Starts a broker, and returns it once it listens."""
+        """Starts a broker, and returns it when it listens."""
         broker = self.begin_any(*options, **keywords)
         self.assertTrue(broker.listens(), broker.words())
         return broker
@@ -312,8 +314,8 @@ class BrokerTest(unittest.TestCase):
         return program
 
     def asked_of(self, broker: Broker, wanted: List[Tuple[int, int]]) -> bool:
-        """Returns whether the plain server comes to have received exactly these requests, apart
-        from those of this program."""
+        """Returns whether the plain server receives exactly these requests in time, apart from
+        those of this program."""
 
         def is_so() -> bool:
             with broker.program() as program:
@@ -325,7 +327,7 @@ class BrokerTest(unittest.TestCase):
 
 
 def passes_longest(path: str) -> bool:
-    """Returns whether the longest write, and the longest reply, pass a socket as they are."""
+    """Returns whether the longest write and the longest reply pass a socket unchanged."""
     samples = bytes(range(256)) * (8192 * 8192 * 4 // 256)
     with vx.connect(path) as server, server.context() as context:
         image = context.image(vx.U32, 8192, 8192)

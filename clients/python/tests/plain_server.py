@@ -1,6 +1,6 @@
 """
-A server for tests of the broker: it answers each frame SUCCESS, and records who asked what. Some
-ops do what a vision server never would.
+A server for tests of the broker and the door. It answers each frame SUCCESS, and records the client
+and the op. Some ops do what a vision server never would.
 
     plain_server.py serve
 """
@@ -9,9 +9,10 @@ import struct
 import sys
 import time
 
-# Waits u16 milliseconds; answers so many (u32) bytes; answers who asked what, u16 client and u8 op
-# each; ends with a status (u8); answers another client than the one that asked; waits until the
-# named pipe at a path has been written to its end; refuses with a code (u8).
+# Ops of this server. WAIT: waits u16 milliseconds. MANY_BYTES: answers u32 bytes. WHO_ASKED:
+# answers the client (u16) and the op (u8) of each frame. EXIT: ends with a status (u8). MISTAKE:
+# answers another client. HOLD: waits until the named pipe at a path was written to its end. REFUSE:
+# refuses with a code (u8).
 WAIT, MANY_BYTES, WHO_ASKED, EXIT, MISTAKE, HOLD, REFUSE = 100, 101, 102, 103, 104, 105, 106
 
 

@@ -17,13 +17,13 @@ import feqyldan as vx  # noqa: E402
 
 PROGRAM = os.environ.get("FEQYLDAN_PROGRAM")
 if PROGRAM:
-    # Some tests run it in folders of their own.
+    # A path that is valid in every folder, because some tests run the program elsewhere.
     PROGRAM = os.path.realpath(PROGRAM)
 needs_program = unittest.skipUnless(PROGRAM,
                                     "FEQYLDAN_PROGRAM isn't set to the path of the server's "
                                     "program")
-# A test that waits for ever ends the run, and says where it waited; in seconds, of which the whole
-# run takes some 170 where nothing else runs.
+# Ends the run, and says where it was, if a test waits forever. The limit is in seconds; the run
+# takes about 170 on an idle machine.
 faulthandler.dump_traceback_later(1800, exit=True)
 
 
@@ -32,14 +32,16 @@ INTERRUPT = "interrupt"
 
 def answering(*replies, end="", said="", status=0):
     """
-    Returns a server that reads a request for each of these replies, in bytes, and then ends. For a
-    number among them it sleeps for that many seconds. For INTERRUPT it interrupts its parent by
-    SIGALRM once the next request begins to come and its sender waits.
+    Returns a server that reads a request for each of these replies, in bytes, answers it, and ends
+    after the last one. In place of a reply, a number makes it sleep for that many seconds.
+    INTERRUPT makes it interrupt its parent by SIGALRM when the next request begins to come and the
+    sender waits.
     """
     script = (
         "import os, signal, sys, time\n"
         "source, target = sys.stdin.buffer, sys.stdout.buffer\n"
-        # Of its first thread. A signal that came just before it waits would end no wait.
+        # The state of the first thread. A signal just before the thread waits wouldn't end the
+        # wait.
         "def waits(process):\n"
         "    with open(f'/proc/{process}/stat') as file:\n"
         "        return file.read().rpartition(')')[2].split()[0] == 'S'\n"

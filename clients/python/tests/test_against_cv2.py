@@ -17,13 +17,14 @@ except ImportError:
     cv2 = np = None
 
 PAGE = os.path.join(HERE, "..", "..", "..", "docs", "from_opencv.md")
-# Height and width, from the least to some that no vector of samples divides.
+# Heights and widths, from the least to some that aren't multiples of a vector's length.
 SIZES = ((1, 1), (2, 3), (7, 1), (33, 17), (64, 96), (121, 250))
 OUTPUTS = {"out": vx.U8, "other": vx.U8, "third": vx.U8, "fourth": vx.U8,
            "wide": vx.S16, "across": vx.S16, "down": vx.S16, "zero": vx.S16, "sums": vx.U32}
 ROWS = [[1, -2, 3], [4, 5, -6], [-7, 8, 9]]
 
-# How far what is here may be below and above what is there.
+# An operation, its code on both sides, and how far this package's result may be below and above the
+# other's.
 Row = namedtuple("Row", "what here there less more")
 
 
@@ -33,8 +34,8 @@ def section(title):
 
 
 def rows_of(title):
-    """Returns the rows of a table; one cell says by how much the two sides differ if they aren't
-    equal."""
+    """Returns the rows of a table. The cell for differences says by how much the two sides differ,
+    if they do."""
     row = r"^\| ([^`|]*)\|? ?`([^`]+)` \| `([^`]+)` \|(.*)$"
     for cells in re.findall(row, section(title), re.M):
         what, here, there, result = cells
@@ -75,7 +76,8 @@ def shared(shape):
 
 
 def result_here(text, names):
-    """Returns the result of the last part, or else the samples of the output that it names last."""
+    """Evaluates code, and returns the value of its last part. If that is None, returns the samples
+    of the last output that it names."""
     *before, last = text.split("; ")
     for part in before:
         exec(part, names)
@@ -86,7 +88,7 @@ def result_here(text, names):
 
 
 def numbers(value):
-    """Returns numbers in one line, from an array, a number, or points among numbers."""
+    """Returns the numbers of a value in one dimension: of an array, a number, or points."""
     if isinstance(value, tuple):
         return np.concatenate([numbers(part) for part in value])
     return np.asarray(value, np.float64).ravel()

@@ -16,8 +16,7 @@ from feqyldan import wire
 from feqyldan.broker.incoming import TURN_BYTES
 from plain_server import HOLD, MANY_BYTES, WAIT, WHO_ASKED
 
-# An op of the vision server's that takes little, and one that may take long; the plain server knows
-# none of them.
+# A quick op of the vision server, and one that may take long. The plain server treats them alike.
 SHORT, LONG = wire.QUERY_IMAGE, wire.IMMEDIATE
 BAD_LENGTHS = (0, 1, 2, 536_870_913, 4_294_967_295)
 

@@ -27,8 +27,8 @@ from feqyldan.service import descriptors, listener
 from feqyldan.service.lines import Unusable
 from plain_server import HOLD, MANY_BYTES, WAIT
 
-# Seconds for which a descriptor keeps whoever closes it waiting, and within which others have their
-# answers all the same.
+# Seconds that closing a descriptor takes, and seconds within which other programs must have their
+# answers.
 LINGER, SOON = 60, 20.0
 SHORT = wire.QUERY_IMAGE
 
@@ -40,7 +40,7 @@ def refusing() -> bool:
 
 
 class Lingering:
-    """TCP sockets with unsent bytes: the last close waits as long as nobody reads them."""
+    """TCP sockets with unsent bytes: closing the last copy waits as long as nobody reads them."""
 
     def __init__(self, count: int) -> None:
         pairs = [self.pair() for _ in range(count)]
@@ -62,8 +62,8 @@ class Lingering:
         return sender, peer
 
     def send(self, sock: socket.socket, data: bytes) -> None:
-        """Sends the descriptors, so that the last copies are under way. Raises PermissionError if
-        they are refused."""
+        """Sends the descriptors, so that the last copies are in the message. Raises PermissionError
+        if they are refused."""
         numbers = array.array("i", [sender.fileno() for sender in self.senders])
         sock.sendmsg([data], [(socket.SOL_SOCKET, socket.SCM_RIGHTS, numbers)])
         for sender in self.senders:

@@ -105,8 +105,8 @@ def takes_no_replies(path: str, _: int, is_over: "multiprocessing.Event") -> Non
 
 
 def flood(program: Program, is_over: "multiprocessing.Event") -> float:
-    """Sends as fast as it can and takes its replies, until the time is over or the broker ends it.
-    Returns the longest time in which it took none."""
+    """Sends as fast as it can and takes its replies, until the time is over or the broker ends the
+    connection. Returns the longest time, in seconds, in which it took none."""
     waiting, longest, took_at = b"", 0.0, time.monotonic()
     while not is_over.is_set():
         waiting = waiting or wire.bitwise_not(CLIENT, 1, 1) * 1000
@@ -126,8 +126,8 @@ def flood(program: Program, is_over: "multiprocessing.Event") -> float:
 
 
 def floods(path: str, _: int, is_over: "multiprocessing.Event") -> None:
-    """Floods. Only the broker's patience ends it, when the machine left no time to take its
-    replies; then it connects again."""
+    """Floods until the time is over. If the machine left no time to take replies, the broker may
+    end the connection; then it connects again."""
     while not is_over.is_set():
         with Program(path) as program:
             program.send(wire.open_context(CLIENT))

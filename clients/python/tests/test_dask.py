@@ -34,7 +34,8 @@ def inverse(context, width, height):
 
 
 def held_inverse(path, context, width, height):
-    """The same, but the widest graphs are built only once a file exists at a path."""
+    """Returns the same as inverse(), but waits with the widest graphs until a file exists at a
+    path."""
     while width == WIDTH and not os.path.exists(path):
         time.sleep(0.01)
     return inverse(context, width, height)

@@ -1,4 +1,5 @@
-"""tools/check_documents finds definitions whose names say too little, or that lack a comment."""
+"""Tests that tools/check_documents finds definitions whose names say too little, or that lack a
+comment."""
 
 import unittest
 
@@ -7,7 +8,7 @@ from checks.documents import definitions
 
 
 def found(*names):
-    """The names with a fault, of definitions of one crate."""
+    """Returns the names with a fault among definitions of one crate."""
     return [name for _, name, _ in
             definitions.faults([("crates/a/specs/A.antt", name) for name in names])]
 

@@ -1,9 +1,10 @@
-"""tools/check_documents finds faults that are planted in the documents and in its list of names."""
+"""Tests that tools/check_documents finds faults that are planted in the documents and in its list
+of names."""
 
 import unittest
 
 from program import HERE  # noqa: F401  (has the tools on the path)
-from checks.documents import comments, links, names, prose, surface, tree
+from checks.documents import comments, links, merges, names, prose, surface, tree
 
 
 class TestNames(unittest.TestCase):
@@ -74,6 +75,15 @@ class TestLinks(unittest.TestCase):
     def test_a_link_that_leads_somewhere_is_not(self):
         self.assertEqual(self.broken("[a](../README.md#read-on) [b](#here) [c](http://x.example)\n"
                                      "\n## Here\n"), [])
+
+
+class TestMerges(unittest.TestCase):
+    def test_an_unfinished_merge_is_found(self):
+        text = f"a\n{'<' * 7} ours\nb\n{'=' * 7}\n{'>' * 7} theirs\n"
+        self.assertEqual(list(merges.marks(text)), [2, 5])
+
+    def test_a_quotation_is_not(self):
+        self.assertEqual(list(merges.marks("> a\n>> b\n======= \n")), [])
 
 
 class TestProse(unittest.TestCase):

@@ -1,5 +1,5 @@
-"""The programs in docs/python.md run, and do what the text says; its table of functions is right.
-Programs of other documents are in test_examples.py, test_against_cv2.py and
+"""Runs the programs in docs/python.md, which must do what the text says, and checks its table of
+functions. Programs of other documents are in test_examples.py, test_against_cv2.py and
 test_broker_programs.py."""
 
 import asyncio

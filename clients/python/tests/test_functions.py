@@ -12,13 +12,13 @@ from program import HERE, ProgramTest, vx
 from checks.model import functions as formulas
 
 WIDTH, HEIGHT = 9, 6
-# Where inputs are valid, and where outputs were.
+# The valid rectangles of inputs, and of outputs before the call.
 VALID, VALID_BEFORE = (1, 0, 8, 5), (0, 1, 7, 6)
 U8, S16, U32 = vx.U8, vx.S16, vx.U32
 IN1, IN2, OUT1, OUT2, POLICY, AMOUNT = range(6)
 
-# The order of parameters, as the OpenVX 1.3 specification has it in vxuAnd, vxuAdd and so on after
-# the context; the scale of vxuMultiply is the amount, and its rounding policy isn't there.
+# The order of parameters in the OpenVX 1.3 specification of vxuAnd, vxuAdd and so on, after the
+# context. The scale of vxuMultiply is the amount here, and there is no rounding policy.
 ONE, TWO, ARITHMETIC = (IN1, OUT1), (IN1, IN2, OUT1), (IN1, IN2, POLICY, OUT1)
 PARAMETERS = {
     "and_": TWO, "or_": TWO, "xor": TWO, "not_": ONE, "add": ARITHMETIC, "subtract": ARITHMETIC,
@@ -29,8 +29,7 @@ PARAMETERS = {
     "min_max_loc": ONE, "accumulate": ONE, "accumulate_square": (IN1, AMOUNT, OUT1),
 }
 
-# The formats of in1 and in2, or what makes another object of in2; those of the outputs, or what
-# makes their object.
+# A call: the formats of in1, in2 and the outputs, or functions that make other operands.
 Case = namedtuple("Case", "name in1 in2 out1 out2 policy amount border")
 
 

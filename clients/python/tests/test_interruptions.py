@@ -1,8 +1,8 @@
 """
-Interruptions at any moment, as by Ctrl-C: no byte is lost, so the context goes on, or ends
+Interruptions at any moment, as by Ctrl-C. No byte is lost, so the context goes on, or ends
 silently.
 
-feqyldan promises this for an exception from any signal handler. By hand:
+feqyldan promises this for an exception from any signal handler. To run it by hand:
 
     FEQYLDAN_PROGRAM=PROGRAM python3 clients/python/tests/test_interruptions.py 1000
 """
@@ -27,7 +27,7 @@ from test_processes import ProcessTest
 
 OPENED = wire.reply_frame(0, wire.OPEN_CONTEXT)
 SIZES = (16, 16), (640, 480), (1280, 720)
-# How often a test interrupts for each size; and after how many seconds at most.
+# Interruptions for each size, and the greatest number of seconds before one.
 TIMES, LATEST = 15, 0.004
 
 
@@ -130,8 +130,8 @@ class TestAtRandom(unittest.TestCase):
 
 
 class Everywhere:
-    """Raises KeyboardInterrupt before the n-th line of the package's connections that runs, or the
-    n-th event of other files."""
+    """Raises KeyboardInterrupt before the n-th line that runs in the package's connections, or
+    before the n-th event in other files."""
 
     def __init__(self, number, files=("connection.py", "pipeline.py"), events=("line",)):
         self.left, self.files, self.events = number, files, events
@@ -181,7 +181,7 @@ class TestEachLine(unittest.TestCase):
     """An exception before each line of a connection's code in turn."""
 
     def exchange(self, interrupted_at):
-        """Sends four requests of two lengths with different replies, over pipes that can have all
+        """Sends four requests of two lengths with different replies. The pipes can hold all
         requests and a part of the replies. Returns whether it was interrupted."""
         (theirs, writer), (reader, ours) = os.pipe(), os.pipe()
         enlarge(writer)
@@ -259,8 +259,8 @@ class TestEachLine(unittest.TestCase):
         return is_interrupted
 
     def place(self, interrupted_at):
-        """Reads into a place, and returns whether it was interrupted: then nothing more comes
-        there, and the next read is right."""
+        """Reads into a place, and returns whether the read was interrupted. After an interruption
+        nothing more comes there, and the next read is right."""
         (theirs, writer), (reader, ours) = os.pipe(), os.pipe()
         connection = Connection(writer, reader, lambda _: vx.ServerEnded("ended"), lambda: None)
         place = memoryview(bytearray(200_000))

@@ -21,7 +21,7 @@ def made(op):
 
 
 IMAGE, COUNTS = made(wire.CREATE_IMAGE), made(wire.CREATE_DISTRIBUTION)
-# By the op that is lied about: the replies before it, how long its body is, and what asks it.
+# By the op of the wrong reply: the replies before it, the length of a right body, and the call.
 ASKS = {
     wire.CREATE_IMAGE: ((), 4, lambda context: context.image(vx.U8, 3, 2)),
     wire.WRITE_IMAGE: ((IMAGE,), 0, lambda context: context.image(vx.U8, 3, 2).write(bytes(6))),

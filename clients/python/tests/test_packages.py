@@ -19,7 +19,7 @@ from test_packaging import files_of, missing
 ROOT = os.path.realpath(os.path.join(TOOLS, ".."))
 FIRST = os.path.join(ROOT, "examples", "first.py")
 MULTIARCH = "usr/lib/x86_64-linux-gnu"
-# What these tests need that not every machine has.
+# Needs of these tests that this machine lacks.
 ABSENT = [*missing("pip", "venv"),
           *(name for name in ("dpkg", "dpkg-deb") if shutil.which(name) is None),
           *(["FEQYLDAN_PROGRAM"] * (not PROGRAM))]
@@ -61,7 +61,7 @@ class TestStarter(unittest.TestCase):
         return path
 
     def started(self, *processors, starter=None, words=()):
-        """Returns which program is started on processors with these flags."""
+        """Returns which program the starter starts on processors with these flags."""
         self.put("cpuinfo", "".join(f"processor\t: 0\nflags\t\t: {' '.join(sorted(flags))}\n\n"
                                     for flags in processors))
         run = subprocess.run([starter or self.starter, *words], stdout=subprocess.PIPE, text=True,
@@ -137,7 +137,8 @@ class TestPackages(unittest.TestCase):
 
     @staticmethod
     def packages(folder):
-        """Returns the packages' paths. The program of these tests is used for both kinds."""
+        """Returns the packages' paths. The program of these tests is packed for both kinds of
+        processor."""
         run = subprocess.run([sys.executable, os.path.join(TOOLS, "package"), folder,
                               f"--default={PROGRAM}", f"--x86-64-v3={PROGRAM}"],
                              stdout=subprocess.PIPE, text=True, check=True)

@@ -15,7 +15,7 @@ PYTHON = os.path.realpath(os.path.join(HERE, ".."))
 
 
 def missing(*modules):
-    """Returns those that aren't installed."""
+    """Returns the modules that aren't installed."""
     return [name for name in modules if importlib.util.find_spec(name) is None]
 
 

@@ -1,4 +1,5 @@
-"""Requests that are sent ahead: much of them both ways, refusals, threads, and interruptions."""
+"""Requests that are sent ahead: many bytes in both directions, refusals, threads and
+interruptions."""
 
 import signal
 import struct

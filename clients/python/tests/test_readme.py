@@ -1,4 +1,4 @@
-"""Each command in README.md works, pasted in the order of the page."""
+"""Runs each command in README.md, in the order of the page."""
 
 import os
 import re
@@ -10,7 +10,7 @@ from documents import ROOT
 from program import PROGRAM, needs_program
 from test_pictures import decoded
 
-# What takes too long to be pasted here: the whole gate, of which this test is a part.
+# Takes too long here: tools/test runs all tests, this one among them.
 NOT_PASTED = ["tools/test"]
 
 

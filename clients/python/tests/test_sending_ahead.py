@@ -13,15 +13,15 @@ from program import PROGRAM, needs_program
 from feqyldan import wire
 
 CLIENT = 7
-# Seconds after which what should have come has not.
+# Seconds after which a test gives up waiting.
 LATE = 60.0
-# What may wait in the pipe of the replies, however long each of them is.
+# Bytes of replies that always fit in their pipe, however long each reply is.
 AHEAD = 32_768
 SIDE, COUNT = 200, 300
 READ = wire.read_image(CLIENT, 1)
-# What comes to a read: length, client, op and code; format, width and height; the samples.
+# Bytes of the reply to a read: length, client, op and code; format, width and height; samples.
 REPLY_BYTES = 8 + 5 + SIDE * SIDE
-# ReadImage's, of an image of 8192 by 8192 U32.
+# Bytes of the reply to ReadImage for U32 samples of 8192 by 8192.
 LONGEST_REPLY = 268_435_469
 
 
@@ -62,7 +62,7 @@ class TestSendingAhead(unittest.TestCase):
         return head + self.bytes(int.from_bytes(head, "big"))
 
     def is_whole(self, got: bytes) -> None:
-        """Returns whether these are the replies to all requests."""
+        """Checks that these bytes are the replies to all requests."""
         one = got[:REPLY_BYTES]
         self.assertEqual(int.from_bytes(one[:4], "big"), REPLY_BYTES - 4)
         self.assertEqual(one[4:8], bytes([0, CLIENT, wire.READ_IMAGE, wire.SUCCESS]))

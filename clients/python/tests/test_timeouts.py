@@ -16,7 +16,7 @@ OPENED = wire.reply_frame(0, wire.OPEN_CONTEXT)
 NAMED = wire.reply_frame(0, wire.CREATE_IMAGE, 0, b"\0\0\0\1")
 GRAPH = wire.reply_frame(0, wire.CREATE_GRAPH, 0, b"\0\0\0\2")
 RELEASED = wire.reply_frame(0, wire.RELEASE_CONTEXT)
-# In seconds: enough for a server to start in on a busy machine, and for one that is there already.
+# Seconds: enough to start a server on a busy machine, and enough for a reply of a running one.
 TIMEOUT, SHORT = 5.0, 1.0
 
 

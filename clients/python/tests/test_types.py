@@ -11,7 +11,7 @@ import unittest
 from documents import ROOT, programs_in
 from program import HERE
 
-# What the programs of the manual use that the text around them speaks of.
+# Definitions that the manual's programs need from the text around them.
 AROUND = """
 from __future__ import annotations
 import asyncio
@@ -25,7 +25,7 @@ def around(context: vx.Context, camera: vx.Image, out: vx.Image, graph: vx.Graph
            shown: list[object]) -> None:
     pass
 """
-# A program as those write that have NumPy, and what mypy says of its lines where it should.
+# A program with NumPy. Its comments have the errors that mypy must find.
 PROGRAM = """
 from __future__ import annotations
 import feqyldan as vx
@@ -134,7 +134,7 @@ class TestTypes(unittest.TestCase):
                                                                                       "    ")))
 
     def needed(self, heading):
-        """Returns the recipe that another one calls."""
+        """Returns the recipe of the manual that another recipe calls."""
         first = "Compare with a reference, and tolerate small shifts"
         return programs_in("docs", "python.md")[first][0] if heading == (
             "Several recipes in one station") else ""

@@ -17,7 +17,7 @@ from feqyldan.door import command_line as door
 
 DEPLOY = os.path.realpath(os.path.join(HERE, "..", "..", "..", "deploy"))
 SERVICES = {"feqyldan-door": door, "feqyldan-broker": broker}
-# What systemd-analyze finds at most that a service could do without, of 10.
+# The greatest exposure level, of 10, that systemd-analyze may report for a service.
 EXPOSURE = 2.0
 
 

@@ -172,7 +172,7 @@ class TestWords(ProgramTest):
 
 
 class Maker:
-    """Makes random graphs of few objects, so that nodes share them."""
+    """Makes random graphs with few objects, so that nodes share them."""
 
     def __init__(self, context, seed):
         self.noise, self.context, self.graph = random.Random(seed), context, context.graph()

@@ -1,4 +1,4 @@
-"""Numbers that aren't whole are refused wherever a number goes into a frame."""
+"""Tests that numbers that aren't whole are refused wherever a number goes into a frame."""
 
 import array
 import decimal
@@ -10,7 +10,7 @@ from feqyldan import samples
 
 U8, S16, U32 = vx.U8, vx.S16, vx.U32
 numpy = samples.numpy_module()
-# Among them some that are equal to a whole number.
+# Some are equal to a whole number.
 NOT_WHOLE = [0.5, 2.0, "2", None, fractions.Fraction(1, 2), decimal.Decimal(2), 1j]
 if numpy:
     NOT_WHOLE += [numpy.float32(0.5), numpy.float64(2), numpy.array([1, 2])]

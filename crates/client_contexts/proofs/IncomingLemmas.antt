@@ -9,7 +9,7 @@ use Rattle.vx_base.specs.declared.samples.Samples.{Samples}
 use Rattle.client_model.specs.Answer.{answer_to}
 use Rattle.client_model.specs.Operands.{image_of}
 use Rattle.client_contexts.specs.Applies.{Applies}
-use Rattle.client_contexts.specs.Incoming.{IsRead, SaysWhyUnwritten, IsRefusedFor, IsRefused}
+use Rattle.client_contexts.specs.Incoming.{IsRead, SaysWhyUnwritten, IsRefusedFor, IsRefused, WritesReadPicture}
 use Rattle.client_contexts.specs.World.{state_of}
 use Rattle.client_contexts.specs.declared.memory.NoMemory.{NoMemory}
 use Rattle.client_contexts.specs.declared.source.WriteFault.{WriteFault}

@@ -158,7 +158,7 @@ pub fn process_graph(
     requires context { KeepsLimits limits table.old }
     requires kept { AreKept table.old kept.old.entries }
     ensures comes { MayComeTo (process_graph limits table.old graph) table.old table.new result }
-    ensures limits { KeepsLimits limits table.new }
+    ensures within_limits { KeepsLimits limits table.new }
     ensures balances { Balances pool.old pool.new table.old.objects table.new.objects }
     ensures kept { AreKept table.new kept.new.entries }
     ensures found { OnOk result (kept_within graph kept.new.entries ≡ Some limits.work) }

@@ -113,9 +113,9 @@ used-with_object (o ∷ objects) cell object name more used =
 with_node_leaves : (limits : LimitsValue) (c : Context) (name : ℕ) (n : Node) (graph : GraphValue) → KeepsLimits limits c → IsNode n → OperandsStand c.objects name n
     → object_held c.objects name ≡ Some (GraphObject graph) → IsGraph graph → All (OperandsStand c.objects name) (nodes_of graph) → IsTrue (can_add graph)
     → Leaves limits (λ other. name == other) c (with_objects c (with_graph c.objects name (with_node graph n)))
-with_node_leaves limits c name n graph h node stand found is stood room =
+with_node_leaves limits c name n graph h node stand found is stood capacity =
     all_leaves limits c more h (graph_told limits c name graph new h found) (λ other. name == other)
-    (graph_are limits c name graph new h found (IsGraph-with_node graph n is room node))
+    (graph_are limits c name graph new h found (IsGraph-with_node graph n is capacity node))
     (all_stand limits c name graph new h found
     (All-map (OperandsStand c.objects name) (λ (k : Numbered). k.node) new.nodes
     (All-push (λ (k : Numbered). OperandsStand c.objects name k.node) graph.nodes added

@@ -26,8 +26,8 @@ new_context_keeps limits = grind arith
 -- ---- an object more
 
 -- the meaning of `has_capacity`: a name is left, fewer than 1,024 objects are held, and the quota allows the bytes
-has_room_means : (limits : LimitsValue) (c : Context) (bytes : ℕ) → IsTrue (has_capacity limits c bytes) → (c.next < 4294967296) × ((length c.objects < 1024) × (charge_of c.objects + bytes ≤ limits.quota))
-has_room_means limits c bytes h = grind (arith, and_parts (can_insert c) (nat_le (charge_of c.objects + bytes) limits.quota) h)
+capacity_parts : (limits : LimitsValue) (c : Context) (bytes : ℕ) → IsTrue (has_capacity limits c bytes) → (c.next < 4294967296) × ((length c.objects < 1024) × (charge_of c.objects + bytes ≤ limits.quota))
+capacity_parts limits c bytes h = grind (arith, and_parts (can_insert c) (nat_le (charge_of c.objects + bytes) limits.quota) h)
 
 -- an object that is held stays held with one more object
 held_more : (objects : List NamedObject) (new : NamedObject) (o : NamedObject) → IsTrue (is_held objects o) → IsTrue (is_held (objects ++ new ∷ []) o)
@@ -35,10 +35,10 @@ held_more objects new o h = grind (arith, or_cases o.live (is_used objects o.nam
 
 -- a new object within the limits keeps them; a new graph has no nodes
 pub with_new_keeps : (limits : LimitsValue) (c : Context) (object : ObjectValue) → KeepsLimits limits c → IsObject object → nodes_in object ≡ [] → IsTrue (has_capacity limits c (object_bytes object)) → KeepsLimits limits (with_new c object)
-with_new_keeps limits c object h is none room =
+with_new_keeps limits c object h is none capacity =
     let o : NamedObject = record { name = c.next; live = true; object = object } in
     let after : List NamedObject = c.objects ++ o ∷ [] in
-    let r = has_room_means limits c (object_bytes object) room in
+    let r = capacity_parts limits c (object_bytes object) capacity in
     record {
       objects = All-push (λ p. IsObject p.object) c.objects o h.objects is;
       names = increasing-push c.objects o h.below h.names;
@@ -184,9 +184,9 @@ module _ (limits : LimitsValue) (changes : ℕ → Bool) (c : Context) (h : Keep
 
   -- one more object
   pub with_new_leaves : (object : ObjectValue) → IsObject object → nodes_in object ≡ [] → IsTrue (has_capacity limits c (object_bytes object)) → Leaves limits changes c (with_new c object)
-  with_new_leaves object is none room =
+  with_new_leaves object is none capacity =
       record {
-        keeps = with_new_keeps limits c object h is none room;
+        keeps = with_new_keeps limits c object h is none capacity;
         next = omega arith;
         skeletons = λ name known. as_before skeleton name known;
         nodes = λ name known kept. as_before nodes_in name known;

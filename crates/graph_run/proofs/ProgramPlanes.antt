@@ -3,7 +3,7 @@ use Rattle.std.proofs.Common.{◌≡◌, ◌≢◌, ℕ, ◌+◌, ◌-◌, ◌<�
 use Rattle.std.proofs.lemmas.List.{get_or-append_right, get_or-map, length-append, length-map}
 use Rattle.std.proofs.lemmas.Option.{get_or_from_slice_get, slice_get_within}
 use Rattle.std.proofs.Math.ListN.{get_or-append, get_or-map as get_or-map_default}
-use Rattle.graph_run.proofs.Common.{cases_lt, Kind, Node, Reference, Output, Description, description_of, IsNode, optional_cells, outputs, operands, parameters, second_kind, ObjectValue, IsObject, ImageObject, object_kind, operand_of, is_virtual, Operand, Missing, Image, NamedObject, object_at, held_is, image_held, HoldsImage, VirtualOutput, Verified, IsReady, IsPlan, PlanView, place_of, operand_held, partial_descs, resolved_operand, In, In-at, In-left, CanRun, runs_alone, second_object}
+use Rattle.graph_run.proofs.Common.{cases_lt, Kind, Node, Reference, Output, Description, description_of, IsNode, optional_cells, outputs, operands, parameters, second_kind, ObjectValue, IsObject, ImageObject, object_kind, operand_of, is_virtual, Operand, Missing, Image, NamedObject, object_at, held_is, image_held, HoldsImage, VirtualOutput, Verified, IsReady, IsPlan, PlanView, place_of, operand_held, partial_descs, resolved_operand, In, In-at, In-left, CanRun, runs_alone}
 use Rattle.vx_base.specs.declared.kind.Kind.TheVariants as kind
 use Rattle.vx_base.specs.Node.{with_kind}
 use Rattle.node_rows.specs.Radius.{matrix_in}

@@ -1,5 +1,5 @@
 -- Blocks that planes of virtual images have, and that they leave to their slots.
-use Rattle.std.proofs.Common.{Bool, true, false, zero, suc, eqb-true, eq-eqb, ◌≡◌, ◌≢◌, ℕ, ◌+◌, ◌-◌, ◌≤◌, ◌<◌, ◌==◌, List, [], ◌∷◌, ◌++◌, length, drop, map, take, get_or, slice_set, refl, sym, ap, ◌∙◌, arith, if◌then◌else◌, is_none, not, Option, Some, None}
+use Rattle.std.proofs.Common.{Bool, true, false, zero, suc, eqb-true, eq-eqb, ◌≡◌, ◌≢◌, ℕ, ◌+◌, ◌≤◌, ◌<◌, ◌==◌, List, [], ◌∷◌, ◌++◌, length, drop, map, take, get_or, slice_set, refl, sym, ap, ◌∙◌, arith, if◌then◌else◌, is_none, not, Option, Some, None}
 use Rattle.std.proofs.lemmas.List.{map-set, ext_get_or, get_or_default, get_or-map, get_or-set_other, get_or-set_same, length-map, take_more}
 use Rattle.std.proofs.lemmas.List.FromFn.{map-range_with_len_more}
 use Rattle.graph_run.proofs.Common.{list_any, range_with_len, map-append, nat_tests, Format, U8, Samples, samples_format, values, VirtualOutput}

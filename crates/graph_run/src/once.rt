@@ -5,14 +5,12 @@ ghost use Rattle.std.specs.Option.{option_map};
 ghost use Rattle.vx_base.specs.declared.kind.Kind.TheVariants as kind;
 ghost use Rattle.vx_base.specs.declared.output.Output.{Output as OutputValue};
 ghost use Rattle.vx_base.specs.Function.{parameters};
-ghost use Rattle.vx_base.specs.Object.{ImageObject, IsObject};
-ghost use Rattle.vx_base.specs.Outputs.{second_or_output, node_image, written_by};
+ghost use Rattle.vx_base.specs.Object.{IsObject};
+ghost use Rattle.vx_base.specs.Outputs.{written_by};
 ghost use Rattle.image_core.specs.Second.{second_object};
 ghost use Rattle.object_table.specs.Context.{with_objects};
 ghost use Rattle.object_table.specs.NamedObject.{object_at, with_written};
-ghost use Rattle.object_table.specs.Table.{cell_object, image_held};
-ghost use Rattle.graph_steps.specs.Planes.{block_image, IsWhole};
-ghost use Rattle.graph_steps.specs.Steps.{CanMake, lent_step};
+ghost use Rattle.object_table.specs.Table.{cell_object};
 ghost use Rattle.graph_run.specs.Lasting.{Lasts};
 ghost use Rattle.graph_run.specs.Steps.{HasInputs, RunsTo, with_output_object};
 ghost use Rattle.graph_run.specs.Turns.{CanRunNow};
@@ -20,8 +18,8 @@ ghost use Rattle.graph_run.specs.Turns.{CanRunNow};
 use crate::bind::{put_image, take_image};
 use crate::tables::table_of;
 use crate::tallies::{set_tally, tally_for};
-use graph_steps::{Kernel, Plane, Step};
-use image_core::SecondInput;
+use graph_steps::{Kernel, Step};
+use image_core::{Band, SecondInput};
 use object_table::Table;
 use vx_base::{Kind, Node, ObjRef, Output};
 
@@ -52,7 +50,8 @@ fn run_to(table: &mut Table, node: &Node, which: Output, output: Option<ObjRef>)
     }
 }
 
-/// Writes an output image. While the node runs, the image's samples are in a plane.
+/// Writes an output image. While the node runs, the image's samples are in a plane, and the inputs
+/// are in the table.
 fn write_to(table: &mut Table, node: &Node, which: Output, output: ObjRef)
     requires runs { RunsTo table.old.objects node.now output }
     requires kind { (parameters node.now.function).output ≡ kind.Image }
@@ -60,23 +59,6 @@ fn write_to(table: &mut Table, node: &Node, which: Output, output: ObjRef)
         (with_output_object table.old.objects node.now which (Some output)) }
 {
     let mut plane = take_image(table, output);
-    write_plane(table, node, which, &mut plane);
-    put_image(table, output, &mut plane);
-}
-
-/// Writes a node's image to a plane. The inputs are read in the table.
-fn write_plane(table: &Table, node: &Node, which: Output, output: &mut Plane)
-    requires reads { HasInputs table.now.objects node.now }
-    requires whole { IsWhole output.old }
-    requires can { CanMake (lent_step node.now which) (image_held table.now.objects node.now.in1)
-        (option_map (cell_object table.now.objects) node.now.in2) output.old.desc }
-    ensures image { block_image output.new ≡ node_image node.now which output.old.desc.format
-        (image_held table.now.objects node.now.in1)
-        (second_or_output node.now (option_map (cell_object table.now.objects) node.now.in2)
-        (ImageObject (block_image output.old))) }
-    ensures desc { output.new.desc ≡ output.old.desc }
-    ensures format { output.new.format ≡ output.old.format }
-{
     let step = Step::of_lent(*node, which);
     let first = table.image(node.in1).image();
     let second = second_of(table, node);
@@ -85,7 +67,9 @@ fn write_plane(table: &Table, node: &Node, which: Output, output: &mut Plane)
         first: &first,
         second: &second,
     };
-    output.write_all(&kernel);
+    let rows = Band::whole(plane.desc());
+    plane.write(&kernel, rows);
+    put_image(table, output, &mut plane);
 }
 
 /// Returns a node's second input, as its kernel reads it.

@@ -1,12 +1,12 @@
 -- A kernel writes the step's image.
-use Rattle.std.proofs.Common.{◌≡◌, ℕ, ℤ, ◌*◌, ◌+◌, ◌-◌, ◌<◌, zero, suc, true, List, length, map, take, drop, Option, Some, None, IfSome, refl, ap, ◌∙◌, sym, arith, cond, ◌==◌, eqb-true, add-zero}
+use Rattle.std.proofs.Common.{◌≡◌, ℕ, ℤ, ◌*◌, ◌+◌, ◌-◌, ◌<◌, zero, suc, true, List, length, map, take, drop, Option, Some, None, IfSome, refl, ap, ◌∙◌, sym, arith, cond, ◌==◌, eqb-true, add-zero, subst}
 use borrow.Rule.Slice.PartMut.{put_mid}
 use Rattle.std.proofs.lemmas.Bool.{and_parts}
 use Rattle.std.proofs.lemmas.Bool.Decides.{nat_tests}
 use Rattle.vx_base.specs.declared.format.Format.{Format}
-use Rattle.vx_base.specs.declared.format.Format.TheVariants.{U8, S16, U32}
+use Rattle.vx_base.specs.declared.format.Format.TheVariants.{U8, U32}
 use Rattle.vx_base.specs.declared.function.Function.{Function}
-use Rattle.vx_base.specs.declared.function.Function.TheVariants.{Integral, Sobel}
+use Rattle.vx_base.specs.declared.function.Function.TheVariants.{Integral}
 use Rattle.vx_base.specs.declared.node.Node.{Node}
 use Rattle.vx_base.specs.declared.output.Output.{Output}
 use Rattle.vx_base.specs.Description.{Description, same_size}
@@ -15,14 +15,13 @@ use Rattle.vx_base.specs.Formats.{takes_formats}
 use Rattle.vx_base.specs.Function.{parameters, accumulates}
 use Rattle.vx_base.specs.Image.{ImageValue, description_of, image_over, band, pixel_at}
 use Rattle.vx_base.specs.Object.{ObjectValue, ImageObject, object_kind}
-use Rattle.vx_base.specs.Outputs.{image_of_one, node_image}
-use Rattle.vx_base.specs.Pixelwise.{from_two, formula_of_two}
-use Rattle.vx_base.specs.Window.{from_nine, formula_of_nine}
+use Rattle.vx_base.specs.Outputs.{node_image, second_or_output}
 use Rattle.vx_base.proofs.TableLaws.{band-same, length-table}
 use Rattle.vx_base.proofs.ImageLaws.{samples_are_band}
 use Rattle.image_core.specs.declared.band.Band.{Band}
 use Rattle.image_core.specs.declared.image_mut.ImageMut.{ImageMut}
-use Rattle.image_core.specs.Bands.{IsInRows, has_row, image_over_rows, rows_in}
+use Rattle.image_core.specs.declared.second.SecondInput.{SecondInput}
+use Rattle.image_core.specs.Bands.{IsInRows, all_rows, has_row, image_over_rows, rows_in}
 use Rattle.image_core.specs.Rows.{sample_at}
 use Rattle.image_core.specs.Second.{second_object}
 use Rattle.image_core.specs.Target.{target_image, IsTarget, Writes}
@@ -31,39 +30,35 @@ use Rattle.image_core.proofs.HeldRows.{at_held}
 use Rattle.node_rows.proofs.RowLaws.{node_description}
 use Rattle.graph_steps.specs.declared.step.Step.{Step}
 use Rattle.graph_steps.specs.declared.kernel.Kernel.{Kernel}
-use Rattle.graph_steps.specs.Planes.{PlaneValue, rows_of_block, written_among}
+use Rattle.graph_steps.specs.Planes.{IsWhole, PlaneValue, TakesRows, block_image, plane_image, rows_of_block, with_read_rows, with_rows, written_among}
 use Rattle.graph_steps.specs.Steps.{CanMake, image_from_inputs, is_integral, kernel_image, held_image, scan_image}
-use Rattle.graph_steps.proofs.PlaneLaws.{lent_rows, rows_among}
+use Rattle.graph_steps.proofs.PlaneLaws.{all_read, lent_rows, rows_among, written_whole}
 
 -- ---- by the function
 
--- from two images
-pub two_written : (n : Node) (function : Function) (format : Format) (a b : ImageValue) (old new : ImageMut) → n.function ≡ function → old.desc.format ≡ format
-    → Writes (from_two format (formula_of_two function format n.policy n.amount) a b) old new → Writes (from_two old.desc.format (formula_of_two n.function old.desc.format n.policy n.amount) a b) old new
-two_written n function format a b old new is known =
-    written_same (from_two old.desc.format (formula_of_two n.function old.desc.format n.policy n.amount) a b) (from_two format (formula_of_two function format n.policy n.amount) a b) old new
-    (ap (λ (f : Function). from_two old.desc.format (formula_of_two f old.desc.format n.policy n.amount) a b) is ∙ ap (λ (f : Format). from_two f (formula_of_two function f n.policy n.amount) a b) known)
+-- the image of a node if its function is this one
+abbrev pub function_image : Function → Node → Output → Format → ImageValue → Option ObjectValue → ImageValue → ImageValue
+function_image function n which format first second own =
+    let node : Node = record n { function = function } in
+    node_image node which format first (second_or_output node second (ImageObject own))
 
--- a gradient
-pub gradient_written : (n : Node) (which output : Output) (a : ImageValue) (old new : ImageMut) → n.function ≡ Sobel → which ≡ output → old.desc.format ≡ S16
-    → Writes (from_nine S16 (formula_of_nine Sobel output) n.border a) old new → Writes (image_of_one n.function n which old.desc.format a) old new
-gradient_written n which output a old new is which_is known =
-    written_same (image_of_one n.function n which old.desc.format a) (from_nine S16 (formula_of_nine Sobel output) n.border a) old new
-    (ap (λ (f : Function). image_of_one f n which old.desc.format a) is
-    ∙ ap (λ (o : Output). from_nine old.desc.format (formula_of_nine Sobel o) n.border a) which_is
-    ∙ ap (λ (f : Format). from_nine f (formula_of_nine Sobel output) n.border a) known)
+-- a kernel's result, once its function, output, second input and output format are known
+pub written_by_function : (k : Kernel) (function : Function) (which : Output) (second : SecondInput) (format : Format) (old new : ImageMut)
+    → k.step.now.node.function ≡ function → k.step.now.which ≡ which → k.second.now ≡ second → old.desc.format ≡ format
+    → Writes (function_image function k.step.now.node which format k.first.now (second_object second) (held_image old)) old new
+    → Writes (kernel_image k (held_image old)) old new
+written_by_function k function which second format old new function_is which_is second_is known =
+    written_same (kernel_image k own) (image function which second format) old new
+    (ap (λ (f : Function). image f k.step.now.which k.second.now own.format) function_is
+    ∙ ap (λ (o : Output). image function o k.second.now own.format) which_is
+    ∙ ap (λ (s : SecondInput). image function which s own.format) second_is
+    ∙ ap (λ (f : Format). image function which second f) known)
+  where
+    own : ImageValue
+    own = held_image old
 
--- ---- functions that accumulate
-
-pub accumulate_format : (function : Function) (a : Format) (second : Option Format) (out : Format) → accumulates function ≡ true → takes_formats function a second (Some out) ≡ true → out ≡ S16
-accumulate_format other a second out h t = grind arith
-
--- the step's image is the output with the function's result added
-pub sum_written : (s : Step) (first : ImageValue) (second : Option ObjectValue) (own : ImageValue) (old new : ImageMut) → accumulates s.node.function ≡ true
-    → Writes (node_image s.node s.which own.format first (Some (ImageObject own))) old new → Writes (image_from_inputs s first second own) old new
-sum_written s first second own old new sums is =
-    written_same (image_from_inputs s first second own) (node_image s.node s.which own.format first (Some (ImageObject own))) old new
-    (ap (λ b. node_image s.node s.which own.format first (cond b (Some (ImageObject own)) second)) sums) is
+    image : Function → Output → SecondInput → Format → ImageValue
+    image f o s out = function_image f k.step.now.node o out k.first.now (second_object s) own
 
 -- ---- integral images
 
@@ -174,3 +169,42 @@ sized_image s first second own = sized (cond (accumulates s.node.function) (Some
   where
     sized : (elsewhere : Option ObjectValue) → length (node_image s.node s.which own.format first elsewhere).samples ≡ first.height * first.width
     sized z = grind (arith, length-table)
+
+-- ---- a plane that holds the whole image
+
+-- all its rows can be written
+pub whole_takes : (p : PlaneValue) (rows : Band) → IsWhole p → rows ≡ all_rows p.desc.height → TakesRows rows p
+whole_takes p rows w is = subst (λ (r : Band). TakesRows r p) (sym is) (record {
+  format = w.format;
+  within = omega arith;
+  valid = w.valid;
+  top = (let t = w.top in omega arith);
+  room =
+      (let t = w.top in
+      let n : 0 - p.top + p.desc.height ≡ p.desc.height = omega arith in
+      let m : (0 - p.top + p.desc.height) * p.desc.width ≡ p.desc.height * p.desc.width = ap (λ k. k * p.desc.width) n in
+      let s = w.size in
+      omega arith);
+})
+
+-- and then it holds the step's image
+module _ (s : Step) (first : ImageValue) (second : Option ObjectValue) (p : PlaneValue) (whole : IsWhole p) (can : CanMake s first second p.desc) where
+  abbrev made : ImageValue
+  made = image_from_inputs s first second (block_image p)
+
+  made_size : length made.samples ≡ made.height * made.width
+  made_size =
+      let sides = same_sides p.desc (description_of first) can.size in
+      sized_image s first second (block_image p)
+      ∙ ap (λ n. n * first.width) (sym sides.1) ∙ ap (λ n. p.desc.height * n) (sym sides.0)
+      ∙ ap (λ (d : Description). d.height * d.width) (sym (made_description s first second p.desc (block_image p) can refl))
+
+  all_own : plane_image (with_read_rows (all_rows p.desc.height) p) ≡ block_image p
+  all_own = all_read (with_read_rows (all_rows p.desc.height) p) (record { format = whole.format; top = whole.top; size = whole.size; valid = whole.valid }) refl
+
+  pub all_written : (new : PlaneValue) (rows : Band) → rows ≡ all_rows p.desc.height → new ≡ with_rows rows (image_from_inputs s first second (plane_image (with_read_rows rows p))) p → block_image new ≡ made
+  all_written new rows is written =
+      ap block_image written
+      ∙ ap (λ (r : Band). block_image (with_rows r (image_from_inputs s first second (plane_image (with_read_rows r p))) p)) is
+      ∙ ap (λ (own : ImageValue). block_image (with_rows (all_rows p.desc.height) (image_from_inputs s first second own) p)) all_own
+      ∙ written_whole p made (sym (made_description s first second p.desc (block_image p) can refl)) whole made_size

@@ -3,7 +3,7 @@ use Rattle.std.proofs.Common.{◌≡◌, ◌≢◌, ℕ, ◌+◌, ◌-◌, ◌*�
 use Rattle.std.specs.Prelude.{◌⊎◌}
 use Rattle.std.specs.Option.{option_and_then}
 use Rattle.std.proofs.lemmas.Bool.{cases_Bool, eqb-true, eqb-false}
-use Rattle.std.proofs.lemmas.List.{get_or-set_same, get_or-set_other, length-set, map-set, set-get_or, get_or_default}
+use Rattle.std.proofs.lemmas.List.{get_or-set_same, get_or-set_other, length-set, map-set, set-get_or, set-set, get_or_default}
 use Rattle.std.proofs.Math.ListN.{get_or-map}
 use Rattle.vx_base.specs.declared.format.Format.{Format}
 use Rattle.vx_base.specs.declared.node.Node.{Node}
@@ -160,6 +160,17 @@ module _ (tables : ℕ → Option ObjectValue) (s : Step) (rows : Band) (out : P
       ap (λ i. cond (is_integral s.node.function) (scan_image rows.start i out) (step_image tables s a own_rows)) (same s.first (inl refl))
       ∙ ap (cond (is_integral s.node.function) (scan_image rows.start (b s.first) out)) (step_image_same tables s a b same own_rows)
 
+  pub by_scan : (images : ℕ → ImageValue) (first : ImageValue) → is_integral s.node.function ≡ true → first ≡ images s.first → scan_image rows.start first out ≡ rows_image tables s rows images out
+  by_scan images first scans is =
+      ap (λ i. scan_image rows.start i out) is ∙ ap (λ b. cond b (scan_image rows.start (images s.first) out) (step_image tables s images own_rows)) (sym scans)
+
+  pub by_kernel : (images : ℕ → ImageValue) (first : ImageValue) (second : Option ObjectValue) → is_integral s.node.function ≡ false → first ≡ images s.first → second ≡ second_in tables images s.second
+      → image_from_inputs s first second own_rows ≡ rows_image tables s rows images out
+  by_kernel images first second other is second_is =
+      ap (λ i. image_from_inputs s i second own_rows) is
+      ∙ ap (λ o. image_from_inputs s (images s.first) o own_rows) second_is
+      ∙ ap (λ b. cond b (scan_image rows.start (images s.first) out) (step_image tables s images own_rows)) (sym other)
+
   pub rows_description : (images : ℕ → ImageValue) → CanMake s (images s.first) (second_in tables images s.second) out.desc → description_of (rows_image tables s rows images out) ≡ out.desc
   rows_description images can =
       let of : Bool → Description = λ b. description_of (cond b (scan_image rows.start (images s.first) out) (step_image tables s images own_rows)) in
@@ -193,13 +204,7 @@ pub table_lent : (tables : ℕ → Option ObjectValue) (images : ℕ → ImageVa
     → second_object t ≡ second_in tables images source
 table_lent tables images source k t is there = there ∙ ap (second_in tables images) (sym is)
 
--- a step's rows and premise, by inputs that are read
-pub rows_read : (s : Step) (a b : ImageValue) (o q : Option ObjectValue) (rows : Band) (out : PlaneValue) → a ≡ b → o ≡ q
-    → with_rows rows (image_from_inputs s a o (plane_image (with_read_rows rows out))) out ≡ with_rows rows (image_from_inputs s b q (plane_image (with_read_rows rows out))) out
-rows_read s a b o q rows out first second =
-    ap (λ i. with_rows rows (image_from_inputs s i o (plane_image (with_read_rows rows out))) out) first
-    ∙ ap (λ k. with_rows rows (image_from_inputs s b k (plane_image (with_read_rows rows out))) out) second
-
+-- a step's premise, by inputs that are read
 pub can_read : (s : Step) (a b : ImageValue) (o q : Option ObjectValue) (out : Description) → a ≡ b → o ≡ q → CanMake s b q out → CanMake s a o out
 can_read s a b o q out first second can = subst (λ k. CanMake s a k out) (sym second) (subst (λ i. CanMake s i q out) (sym first) can)
 
@@ -326,18 +331,6 @@ module _ (tables : ℕ → Option ObjectValue) (high : ℕ) (s : Step) (rows : B
     | inr (t, some) ↦ subst (λ o. IsReady s rows planes (with_output_block o s.output rows.start planes)) (sym some) (taken_ready t some)
   ]
 
--- a step can write its output after it is taken out of the planes
-pub can_write_apart : (tables : ℕ → Option ObjectValue) (s : Step) (rows : Band) (planes left : List PlaneValue) (out own : PlaneValue) → length left ≡ length planes → ((c : ℕ) → ReadsPlane s c → plane left c ≡ plane planes c) → own ≡ out
-    → CanWrite tables s rows planes out → CanWrite tables s rows left own
-can_write_apart tables s rows planes left out own count same took can =
-    let first : read_images left s.first ≡ read_images planes s.first = ap plane_image (same s.first (inl refl)) in
-    let second = second_same tables s.second (read_images left) (read_images planes) (λ c e. ap plane_image (same c (inr e))) in
-    subst (CanWrite tables s rows left) (sym took) (record {
-      reads = (λ c reads. let r = can.reads c reads in (subst (λ n. c < n) (sym count) r.0, subst IsReadable (sym (same c reads)) r.1));
-      makes = can_read s _ _ _ _ out.desc first second can.makes;
-      output = can.output;
-    })
-
 -- ---- after the step
 
 module _ (tables : ℕ → Option ObjectValue) (high : ℕ) (s : Step) (rows : Band) (planes : List PlaneValue) (fits : CanStep tables high s rows planes) where
@@ -361,18 +354,47 @@ module _ (tables : ℕ → Option ObjectValue) (high : ℕ) (s : Step) (rows : B
   image_same = rows_image_same tables s rows out (read_images before) (read_images planes) (λ c reads. ap plane_image (input_same c reads))
 
   -- the step's inputs and output fit its function on the planes before, too
-  pub can_before : CanMake s (read_images before s.first) (second_in tables (read_images before) s.second) out.desc
+  can_before : CanMake s (read_images before s.first) (second_in tables (read_images before) s.second) out.desc
   can_before =
       can_make tables (plane planes (second_plane s.second)).desc (read_images before) s high (plane planes s.first).desc out.desc (read_images before s.first)
       (subst (Suits tables high s (plane planes s.first).desc (plane planes (second_plane s.second)).desc) (sym (is.desc s.output)) fits.suits) (is.desc s.first) (is.desc (second_plane s.second))
 
-  -- so it can write its output
-  pub can_write : CanWrite tables s rows before out
-  can_write = record {
-    reads = (λ c reads. let r = fits.reads c reads in let k = is.count in (omega arith, subst IsReadable (sym (input_same c reads)) r.3));
-    makes = can_before;
-    output = is.output;
-  }
+  -- so it can write its output, once that is taken out of the planes; then the output is put back
+  module _ (ready : List PlaneValue) (same : ready ≡ before) (p rest took : PlaneValue) (took_is : took ≡ get_or ready s.output p) where
+    abbrev others : List PlaneValue
+    others = set ready s.output rest
+
+    count : length ready ≡ length planes
+    count = ap length same ∙ is.count
+
+    took_out : took ≡ out
+    took_out = took_is ∙ get_or_default ready s.output p no_plane (let o = fits.output in let k = count in omega arith) ∙ ap (λ l. plane l s.output) same
+
+    unread : (c : ℕ) → ReadsPlane s c → plane others c ≡ plane before c
+    unread c reads = get_or-set_other ready s.output c rest no_plane (fits.reads c reads).1 ∙ ap (λ l. plane l c) same
+
+    image_unread : (c : ℕ) → ReadsPlane s c → read_images others c ≡ read_images before c
+    image_unread c reads = ap plane_image (unread c reads)
+
+    pub can_write : CanWrite tables s rows others took
+    can_write =
+        subst (CanWrite tables s rows others) (sym took_out) (record {
+          reads = (λ c reads.
+              let r = fits.reads c reads in
+              let k = length-set ready s.output rest ∙ count in
+              (omega arith, subst IsReadable (sym (unread c reads ∙ input_same c reads)) r.3));
+          makes = can_read s _ _ _ _ out.desc (image_unread s.first (inl refl)) (second_same tables s.second (read_images others) (read_images before) (λ c e. image_unread c (inr e))) can_before;
+          output = is.output;
+        })
+
+    pub after_is : (new : PlaneValue) → new ≡ with_rows rows (rows_image tables s rows (read_images others) took) took → set others s.output new ≡ after
+    after_is new written =
+        set-set ready s.output rest new
+        ∙ ap (λ l. set l s.output new) same
+        ∙ ap (set before s.output)
+        (written
+        ∙ ap (λ q. with_rows rows (rows_image tables s rows (read_images others) q) q) took_out
+        ∙ ap (λ i. with_rows rows i out) (rows_image_same tables s rows out (read_images others) (read_images before) image_unread))
 
   can_after : CanMake s (read_images planes s.first) (second_in tables (read_images planes) s.second) out.desc
   can_after =

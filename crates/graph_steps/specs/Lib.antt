@@ -1,5 +1,4 @@
 pub mod Planes
-pub mod Kernels
 pub mod Steps
 pub mod Program
 pub mod Runs

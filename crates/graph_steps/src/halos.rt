@@ -28,10 +28,8 @@ fn raise_inputs(step: &Step, high: u16, halos: &mut [u16])
 {
     let rows = halos[step.output].saturating_add(step.radius).min(high);
     raise(halos, step.first, rows);
-    match step.second {
-        SecondSource::Plane(second) => raise(halos, second, rows),
-        SecondSource::Nothing => {}
-        SecondSource::Table(_) => {}
+    if let SecondSource::Plane(second) = step.second {
+        raise(halos, second, rows);
     }
 }
 

@@ -43,7 +43,7 @@ mod tally;
 
 pub use bands::run;
 pub use halos::find_halos;
-pub use kernel::{Kernel, run_node};
+pub use kernel::Kernel;
 pub use one_step::run_step;
 pub use plane::Plane;
 pub use step::{Reduction, SecondSource, Step, Task, step_radius};

@@ -7,7 +7,7 @@ ghost use Rattle.image_core.specs.Bands.{IsInRows};
 ghost use Rattle.image_core.specs.Second.{second_object};
 ghost use Rattle.graph_steps.specs.Planes.{plane_image, with_read_rows, with_rows, whole_plane};
 ghost use Rattle.graph_steps.specs.Planes.{virtual_plane, with_block, without_block, with_halo};
-ghost use Rattle.graph_steps.specs.Planes.{block_image, IsReadable, IsWhole};
+ghost use Rattle.graph_steps.specs.Planes.{IsReadable};
 ghost use Rattle.graph_steps.specs.Steps.{CanMake, kernel_image, scan_image};
 
 use crate::kernel::Kernel;
@@ -172,18 +172,6 @@ impl Plane {
                 write_rows(desc, top, rows, valid, samples.as_mut_slice(), kernel)
             }
         };
-    }
-
-    /// Writes all rows of a kernel's image to a plane that holds the whole image.
-    pub fn write_all(&mut self, kernel: &Kernel<'_, '_, '_>)
-        requires whole { IsWhole self.old }
-        requires can { CanMake kernel.now.step.now kernel.now.first.now
-            (second_object kernel.now.second.now) self.old.desc }
-        ensures image { block_image self.new ≡ kernel_image kernel.now (block_image self.old) }
-        ensures desc { self.new.desc ≡ self.old.desc }
-        ensures format { self.new.format ≡ self.old.format }
-    {
-        self.write(kernel, Band::whole(self.desc));
     }
 
     /// Writes these rows of an integral image, and its valid rectangle. The first row continues

@@ -12,7 +12,7 @@ use crate::graphs::{is_graph, not};
 use crate::tables::hold;
 use buffer_plan::Plan;
 use graph_run::{operand_in, operand_of, run, run_once, verify_in};
-use graph_steps::run_node;
+use graph_steps::{Kernel, Step};
 use graph_verify::{Graph, Operand};
 use image_core::{ImageMut, SecondInput};
 use object_table::{Content, Delay, Object, Stored, Table};
@@ -59,15 +59,15 @@ fn not_of(alloc: Global, samples: [u8; 2]) -> Result<[u8; 2], Fail> {
     let node = not(1, 2)?.node();
     let desc = Desc::new(2, 1, Format::U8).ok_or("within the limits")?;
     let input = image(alloc, &mut Pool::new(alloc), samples)?;
+    let (step, first) = (Step::of_lent(node, Output::First), input.image());
+    let kernel = Kernel {
+        step: &step,
+        first: &first,
+        second: &SecondInput::Nothing,
+    };
     let mut written = [77; 2];
     let mut output = ImageMut::new(desc, &mut written);
-    run_node(
-        &node,
-        Output::First,
-        &input.image(),
-        &SecondInput::Nothing,
-        &mut output,
-    );
+    kernel.run(&mut output);
     Ok(written)
 }
 

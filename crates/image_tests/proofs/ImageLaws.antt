@@ -1,13 +1,13 @@
 -- Images of bytes.
-use Rattle.std.proofs.Common.{◌≡◌, ℕ, ℤ, pos, ◌+◌, ◌*◌, zero, suc, List, [], ◌∷◌, map, get_or, arith, true, ap, ◌∙◌, subst, All}
-use Rattle.std.proofs.lemmas.List.Elements.{All-tail}
+use Rattle.std.proofs.Common.{◌≡◌, ℕ, ℤ, pos, ◌+◌, ◌*◌, ◌<◌, List, map, get_or, arith, true, ap, sym, ◌∙◌, subst}
+use Rattle.std.proofs.lemmas.Int.{ints}
+use Rattle.std.proofs.Math.ListN.{get_or-map}
 use Rattle.vx_base.specs.declared.format.Format.TheVariants.{U8}
 use Rattle.vx_base.specs.Sample.{IsSample}
 use Rattle.vx_base.specs.Rectangle.{Rectangle, has_pixel, IsCanonical, IsWithin}
 use Rattle.vx_base.specs.Description.{Description, IsDescription}
 use Rattle.vx_base.specs.Image.{ImageValue, IsImage, zero_outside, pixel_at, image_from, image_over}
 use Rattle.vx_base.proofs.ImageLaws.{at-made, made_image, column_inside, row_inside}
-use Rattle.vx_base.proofs.ResultLaws.{zero_sample}
 use Rattle.vx_base.proofs.TableLaws.{length-table}
 use Rattle.image_core.specs.declared.band.Band.{Band}
 use Rattle.image_core.specs.declared.image_mut.ImageMut.{ImageMut}
@@ -20,23 +20,20 @@ use Rattle.image_core.proofs.BandLaws.{all_rows_are}
 image_by : (a b : ImageValue) → a ≡ b → IsImage b → IsImage a
 image_by a b same h = rw same h
 
--- each item of a list of samples, and 0 past its end, is a sample
-sample_at : (samples : List ℤ) (k : ℕ) → All (IsSample U8) samples → IsSample U8 (get_or samples k (pos 0))
-sample_at [] k h = zero_sample U8
-sample_at (s ∷ samples) zero h = h 0 s (omega arith)
-sample_at (s ∷ samples) (suc k) h = sample_at samples k (All-tail (IsSample U8) s samples h)
-
 -- bytes that are what an image is made of are an image
 pub bytes_image : (d : Description) (valid : Rectangle) (bytes : List ℕ) (f : ℕ → ℕ → ℤ) → image_over d valid (map pos bytes) ≡ image_from d.width d.height U8 valid f
-    → IsDescription d → IsCanonical valid → IsWithin valid d.width d.height → All (IsSample U8) (map pos bytes) → IsImage (image_over d valid (map pos bytes))
+    → IsDescription d → IsCanonical valid → IsWithin valid d.width d.height → ((k : ℕ) → get_or bytes k 0 < 256) → IsImage (image_over d valid (map pos bytes))
 bytes_image d valid bytes f same sides canonical room fits = image_by _ _ same (made_image d.width d.height U8 valid f sides.width sides.height canonical room sampled)
   where
     sampled : (x y : ℕ) → has_pixel valid x y ≡ true → IsSample U8 (f x y)
     sampled x y e =
+        let here : pixel_at (image_over d valid (map pos bytes)) x y ≡ pos (get_or bytes (y * d.width + x) 0) = get_or-map pos bytes (y * d.width + x) 0 in
         let there : pixel_at (image_over d valid (map pos bytes)) x y ≡ f x y =
         ap (λ a. pixel_at a x y) same
         ∙ at-made d.width d.height U8 valid f x y (column_inside valid d.width d.height x y room e) (row_inside valid d.width d.height x y room e) e in
-        subst (λ z. IsSample U8 z) there (sample_at (map pos bytes) (y * d.width + x) fits)
+        let P : ℤ → Type 0 = λ z. IsSample U8 z in
+        let fit = fits (y * d.width + x) in
+        subst P (sym here ∙ there) (record { at_least = omega (arith, ints); at_most = omega (arith, ints, fit) })
 
 -- all rows of an image, once what is outside a rectangle is cleared
 pub cleared : (valid : Rectangle) (lent old new : ImageMut) → lent.rows ≡ all_rows lent.desc.height → target_image old ≡ image_over lent.desc valid (target_image lent).samples → old.rows ≡ lent.rows

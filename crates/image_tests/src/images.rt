@@ -1,6 +1,6 @@
 //! Images that are only partly valid: clearing outside the valid rectangle, and functions of two
 //! such images.
-ghost use Rattle.std.specs.Prelude.{◌≡◌, map, pos, length};
+ghost use Rattle.std.specs.Prelude.{◌≡◌, ◌<◌, ℕ, map, pos, length, get_or};
 ghost use Rattle.vx_base.specs.declared.format.Format.TheVariants.{U8};
 ghost use Rattle.vx_base.specs.Description.{sample_count};
 ghost use Rattle.vx_base.specs.Rectangle.{IsWithin};
@@ -12,7 +12,7 @@ ghost use Rattle.image_core.specs.Target.{target_image, IsTarget, SameSlices};
 use image_core::{Image, ImageMut};
 use pixel_kernels::{bit_and, bit_xor};
 use std::test::Fail;
-use vx_base::{Desc, Format, Rect, prove_bytes};
+use vx_base::{Desc, Format, Rect};
 
 /// Sets the samples outside the rectangle to 0.
 fn clear(desc: Desc, valid: Rect, samples: &mut [u8])
@@ -40,6 +40,11 @@ fn clear_to(image: &mut ImageMut<'_>, valid: Rect)
     image.set_valid(valid);
     image.clear_outside();
 }
+
+/// States for the prover that each sample is a byte.
+fn prove_bytes(samples: &[u8])
+    ensures { (k : ℕ) → get_or samples.now k 0 < 256 }
+{}
 
 /// Returns the image of these samples, after setting the samples outside the valid rectangle to 0.
 pub fn lend(desc: Desc, valid: Rect, samples: &mut [u8]) -> Image<'_>

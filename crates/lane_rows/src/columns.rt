@@ -1,8 +1,8 @@
 //! Kernels of three rows for the separable windows of gradients: first down the columns of three
 //! rows of bytes, then across three columns.
 //!
-//! They are plain loops, which the compiler vectorizes for the processor. Blocks of 32 numbers of 16
-//! bits in `std::simd` take 1.1 to 1.2 times as long on processors with registers of 16 bytes.
+//! They are plain loops, which the compiler vectorizes for the processor. Blocks of 32 numbers of
+//! 16 bits in `std::simd` take 1.1 to 1.2 times as long on processors with registers of 16 bytes.
 ghost use Rattle.std.specs.Prelude.{◌≡◌, ◌≤◌, ◌+ℤ◌, ◌-ℤ◌, ◌*ℤ◌, ℤ, pos, map, length, unsigned_abs};
 ghost use Rattle.vx_base.specs.Image.{run};
 ghost use Rattle.lane_rows.specs.Threes.{AreTaken, number_at};

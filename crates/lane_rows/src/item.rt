@@ -59,6 +59,7 @@ impl Short for i16 {
 }
 
 /// Returns the 32 bytes of a block.
+#[inline(always)]
 pub fn bytes_of(block: &[u8]) -> u8x32
     requires { length block.now ≡ 32 }
     ensures { result ≡ block.now }

@@ -1,13 +1,12 @@
 -- The names that several proofs cite, passed on from one place. Declares nothing.
 pub use Rattle.graph_verify.proofs.VerifyLemmas.{sum_map}
-pub use Rattle.image_core.specs.Rows.{sample_from}
 pub use Rattle.object_table.specs.Ageing.{aged_under, is_there, aged_if, one_more}
 pub use Rattle.object_table.specs.Blocks.{Balances, LendsAtLeast, blocks_in, delay_blocks, image_blocks, object_blocks, KeepsBlocks}
 pub use Rattle.object_table.specs.Context.{Context, charge_of, object_named, with_objects, can_insert, with_new, with_graph}
 pub use Rattle.object_table.specs.Delay.{HasImage, in_slot, new_delay, object_in, with_slot, slot_kind}
 pub use Rattle.object_table.specs.Holds.{still_held, without_name, uses, is_used}
 pub use Rattle.object_table.specs.NamedObject.{NamedObject, object_held, with_object, object_at}
-pub use Rattle.object_table.specs.Object.{aged_object, graph_value, image_value, with_samples, with_counts, distribution_value}
+pub use Rattle.object_table.specs.Object.{aged_object, graph_value, image_value, with_samples, with_counts}
 pub use Rattle.object_table.specs.Skeleton.{image_skeleton, skeleton}
 pub use Rattle.object_table.specs.Table.{IsTable, IsUnder, entries_without_name, graph_under, is_kept, kept_entries, entry_object, nodes_at, used_less, used_more, object_under, cell_object, image_held, HoldsImage}
 pub use Rattle.object_table.specs.Uses.{names_used, names_used_by, nodes_in, name_count, used_names}
@@ -34,11 +33,11 @@ pub use Rattle.std.specs.Option.{option_map, option_and_then}
 pub use Rattle.std.specs.Ordering.{nat_cmp}
 pub use Rattle.std.specs.Vec.Iter.{into_iter_items, into_iter_len}
 pub use Rattle.vx_base.proofs.ImageLaws.{new_image_is}
-pub use Rattle.vx_base.specs.Rectangle.{Rectangle, whole_rectangle, IsWithin}
+pub use Rattle.vx_base.specs.Rectangle.{Rectangle, whole_rectangle}
 pub use Rattle.vx_base.specs.Reference.{Reference, reference_to}
 pub use Rattle.vx_base.specs.Description.{Description, IsDescription, byte_count, sample_count}
-pub use Rattle.vx_base.specs.Graph.{GraphValue, can_add, with_delays, with_node, without_node, IsGraph, nodes_of, is_registered, has_node}
-pub use Rattle.vx_base.specs.Image.{ImageValue, IsImage, band, description_of, image_over, new_image, with_valid, zero_outside}
+pub use Rattle.vx_base.specs.Graph.{GraphValue, can_add, with_delays, with_node, without_node, IsGraph, nodes_of, is_registered}
+pub use Rattle.vx_base.specs.Image.{ImageValue, IsImage, description_of, image_over, new_image, with_valid}
 pub use Rattle.vx_base.specs.Node.{optional_cells, operands}
 pub use Rattle.vx_base.specs.Object.{DelayObject, GraphObject, ImageObject, IsDelay, IsObject, ObjectValue, image_bytes, object_bytes, object_kind, ExtremesObject}
 pub use Rattle.vx_base.specs.Picture.{values, picture_image}

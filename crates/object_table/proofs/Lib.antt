@@ -1,5 +1,4 @@
 mod Common
-mod StoredLemmas
 pub mod DelayLemmas
 pub mod SlotLemmas
 pub mod SkeletonLaws

@@ -1,5 +1,6 @@
 //! Objects by name, with their charge.
 #![tactic(auto, using(crate::proofs::EntryLemmas::entry_steps))]
+
 ghost use Rattle.std.specs.Prelude.{◌≡◌, ◌*◌, ◌≤◌, IsTrue, IsSome, is_none, Some, None, []};
 ghost use Rattle.std.specs.Prelude.{if◌then◌else◌, length, map, IfOk, IfErr, OnOk, OnErr};
 ghost use Rattle.std.specs.Option.{option_map};

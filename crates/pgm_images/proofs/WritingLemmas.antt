@@ -12,8 +12,8 @@ pub row_more : (image : ImageValue) (y : ℕ) → IsImage image → y < image.he
 row_more image y is below =
     let w = image.width in
     let next : (y + 1) * w ≡ y * w + w = omega arith in
-    let room : y * w + w ≤ length image.samples = omega (arith, row_fits w image.height y below, is.size) in
-    ap (λ n. take n image.samples) next ∙ take-add (y * w) w image.samples ∙ ap (λ l. take (y * w) image.samples ++ l) (part_is_run image.samples (y * w) w room)
+    let fits : y * w + w ≤ length image.samples = omega (arith, row_fits w image.height y below, is.size) in
+    ap (λ n. take n image.samples) next ∙ take-add (y * w) w image.samples ∙ ap (λ l. take (y * w) image.samples ++ l) (part_is_run image.samples (y * w) w fits)
 
 -- one more row was written
 pub rows_more : (image : ImageValue) (y : ℕ) (head text row new : List ℕ) → IsImage image → y < image.height → map pos row ≡ row_of image y → new ≡ text ++ row

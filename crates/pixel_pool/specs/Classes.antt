@@ -15,14 +15,13 @@ class_capacity (suc class) = class_capacity class + class_step class
 abbrev pub class_count : ℕ
 class_count = 193
 
--- the class of a block with this capacity: the greatest class whose capacity isn't above it
+-- the class of a block with this capacity: the greatest class whose own capacity isn't above it
 pub record IsClassOf (capacity class : ℕ) : Type 0 where
   pub class_known : class < class_count
   pub within : class_capacity class ≤ capacity
   pub greatest : (other : ℕ) → other < class_count → class_capacity other ≤ capacity → other ≤ class
 
--- the capacity `capacity` is at least that of a class that fits `count` samples, if there is such a
--- class
+-- the capacity is at least that of a class that fits `count` samples, if there is such a class
 abbrev pub FitsIn : ℕ → ℕ → Type 0
 FitsIn count capacity =
     count ≤ class_capacity 192 → (class : ℕ) × (class < class_count) × (count ≤ class_capacity class) × (class_capacity class ≤ capacity)

@@ -75,7 +75,7 @@ fn is_refused(
 }
 
 #[test]
-fn what_is_released_is_no_longer_charged(rt: HostRuntime) -> Result<(), Fail> {
+fn what_is_released_leaves_room(rt: HostRuntime) -> Result<(), Fail> {
     let alloc = rt.alloc();
     let limits = Limits::new(8, 1).ok_or("within the limits")?;
     let desc = Desc::new(2, 2, Format::U8).ok_or("within the limits")?;

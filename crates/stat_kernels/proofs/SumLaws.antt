@@ -1,14 +1,14 @@
 -- Rows of an integral image in memory.
-use Rattle.std.proofs.Common.{true, false, ◌%◌, ◌≡◌, inl, inr, ℕ, ℤ, pos, zero, suc, ◌+◌, ◌-◌, ◌*◌, ◌<◌, ◌≤◌, List, [], ◌∷◌, ◌++◌, length, map, take, drop, get_or, replicate, Option, Some, None, ap, ◌∙◌, sym, refl, arith, add-one, unwrap_or, option_map, Bool, if◌then◌else◌, ◌==◌, Bor, option_copied, subst, unsigned_abs, ext_get_or, get_or-drop, get_or-take}
+use Rattle.std.proofs.Common.{true, false, ◌%◌, ◌≡◌, ℕ, ℤ, pos, zero, suc, ◌+◌, ◌-◌, ◌*◌, ◌<◌, ◌≤◌, List, [], ◌∷◌, ◌++◌, length, map, take, drop, get_or, replicate, Option, Some, None, ap, ◌∙◌, sym, refl, arith, unwrap_or, option_map, Bool, if◌then◌else◌, ◌==◌, Bor, option_copied, subst, unsigned_abs, ext_get_or, get_or-drop, get_or-take}
 use Rattle.std.proofs.Math.ListN.{get_or-map}
 use Rattle.std.proofs.Math.Seq.{take-append_seam, take-append-add}
 use Rattle.std.specs.Option.{option_or}
-use Rattle.stat_kernels.proofs.Common.{Band, cases_Bool, sum, sum_by, sum_by-cons, nat_tests, take-map, get_or-map-range_with_len, get_or-replicate, length-map, map-append, map-replicate, take-map-range_with_len, ImageValue, IsImage, pixel_at, band, run, zero_outside, sum_to, band-more, get_or-run, run-same, Part, IsValidPart, sum_below, sums_below, sums_row, last_row}
+use Rattle.stat_kernels.proofs.Common.{Band, cases_Bool, sum, sum_by, sum_by-cons, nat_tests, take-map, get_or-map-range_with_len, get_or-replicate, length-map, map-append, map-replicate, take-map-range_with_len, ImageValue, IsImage, pixel_at, band, run, zero_outside, band-more, get_or-run, run-same, Part, IsValidPart, sum_below, sums_below, last_row}
 use Rattle.vx_base.specs.Rectangle.{has_pixel}
-use Rattle.vx_base.proofs.TableLaws.{length-run, row_across, run-constant, within_elsewhere}
+use Rattle.vx_base.proofs.TableLaws.{length-run, row_across, run-constant}
 use Rattle.stat_kernels.specs.Part.{part_has_row}
 use Rattle.stat_kernels.specs.Sums.{AreRowsOf, row_sums, sum_on}
-use Rattle.stat_kernels.proofs.ScanLaws.{IsScan, above_at, band_get, first_same, row_total, scan_at, sum_on_scan, sum_to_scan, value_above}
+use Rattle.stat_kernels.proofs.ScanLaws.{IsScan, above_at, band_get, first_same, row_total, scan_at, sum_on_scan}
 
 -- ---- one row
 
@@ -68,40 +68,6 @@ module _ (image : ImageValue) (part : Part) (is : IsValidPart image part) (y : �
     where
       outside : (x : ℕ) → has_pixel image.valid x y ≡ false
       outside x = grind (arith, nat_tests, is.count, is.top, is.bottom)
-
--- ---- the first row of a band, from the top of the image
-
--- the row holds the sums above row `line`
-abbrev pub AreAbove : ImageValue → ℕ → List ℕ → Type 0
-AreAbove image line row = (x : ℕ) → x < image.width → pos (get_or row x 0) ≡ value_above image x line
-
-module _ (image : ImageValue) where
-  value_next : (x line : ℕ) → value_above image x (line + 1) ≡ zero_outside image.valid (sum_to image) x line
-  value_next x line = ap (value_above image x) (add-one line)
-
-  -- no sums are above the first valid row
-  pub above_none : (line n : ℕ) (row : List ℕ) → line ≡ image.valid.y0 → row ≡ replicate n 0 → n ≡ image.width → AreAbove image line row
-  above_none line n row at_top zeros wide x across =
-      ap (λ l. pos (get_or l x 0)) zeros ∙ ap pos (get_or-replicate n x 0 0 (omega arith)) ∙ sym (none line at_top)
-    where
-      none : (y : ℕ) → y ≡ image.valid.y0 → value_above image x y ≡ pos 0
-      none zero top = refl
-      none (suc y) top = within_elsewhere image.valid (sum_to image) x y (inr (inl (omega arith)))
-
-  pub above_next : (line : ℕ) (old row : List ℕ) → AreAbove image line old → map pos row ≡ run 0 image.width (λ x. zero_outside image.valid (sum_on image line (row_sums (Some old))) x line) → AreAbove image (line + 1) row
-  above_next line old row are is x across =
-      let f = sum_on image line (row_sums (Some old)) in
-      let here : 0 + x ≡ x = omega arith in
-      let scan = subst (λ n. IsScan image x line n (sum_to image)) (sym (ap unsigned_abs (are x across))) (sum_to_scan image x line) in
-      sym (get_or-map pos row x 0) ∙ ap (λ l. get_or l x (pos 0)) is ∙ get_or-run (λ k. zero_outside image.valid f k line) 0 image.width x (pos 0) across
-      ∙ ap (λ k. zero_outside image.valid f k line) here
-      ∙ first_same image image x f (sum_to image) line line (get_or old x 0) (sum_on_scan image line x (row_sums (Some old))) scan (record { pixel = refl; total = λ _. refl })
-      ∙ sym (value_next x line)
-
-  pub above_row : (line : ℕ) (row : List ℕ) → AreAbove image (line + 1) row → length row ≡ image.width → map pos row ≡ sums_row image line
-  above_row line row are long = run_of_sums row 0 image.width (λ x. zero_outside image.valid (sum_to image) x line) long (λ k h.
-      let here : 0 + k ≡ k = omega arith in
-      are k h ∙ value_next k line ∙ ap (λ x. zero_outside image.valid (sum_to image) x line) (sym here))
 
 -- ---- rows one after the other
 

@@ -86,27 +86,6 @@ fn write_integral_row(image: &Image<'_>, part: Part, y: u16, above: Option<&[u32
     }
 }
 
-/// Writes row `y` of the integral image by summing all valid rows up to it.
-fn write_row_from_top(image: &Image<'_>, y: u16, out: &mut [u32])
-    requires format { image.now.format ≡ U8 }
-    requires row { y < image.now.height }
-    requires out_len { length out.old ≡ image.now.width }
-    ensures { map pos out.new ≡ sums_row image.now y }
-{
-    let _limits = image.desc().width();
-    let part = Part::of(image);
-    out.fill(0);
-    if !part.has_row(y) {
-        return;
-    }
-    let mut room = [0; LONGEST_ROW];
-    let above = &mut room[..out.len()];
-    for line in part.top..y + 1 {
-        above.copy_from_slice(out);
-        write_integral_row(image, part, line, Some(above), out);
-    }
-}
-
 /// Returns the last row of `width` sums in `before`, or `None` if `before` is empty.
 pub fn row_above(before: &[u32], width: usize) -> Option<&[u32]>
     requires { length before.now ≡ 0 ⊎ width ≤ length before.now }
@@ -140,6 +119,27 @@ pub fn integral_on(image: &Image<'_>, rows: Band, above: Option<&[u32]>, samples
         let (before, others) = samples.split_at_mut(usize::from(k) * width);
         let above = row_above(before, width).or(above);
         write_integral_row(image, part, rows.start + k, above, &mut others[..width]);
+    }
+}
+
+/// Writes row `y` of the integral image, after each of the rows above it in turn.
+fn write_row_from_top(image: &Image<'_>, y: u16, out: &mut [u32])
+    requires format { image.now.format ≡ U8 }
+    requires row { y < image.now.height }
+    requires out_len { length out.old ≡ image.now.width }
+    ensures { map pos out.new ≡ sums_row image.now y }
+{
+    let (_valid, _limits) = (image.valid(), image.desc().width());
+    let mut room = [0; LONGEST_ROW];
+    let above = &mut room[..out.len()];
+    integral_on(image, Band { start: 0, count: 1 }, None, out);
+    for line in 0..y {
+        above.copy_from_slice(out);
+        let row = Band {
+            start: line + 1,
+            count: 1,
+        };
+        integral_on(image, row, Some(above), out);
     }
 }
 

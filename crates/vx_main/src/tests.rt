@@ -407,19 +407,19 @@ fn tells_a_text_that_is_too_long(rt: HostRuntime) {
     ends(&rt, rt.alloc(), failing, 5, "NO_RESOURCES");
 }
 
-/// A writer that takes `left` bytes and then fails, or takes all and fails to flush them.
+/// A writer that takes some bytes and then fails, or takes all and fails to flush them.
 #[derive(Drop)]
 struct FailingWriter {
-    left: usize,
+    room: usize,
 }
 
 impl Write for FailingWriter {
     fn write(&mut self, bytes: &[u8]) -> io::Result<usize> {
-        if self.left == 0 {
+        if self.room == 0 {
             return Err(io::Error::from(ErrorKind::Other));
         }
-        let count = bytes.len().min(self.left);
-        self.left -= count;
+        let count = bytes.len().min(self.room);
+        self.room -= count;
         Ok(count)
     }
 
@@ -430,14 +430,14 @@ impl Write for FailingWriter {
 
 #[test]
 fn tells_a_writer_that_fails(rt: HostRuntime) {
-    for (text, left, status, line) in [
+    for (text, room, status, line) in [
         (SQUARE, 0, 4, "write failed"),
         (SQUARE, 5, 4, "write failed"),
         (SQUARE, 100, 4, "write failed"),
         (b"P5", 0, 5, "INVALID_FORMAT"),
         (b"P2 1 1 300 5", 0, 5, "INVALID_FORMAT"),
     ] {
-        match run(rt.alloc(), &["apply", "not"], text, FailingWriter { left }) {
+        match run(rt.alloc(), &["apply", "not"], text, FailingWriter { room }) {
             Ok(()) => assert!(rt; false, "ended well, not {line}"),
             Err(ended) => {
                 assert!(rt; ended.status() == status);

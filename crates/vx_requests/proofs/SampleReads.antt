@@ -51,8 +51,8 @@ pub part_of_samples : {S : Type 0} (value : S → ℤ) (a b c : Option (List ℕ
 part_of_samples value a b c format from more all xs e within whole (bytes, read, size, each, are) part =
     let many : length (map value (take from xs)) ≡ from = length-map (take from xs) value ∙ length-take-le from xs within in
     let long : length bytes ≡ from * sample_bytes format = size ∙ ap (λ k. k * sample_bytes format) many in
-    let room : from * sample_bytes format + more * sample_bytes format ≡ all * sample_bytes format = rw (← whole, add-mul) in
-    part_after a b c bytes (more * sample_bytes format) (all * sample_bytes format) e read (omega (arith, long, room)) part
+    let sum : from * sample_bytes format + more * sample_bytes format ≡ all * sample_bytes format = rw (← whole, add-mul) in
+    part_after a b c bytes (more * sample_bytes format) (all * sample_bytes format) e read (omega (arith, long, sum)) part
 
 -- the bytes of U8 samples are the samples
 pub reads_bytes : (a b : Option (List ℕ)) (bytes : List ℕ) → All (λ x. x < 2 ^ 8) bytes → Consumes a b bytes → ReadsSamples a b U8 (map pos bytes)

@@ -11,11 +11,11 @@ use lib.Seq.{take-add, take-append-le}
 pub take-put_mid : {A : Type 0} (from n : ℕ) (xs ys : List A) → from ≤ length xs → n ≤ length ys
     → take (from + n) (put_mid from (length xs - from) xs ys) ≡ take from xs ++ take n ys
 take-put_mid from n xs ys within fits =
-    let room = length xs - from in
-    let all = put_mid from room xs ys in
+    let count = length xs - from in
+    let all = put_mid from count xs ys in
     let front : take from all ≡ take from xs = take-put_mid_below _ _ _ _ _ (le_refl _) within in
-    let back : drop from all ≡ ys ++ post_of from room xs = drop_at (take from xs) (ys ++ post_of from room xs) from (length-take-le from xs within) in
-    take-add from n all ∙ ap (λ l. l ++ take n (drop from all)) front ∙ ap (λ l. take from xs ++ take n l) back ∙ ap (λ l. take from xs ++ l) (take-append-le n ys (post_of from room xs) fits)
+    let back : drop from all ≡ ys ++ post_of from count xs = drop_at (take from xs) (ys ++ post_of from count xs) from (length-take-le from xs within) in
+    take-add from n all ∙ ap (λ l. l ++ take n (drop from all)) front ∙ ap (λ l. take from xs ++ take n l) back ∙ ap (λ l. take from xs ++ l) (take-append-le n ys (post_of from count xs) fits)
 
 -- n more bytes were read, after the first from of the buffer
 pub reads_more : (a b c : Option (List ℕ)) (from n : ℕ) (xs ys : List ℕ) → from ≤ length xs → n ≤ length ys

@@ -7,7 +7,7 @@ from checks.bands.graph import GRAPH, Graph, Made, shown
 from checks.bands.pictures import picture_for
 from checks.lockstep import Fault, Server, WrongAnswer, serving
 
-# The client that runs graphs, and the one that runs their nodes.
+# The client that runs graphs, and the client that runs their nodes one by one.
 AS_A_WHOLE, ONE_BY_ONE = 1, 2
 # The request that reads a statistic, by the request that created the object.
 READS = {wire.CREATE_DISTRIBUTION: wire.read_distribution, wire.CREATE_MIN_MAX: wire.read_min_max}
@@ -18,7 +18,7 @@ def addressed(frame: bytes, client: int) -> bytes:
 
 
 def image_difference(made: Made, one: bytes, other: bytes) -> str:
-    """Describes the difference of two replies to ReadImage."""
+    """Returns the difference of two replies to ReadImage, in words."""
     if wire.size_of(one) != wire.size_of(other):
         return f"{wire.size_of(one)}, not {wire.size_of(other)}"
     pairs = enumerate(zip(one[13:], other[13:]))
@@ -85,8 +85,8 @@ class Beside:
             self.ask(ONE_BY_ONE, wire.age_delay(0, name))
 
     def compare_images(self, turn: int) -> None:
-        """Compares the written objects after the first run. The second run's comparison reads the
-        rest."""
+        """Compares the images of both clients. After the first run only those that nodes write, and
+        those in slots."""
         written = self.graph.written()
         for cell, made in self.graph.cells():
             if turn == 0 and cell not in written and not made.slots:
@@ -114,8 +114,8 @@ class Beside:
 
 def fault_of(program: str, graphs: Iterable[Graph],
              kind: Type[Server] = Server) -> Optional[Tuple[Graph, str]]:
-    """Returns the first of the graphs, run one after the other on one server, that fails, with the
-    failure."""
+    """Runs the graphs one after another on one server. Returns the first graph that fails, with the
+    failure; None if none does."""
     graph = None
     try:
         with serving(kind, [program, "serve"]) as server:

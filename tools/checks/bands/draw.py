@@ -16,7 +16,7 @@ NINES = (wire.BOX, wire.GAUSSIAN, wire.MEDIAN, wire.ERODE, wire.DILATE)
 PIXELWISE = (*BITS, *ARITHMETIC, *ALIKE, wire.NOT_BITS, wire.THRESHOLD, wire.TABLE_LOOKUP,
              wire.CONVERT_DEPTH)
 
-# Most samples that all nodes of a graph write together, so that no graph takes long.
+# The most samples that all nodes of a graph write together, so that no graph takes long.
 GREATEST_SUM = 12_000_000
 
 
@@ -25,8 +25,7 @@ def small_size(rng: random.Random) -> Size:
 
 
 def wide_size(rng: random.Random) -> Size:
-    """Returns heights up to those at which images of this width have some hundred thousand
-    samples."""
+    """Draws a width, and a height at which an image has at most some hundred thousand samples."""
     width, most = rng.choice(((640, 480), (640, 480), (1000, 400), (1920, 300), (4096, 160)))
     return width, rng.randint(1, most) if rng.random() < 0.3 else rng.randint(most // 2, most)
 
@@ -149,8 +148,8 @@ class Draw:
     # ---- operands
 
     def pick(self, size: Size, formats: Sequence[int]) -> Held:
-        """Chooses an input, often one of the newest, so that graphs are deep. There is always a U8
-        image."""
+        """Chooses an input, often one of the newest images, so that graphs are deep. There is
+        always a U8 image."""
         held = [held for held in self.readable if held.size == size and held.fmt in formats]
         return self.rng.choice(held[-3:] if self.chance(0.6) else held)
 
@@ -164,8 +163,8 @@ class Draw:
         return wire.create_virtual_image(0, GRAPH, shown, *sides)
 
     def output(self, fmt: int, size: Size, has_format: bool = False) -> bytes:
-        """Chooses a slot, a virtual image or a client image. `has_format` tells that the node gives
-        an open image another format."""
+        """Chooses a slot, a virtual image or a client image. With `has_format` a virtual image
+        declares its format, because the node would give an open image another one."""
         slots = [slot for slot in self.slots if (slot.fmt, slot.size) == (fmt, size)]
         if slots and self.chance(0.5):
             held = self.rng.choice(slots)
@@ -235,7 +234,8 @@ class Draw:
             self.node(function, first.cell, None, self.output(U8, size))
 
     def statistics(self, size: Size) -> None:
-        """Adds a reduction or an accumulating node on an image, which can't be virtual then."""
+        """Adds a node that computes statistics, an integral image or sums. Sums go to a client
+        image."""
         function = self.rng.choice(self.style.statistics)
         first = self.pick(size, (U8, S16) if function == wire.MIN_MAX_LOCATION else (U8,))
         if function in ADDING:

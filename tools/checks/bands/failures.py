@@ -8,7 +8,7 @@ from checks.bands.compared import fault_of
 from checks.bands.graph import Graph, graph_words, shown
 from checks.bands.pictures import picture_for
 
-# Seconds for which a graph is reduced.
+# Seconds in which a graph is reduced.
 CUTTING = 60
 
 
@@ -36,7 +36,8 @@ def picture_words(graph: Graph) -> Iterator[str]:
 
 
 def tell(program: str, seeds: Sequence[int], graph: Graph, words: str) -> None:
-    """Ends with a report of a failed graph, the last of those with these seeds on one server."""
+    """Reports a failed graph and ends. It is the last of the graphs with these seeds on one
+    server."""
     seed, again = graph.seed, f"--seed {graph.seed} --graphs 1"
     alone = fault_of(program, [graph])
     if alone is None:

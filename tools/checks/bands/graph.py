@@ -9,7 +9,7 @@ from feqyldan import wire
 GRAPH = 1
 # The least number of samples of a large image.
 LARGE = 131_072
-# Functions that accumulate across bands: reductions, sums and scans.
+# Functions whose results accumulate across bands: statistics, sums and integral images.
 COUNTED = (wire.HISTOGRAM, wire.MIN_MAX_LOCATION)
 ADDING = (wire.ACCUMULATE, wire.ACCUMULATE_SQUARE)
 STATISTICS = (*COUNTED, *ADDING, wire.INTEGRAL)

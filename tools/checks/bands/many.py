@@ -11,9 +11,9 @@ from checks.bands.draw import graph_of
 from checks.bands.failures import tell
 from checks.bands.graph import LARGE, WINDOWED, Graph
 
-# Number of graphs on one server.
+# The number of graphs on one server.
 TOGETHER = 10
-# Number of graphs after which every case has occurred.
+# The number of graphs after which every case must have occurred.
 ALL_COMES = 1000
 
 
@@ -41,7 +41,7 @@ class Counts:
         return [border for border in wire.Border if self.in_bands[function, border]]
 
     def lacks(self) -> Iterator[str]:
-        """Returns the cases that never occurred."""
+        """Yields the cases that never occurred, in words."""
         for function in wire.Function:
             if not self.functions[function]:
                 yield function.name

@@ -8,7 +8,8 @@ from feqyldan import wire
 from checks.bands.graph import Graph, Made
 
 Rectangle = Tuple[int, int, int, int]
-# Upper bytes of S16 samples whose sums and products often fit S16: mostly small ones.
+# Upper bytes of S16 samples. Most are those of small samples, so that sums and products often fit
+# S16.
 UPPER = bytes((0, 0, 0, 1, 2, 255, 255, 254)[byte % 8] for byte in range(256))
 
 
@@ -97,7 +98,7 @@ RECTANGLE_SHARES = (1, 1, 1, 4, 5)
 
 
 class Picture(NamedTuple):
-    """Draws the contents of an image before a run."""
+    """The contents of an image before a run."""
 
     samples: bytes
     valid: Rectangle
@@ -105,9 +106,9 @@ class Picture(NamedTuple):
 
 
 def picture_for(graph: Graph, cell: bytes, made: Made, turn: int) -> Optional[Picture]:
-    """Draws the changes before the second run. Many images stay unchanged, and images that nodes
-    write do so more often. Apart from that, the changes don't depend on the nodes that are left
-    out."""
+    """Draws the contents of an image before a run, or None if the image isn't written. Images that
+    nodes write are written less often. Apart from that, the contents don't depend on the nodes, so
+    a reduced graph gets the same pictures."""
     rng = random.Random(f"{graph.seed} {cell.hex()} {turn}")
     share = 0.9 if turn == 0 else 0.5
     if rng.random() > (share / 2 if cell in graph.written() else share):

@@ -12,7 +12,7 @@ from checks.bands.graph import LARGE
 from checks.bands.pictures import Rectangle
 from checks.lockstep import Server
 
-# Number of graphs within which a fault must be found.
+# The number of graphs within which a fault must be found.
 FAULT_GRAPHS = 240
 # The row at which a band begins.
 EDGE = 16
@@ -24,8 +24,8 @@ class Wrongly(Server):
 
     def __init__(self, process: "subprocess.Popen[bytes]") -> None:
         super().__init__(process)
-        # State since the client's context was opened: the replies to reads, the images that nodes
-        # write, and the number of runs.
+        # Since the client's context was opened: the replies to reads, the images that nodes write,
+        # and the number of runs.
         self.before: Dict[bytes, bytes] = {}
         self.written: Set[bytes] = set()
         self.runs = 0
@@ -53,7 +53,7 @@ class Wrongly(Server):
             self.written |= {request[-10:-5], request[-5:]}
 
     def is_left_out(self, _: bytes) -> bool:
-        """Checks that this request is dropped."""
+        """Returns whether this request is dropped."""
         return False
 
     def concerns(self, cell: bytes) -> bool:
@@ -71,7 +71,7 @@ class Wrongly(Server):
         return reply[:13] + struct.pack(">4H", *self.valid(request, (left, top, right, bottom)))
 
     def image(self, _: bytes, reply: bytes, __: int, ___: int) -> bytes:
-        """Changes the reply to ReadImage, whose rows have this length and number."""
+        """Returns the changed reply to ReadImage, whose rows have this length and number."""
         return reply
 
     def valid(self, _: bytes, valid: Rectangle) -> Sequence[int]:

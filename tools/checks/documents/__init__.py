@@ -1,8 +1,9 @@
-"""Checks of the documents: the names that they use exist, and their style and that of comments."""
+"""Checks the names and links in documents, the names of definitions, the style of documents and
+comments, and unfinished merges."""
 
 from typing import Iterator
 
-from . import comments, definitions, links, names, prose, surface, tree
+from . import comments, definitions, links, merges, names, prose, surface, tree
 
 
 def pages() -> Iterator[str]:
@@ -29,6 +30,9 @@ def found() -> Iterator[str]:
             yield f"{path}:{line}: the link to {target} leads nowhere"
         for line, wrong in prose.faults(tree.read(path)):
             yield f"{path}:{line}: {wrong}"
+    for path in filter(merges.is_text, sorted(tree.files())):
+        for line in merges.marks(tree.read(path)):
+            yield f"{path}:{line}: an unfinished merge: decide between its two sides"
     for path in filter(comments.is_read, sorted(tree.files())):
         for line, wrong in comments.faults(path, tree.read(path)):
             yield f"{path}:{line}: {wrong}"

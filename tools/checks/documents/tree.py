@@ -10,7 +10,7 @@ NAME = r"[A-Za-z_][\w']*"
 # Folders that builds and tools create.
 BUILT = {".git", "out", "build", "__pycache__", ".mypy_cache"}
 
-# A definition in each language; the last group is its name.
+# Patterns of definitions in each language. The last group is the name.
 RATTLE = [
     rf"\b(?:fn|struct|enum|trait|const|static|type|mod|macro_rules!)\s+({NAME})",
     rf"\b(?:requires|ensures|ghost)\s+({NAME})\s*[{{=]",

@@ -19,8 +19,8 @@ def samples_of(fmt, count, step):
 
 
 def objects(session, width, valid):
-    """The names of the inputs and outputs by role and format, and the samples of the images. The
-    inputs are valid in that rectangle."""
+    """Creates the inputs and outputs. Returns their names by role and format, and the samples of
+    the input images. The inputs are valid in the rectangle `valid`."""
     count = width * HEIGHT
     names, samples = {(NOTHING, NOTHING): None, (HELD, NOTHING): None}, {}
     for fmt in (U8, S16, U32):

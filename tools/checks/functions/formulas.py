@@ -39,8 +39,8 @@ def sums(formula):
 
 
 def rows_seen(picture, way, across, down):
-    """Returns the samples that windows see: the valid rectangle, and the border around it if the
-    mode has one."""
+    """Returns the samples that windows see: those of the valid rectangle, with a border around it
+    if the mode has one."""
     rows = [row_of(picture, y) for y in range(picture.valid[1], picture.valid[3])]
     if way.border == wire.CONSTANT:
         side, beside = (way.constant,) * across, (way.constant,) * (len(rows[0]) + 2 * across)
@@ -133,7 +133,7 @@ def extremes(picture, _=None, __=None):
 
 
 # Second operands of functions: none, an image, a table, a convolution, a threshold with these
-# limits, or the prior contents of the output. Two functions have outputs that are not images.
+# limits, or the prior contents of the output. Two functions have outputs that aren't images.
 NOTHING, IMAGE, TABLE, MATRIX, HELD = None, "image", "table", "convolution", "held"
 BINARY, RANGE = (10,), (-1, 20)
 COUNTS, FOUND = "counts", "extremes"

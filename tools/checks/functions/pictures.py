@@ -27,7 +27,7 @@ def to_zero(value, divisor):
 
 
 def entries(fmt):
-    """A table that reverses the range."""
+    """Returns the entries of a table that reverses the range of samples."""
     return range(GREATEST[fmt], LEAST[fmt] - 1, -1)
 
 

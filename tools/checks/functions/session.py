@@ -29,7 +29,7 @@ def encoded(fmt, picture):
 
 
 def difference(reply, body):
-    """A reply that differs from the expected one."""
+    """Returns the difference between a reply and the expected body, in words."""
     wanted = reply[:8] + body
     if reply[6] != wire.READ_IMAGE:
         return f"{wire.say(reply)}, not {wire.say(wanted)}"
@@ -61,7 +61,7 @@ class Session:
         return name
 
     def write(self, name, fmt, picture):
-        """Reads all samples of an image, and its valid rectangle."""
+        """Replaces all samples of an image, and sets its valid rectangle."""
         self.ask(wire.frame(CLIENT, wire.WRITE_IMAGE, wire.operand(name) + encoded(fmt, picture)),
                  "WriteImage")
         if picture.valid != (0, 0, picture.width, picture.height):
@@ -89,7 +89,7 @@ class Session:
         self.ask(wire.read_min_max(CLIENT, name), words, 0, struct.pack(">hhII4H", *numbers))
 
     def holds(self, name, output, value, words):
-        """Reads an output of this format or kind."""
+        """Reads an output of this format or kind, which must have this value."""
         if output == COUNTS:
             self.counted(name, value, words)
         elif output == FOUND:

@@ -25,7 +25,7 @@ MANY_BINS = (Bins(256, 0, 256), Bins(3, 0, 256), Bins(7, 3, 250), Bins(16, 100, 
 
 
 def rectangles(width, height):
-    """Returns the whole of a picture, parts of it, one pixel, and the empty rectangle."""
+    """Returns the whole rectangle of a picture, parts of it, one pixel, and the empty rectangle."""
     x, y = width // 2, height // 2
     parts = ((1, 0, width, height), (0, 1, width - 1, height), (1, 1, width - 1, height - 1),
              (0, 0, x, y),

@@ -88,7 +88,8 @@ WORKED_PICTURES = (
 
 
 def worked(session):
-    """Runs the worked examples on images of one sample, and Not of rows whose sample at x is x."""
+    """Runs the worked examples on images of one sample. Also runs Not on rows whose sample at x is
+    x."""
     # The table has 5 for the least sample, 6 for 0, and 7 for the greatest.
     table = [5] + [0] * 32767 + [6] + [0] * 32766 + [7]
     for number, policy, amount, (fmt, sample), beside, (output, wanted) in WORKED:

@@ -1,4 +1,5 @@
-"""Sessions on graphs and virtual images, written from docs/wire.md."""
+"""Sessions on graphs and virtual images, written from docs/wire.md. The docstring of a session says
+which objects its names are, or what it tests."""
 
 from feqyldan.wire import ADD, NO_RESOURCES, U8, node
 from checks.graphs.accumulators import (

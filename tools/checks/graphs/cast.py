@@ -44,5 +44,5 @@ def in_graph(nodes, of=G):
 
 
 def declared(named, fmt=OPEN, width=OPEN, height=OPEN):
-    """Returns QueryImage of a virtual image."""
+    """Returns the row of QueryImage of a virtual image, with its declaration."""
     return told(named, fmt, NOWHERE, width, height)

@@ -19,7 +19,8 @@ def under_quotas():
               processed(3), holds(2, U8, [255] * 4, 2, 2), no_room(U8, 1, 1), verified(3),
               unadded(3, INVALID_REFERENCE, inverse(1, 2)), released(3), made(4, U8, 2, 2),
               holds(4, U8, [0] * 4, 2, 2), no_room(U8, 1, 1)]
-    # In use by the last of two nodes, of two graphs, and of two operands of one node; as an output.
+    # Objects in use by the last of two nodes, of two graphs, and of two operands of one node; and
+    # one in use as an output.
     yield 8, [*squares, graph(3), added(3, 1, inverse(1, 2)), added(3, 2, inverse(1, 2)),
               released(1),
               no_room(U8, 1, 1), removed(3, 1), no_room(U8, 1, 1), processed(3), removed(3, 2),
@@ -95,8 +96,8 @@ def under_work_bytes():
 
 
 def largest_graphs(fits_more):
-    """Four virtual images of 67,108,864 bytes each, then the largest, of 268,435,456. An additional
-    one of one byte may or may not fit."""
+    """Returns rows with four virtual images of 67,108,864 bytes each, then one of 268,435,456, the
+    largest. `fits_more` says whether another one of a byte fits."""
     more = b"" if fits_more else NO_RESOURCES
     return [
         opened(), made(1, U8, 4096, 4096), graph(2),

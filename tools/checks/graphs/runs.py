@@ -157,7 +157,7 @@ def valid_in_graphs():
         found(4, 215, 215, 1, 1, 3, 0, 3, 0), confined(1, NOWHERE), confined(9, NOWHERE),
         processed(5), *shows(2, U8, [0] * 4, NOWHERE, **wide), counted(3, [0] * 3),
         found(4, *NOTHING_FOUND), *(removed(5, number) for number in (1, 3, 4, 5, 6)),
-        # Windows of windows.
+        # Window functions of the outputs of window functions.
         wrote(1, U8, TEN_TO_FORTY, 4), confined(1, MIDDLE),
         added(5, 7, node(BOX, 1, None, 6, **REPLICATE)),
         added(5, 8, node(BOX, 6, None, 2, **REPLICATE)), processed(5),

@@ -1,4 +1,4 @@
-"""Refuses each allocation of the server in turn."""
+"""Refuses each allocation of the server in turn. A growth is an allocation."""
 
 import os
 import sys
@@ -27,7 +27,7 @@ DEFAULT = 268_435_456
 
 
 def streams() -> Iterator[Tuple[str, int, List[bytes]]]:
-    """Returns the arguments of a stream, its quota, and its frames."""
+    """Yields a description, the quota and the frames of each stream."""
     yield "without graphs", DEFAULT, session()
     yield "with graphs", DEFAULT, graphs()
     yield "of first objects", DEFAULT, first_objects()
@@ -51,8 +51,8 @@ def streams() -> Iterator[Tuple[str, int, List[bytes]]]:
 
 
 def check_lost(program: str, library: str, counts: str) -> Iterator[str]:
-    """Refuses each growth of each stream. Every request occurs, and each that takes memory is lost
-    at least once."""
+    """Refuses each growth of each stream in turn. Every request occurs in the streams, and each
+    request that takes memory is lost at least once."""
     seen: Set[int] = set()
     lost: Set[int] = set()
     for words, quota, stream in streams():
@@ -66,7 +66,8 @@ def check_lost(program: str, library: str, counts: str) -> Iterator[str]:
         check(not without, f"{words}: growths of frames {without} are done without")
         seen.update(map(op_of, stream))
         lost.update(op_of(stream[each.frame]) for each in refused[first:])
-        # If refused once, some are requested again successfully, after free blocks are given up.
+        # After one refusal the server gives up free blocks. Some growths succeed when it asks
+        # again.
         found = [each for each in refuse_each(refusing, stream, False)[first:] if not each.is_lost]
         yield (f"{words} {first} growths before the stream, {len(refused) - first} in it, of which "
                f"{len(found)} are found when they are asked for again")

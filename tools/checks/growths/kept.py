@@ -22,8 +22,8 @@ BEFORE = [
     wire.add_node(CLIENT, 3, wire.NOT_BITS, 4, None, 2),
     wire.process_graph(CLIENT, 3),
 ]
-# Requests that take no memory when repeated. A picture is read into memory that becomes the
-# image's, and the image's old memory is kept for the next one.
+# Requests that take no memory when they are repeated. A picture is read into memory that becomes
+# the image's. The image's old memory is kept for the next picture.
 NONE = {
     "VerifyGraph of a graph that can run": wire.verify_graph(CLIENT, 3),
     "ProcessGraph of a graph that has run": wire.process_graph(CLIENT, 3),
@@ -41,7 +41,7 @@ NONE = {
 
 
 def growths_of(program: Refusing, asked: List[bytes]) -> int:
-    """Returns the number of allocations for a whole stream, whose replies are all SUCCESS."""
+    """Returns the number of allocations for a whole stream. All replies must be SUCCESS."""
     served = program.run(b"".join([*BEFORE, *asked]))
     codes = {wire.code_of(reply) for reply in wire.replies(served.stdout)}
     check(served.returncode == 0 and codes == {wire.SUCCESS}, f"{asked[0].hex()}: {codes}")
@@ -49,23 +49,23 @@ def growths_of(program: Refusing, asked: List[bytes]) -> int:
 
 
 def images_in_turn() -> List[bytes]:
-    """Creates images, and releases each before the next."""
+    """Returns requests that create images, and release each before the next."""
     return [request for name in range(8, 8 + TIMES) for request in (
         wire.create_image(CLIENT, wire.U8, 64, 4), wire.release(CLIENT, name))]
 
 
 def changed_graphs() -> List[bytes]:
-    """Verifies a graph after a node was added and removed."""
+    """Returns requests that verify a graph after a node was added and removed."""
     return [request for number in range(3, 3 + TIMES) for request in (
         wire.add_node(CLIENT, 3, wire.MIN_MAX_LOCATION, 1, None, 6),
         wire.remove_node(CLIENT, 3, number), wire.verify_graph(CLIENT, 3))]
 
 
 def check_kept(program: Refusing) -> str:
-    """Checks that these requests take no memory, and that a changed graph takes it again for its
-    plan."""
+    """Checks that repeated requests take no memory, and that a changed graph takes memory for its
+    new plan."""
     def more(asked: List[bytes], first: int = 1) -> int:
-        """Returns the additional allocations compared with only the first of these requests."""
+        """Returns the allocations of all these requests beyond those of the first one."""
         return growths_of(program, asked) - growths_of(program, asked[:first])
 
     for words, request in NONE.items():

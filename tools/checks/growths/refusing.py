@@ -25,8 +25,9 @@ class Refusing(NamedTuple):
     counts: str
 
     def run(self, stream: bytes, refused: int = 0, again: bool = False) -> Ended:
-        """Runs the program on a stream and refuses the growth with this number (0: none). With
-        `again`, also refuses every later one of the same size or less, until a reply is written."""
+        """Runs the program on a stream, and refuses the growth with this number (0: none). With
+        `again`, also refuses each later growth of the same size or less, until a reply is
+        written."""
         environment = dict(os.environ, LD_PRELOAD=self.library, REFUSE_GROWTH=str(refused),
                            GROWTHS=self.counts, **({"REFUSE_AGAIN": "1"} if again else {}))
         return subprocess.run(self.command, input=stream, capture_output=True, env=environment,
@@ -68,9 +69,9 @@ def answers(program: Refusing, stream: List[bytes]) -> List[bytes]:
 
 def refuse(program: Refusing, stream: List[bytes], whole: List[bytes], number: int,
            again: bool) -> Refused:
-    """Refuses one growth, once or repeatedly. Then either exactly one reply is NO_MEMORY, and all
-    others are those of the stream without that frame; or the program continues without the growth,
-    and all replies are those of the stream."""
+    """Refuses one growth, once or repeatedly. If the program needs it, exactly one reply must be
+    NO_MEMORY, and all others those of the stream without that frame. If it continues without the
+    growth, all replies must be those of the stream."""
     ended = program.run(b"".join(stream), number, again)
     if ended.returncode == 5:
         check(ended.stdout == b"" and ended.stderr == b"NO_MEMORY\n",

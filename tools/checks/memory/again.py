@@ -5,17 +5,18 @@ from typing import List
 from feqyldan import wire
 from checks.memory.server import QUOTA, Program, Server, check_bounds, in_mib, serving
 
-# Number of delays that are registered with one graph, each released before the next.
+# The number of delays that are registered with one graph, each released before the next.
 REGISTERED = 60_000
-# Number of repetitions of all requests, repetitions between comparisons, and side of the images. A
-# block leaked in each repetition would exceed the allowance by the next comparison.
+# The number of repetitions of all requests, the repetitions between two comparisons, and the side
+# of the images in samples. A block leaked in each repetition would exceed the allowance by the next
+# comparison.
 ROUNDS, BETWEEN, SIDE = 1_000, 50, 64
-# The memory that the server may take for all of that.
+# Bytes that the server may take for all repetitions.
 FOR_AGAIN = 128 * 1024
 
 
 class Compared:
-    """Checks that repetition takes no memory. From time to time the memory is compared with its
+    """Checks that repetition takes no memory. From time to time it compares the memory with its
     value at the first comparison."""
 
     def __init__(self, server: Server, between: int) -> None:
@@ -23,7 +24,7 @@ class Compared:
         self.at_first = self.done = 0
 
     def after(self, what: str) -> str:
-        """Notes one more repetition."""
+        """Notes one more repetition of `what`."""
         self.done += 1
         if self.done == self.between:
             self.at_first = self.server.memory()

@@ -14,9 +14,10 @@ GREAT = SIDE * SIDE * 4
 # The allocator's overhead for an object and its block: a page.
 OBJECT_BYTES = 4096
 OBJECTS = 1024
-# Number of clients, and of repetitions for each of them.
+# The number of clients, and of repetitions for each of them.
 SQUATTERS, ROUNDS = 4, 3
-# Number of samples of each format for which the server keeps free blocks, and its other memory.
+# The number of samples of each format for which the server keeps free blocks, and its other memory
+# in bytes.
 KEPT, BESIDE = 1 << 26, 16 * MIB
 
 
@@ -34,7 +35,7 @@ def small_in_great(program: Program) -> str:
 
 
 def squat(server: Server, client: int, at_first: int) -> None:
-    """A client creates large images repeatedly, and small ones after each time, up to 1,024."""
+    """Creates large images for a client repeatedly, and small ones after each time, up to 1,024."""
     server.ask(wire.open_context(client))
     small = wire.create_image(client, wire.U32, 1, 1)
     held = 0
@@ -61,7 +62,7 @@ def compare_seen(server: Server, at_first: int) -> None:
 
 
 def compare_held(server: Server, at_first: int, objects: int) -> str:
-    """Checks the memory of this many objects: their own, and at most one large block."""
+    """Checks the memory of this many small objects: their own, and at most one large block."""
     taken = server.memory() - at_first
     most = objects * OBJECT_BYTES + GREAT
     told = f"{in_mib(taken)} for {objects} images of one sample, at most {in_mib(most)}"

@@ -43,7 +43,7 @@ class Kinds(Server):
 
 
 def keeping(*event: int) -> Type[Server]:
-    """A server that leaks one block after each of these events."""
+    """Returns a kind of server that leaks one block after each of these events."""
     wanted = event if len(event) == 2 else (*event, 0)
 
     class Keeping(Kinds):
@@ -62,7 +62,7 @@ def keeping(*event: int) -> Type[Server]:
 
 
 def without(op: int) -> Type[Server]:
-    """A server that ignores this request, and replies SUCCESS."""
+    """Returns a kind of server that ignores this request, and replies SUCCESS."""
     class Without(Server):
         def answer(self, request: bytes) -> bytes:
             if request[6] != op:
@@ -73,7 +73,7 @@ def without(op: int) -> Type[Server]:
 
 
 def unclear(op: int) -> Type[Server]:
-    """A server whose new objects of this kind contain old data instead of 0."""
+    """Returns a kind of server whose new objects of one kind contain old data instead of 0."""
     class Unclear(Server):
         def answer(self, request: bytes) -> bytes:
             reply = super().answer(request)
@@ -91,8 +91,8 @@ def unclear(op: int) -> Type[Server]:
 
 
 def making_more(op: int, at: int) -> Type[Server]:
-    """A server that creates an extra image before each of these requests and keeps it until it
-    ends. Its format and size are the request's, at this byte."""
+    """Returns a kind of server that creates another image before each of these requests, and keeps
+    it. The image's format and size are those in the request, from byte `at` on."""
     class MakingMore(Server):
         def answer(self, request: bytes) -> bytes:
             if request[6] == op:
@@ -145,7 +145,7 @@ class Planted(NamedTuple):
 
 
 MEASURES: Tuple[Measure, ...] = (small_in_great, written, rising, registered, again, soak)
-# Measurements that find a memory that is too small.
+# Measurements that find a reading of too little memory.
 READERS: Tuple[Measure, ...] = (small_in_great, soak)
 PLANTED = (
     Planted("blocks that are far too large stay so", small_in_great, TooMuchMemory, keeps="shrunk"),

@@ -8,7 +8,7 @@ from checks import lockstep
 from checks.lockstep import PATIENCE, Fault
 
 MIB = 1 << 20
-# The C library returns freed memory to the system immediately, so that it isn't counted as the
+# Makes the C library return freed memory to the system immediately. Otherwise it would count as the
 # server's.
 ENVIRONMENT = {**os.environ, "GLIBC_TUNABLES": "glibc.malloc.mmap_threshold=32768"}
 QUOTA = 256 * MIB
@@ -27,7 +27,8 @@ def in_mib(count: int) -> str:
 
 
 def check_bounds(words: str, taken: int, most: int, least: int = 0) -> str:
-    """Returns the words, or raises them as a fault if the number of bytes is out of bounds."""
+    """Returns the words if the number of bytes is within the bounds; else raises them as a
+    fault."""
     if taken > most:
         raise TooMuchMemory(words)
     if taken < least:
@@ -52,7 +53,7 @@ def memory_of(process: int, field: str) -> int:
 
 
 class Program(NamedTuple):
-    """The server's program, with any preloaded library for a planted fault."""
+    """The server's program, with a preloaded library if a fault is planted."""
 
     path: str
     environment: Dict[str, str] = {}

@@ -9,10 +9,10 @@ from checks.memory.server import MIB, QUOTA, Program, Server, check_bounds, in_m
 
 CLIENTS, REQUESTS, SEED = 8, 20_000, 1
 LONGEST_SIDE = 512
-# Approximate number of images and delays of a client.
+# The approximate number of images and delays of a client.
 HELD = 24
-# The server's memory besides samples: its own, the current frame and reply, objects, and memory
-# that the allocator doesn't return.
+# The server's memory besides samples, in bytes: its own, the current frame and reply, objects, and
+# memory that the allocator doesn't return.
 BESIDE = 16 * MIB
 
 
@@ -32,7 +32,8 @@ class Image(NamedTuple):
 
 
 class Client:
-    """A client of the soak, with its objects: each name has one image, or those of its slots."""
+    """A client of the soak, with its objects. Each name has one image, or the images of a delay's
+    slots."""
 
     def __init__(self, server: Server, number: int, rng: random.Random) -> None:
         self.server, self.number, self.rng = server, number, rng
@@ -88,7 +89,7 @@ class Client:
         self.compare(*self.any_cell())
 
     def compare(self, name: int, slot: int) -> None:
-        """Checks that a read returns what was written, or 0."""
+        """Checks that a read returns the bytes that were last written, or 0."""
         image = self.images[name][slot]
         reply = self.server.ask(wire.read_image(self.number, self.cell(name, slot)))
         size = image.fmt, image.width, image.height

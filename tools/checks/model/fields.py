@@ -173,7 +173,8 @@ def rectangle_bytes(rectangle):
 
 
 def encoded_samples(image):
-    """Row by row, because an image may be large."""
+    """Returns the samples of an image in bytes. Encodes row by row, because an image may be
+    large."""
     row = struct.Struct(f">{image.width}{wire.SAMPLE_LETTERS[image.fmt]}")
     starts = range(0, image.width * image.height, image.width)
     return b"".join(row.pack(*image.samples[start : start + image.width]) for start in starts)

@@ -96,8 +96,7 @@ def shrunk(rectangle, across, down):
 
 
 def windows_of(rectangle, across, down):
-    """Returns the union of the windows of the rectangle's pixels. It may extend beyond the
-    image."""
+    """Returns the union of the windows of a rectangle's pixels. It may extend beyond the image."""
     left, top, right, bottom = rectangle
     if rectangle == EMPTY:
         return EMPTY
@@ -294,8 +293,8 @@ def accumulated_square(a, c, way):
 
 
 def pixelwise(value, beside=IN2):
-    """Makes a pixelwise node's output out1, valid where both inputs are, from a value of each pixel
-    of in1 and of the second operand."""
+    """Returns the formula of a pixelwise function. It gives the node's out1, valid where both
+    inputs are valid, from a value of each pixel of in1 and of the second operand."""
 
     def gives(node, things):
         first, second, output = things[IN1], things[beside], things[OUT1]
@@ -373,8 +372,8 @@ def gradient_y(nine):
 
 
 def windowed(value, second=None):
-    """Makes a node's output from a value of nine samples for each pixel, and its out2 from
-    another."""
+    """Returns the formula of a 3x3 window function. A pixel of out1 has the value of its window's
+    nine samples, and a pixel of out2 the second value."""
 
     def gives(node, things):
         values = {OUT1: value, OUT2: second}
@@ -418,7 +417,7 @@ def bin_of(bins, sample):
 
 
 def histogram(node, things):
-    """Each run counts from 0."""
+    """Returns the counts of the valid samples. Each run counts from 0."""
     bins = things[OUT1].bins
     found = Counter(bin_of(bins, sample) for sample in valid_samples(things[IN1]))
     return {OUT1: Distribution(bins, tuple(found[number] for number in range(bins.bins)))}

@@ -1,7 +1,7 @@
 """The verdict on a graph, and its run. Nodes are linked by the cells that they read and write.
 
-Independent of clients. `nodes` are those of a graph in the order of adding. `things` has the
-contents of each of their cells; a virtual image has its declaration.
+Nothing here depends on clients. `nodes` are the nodes of a graph, in the order of adding. `things`
+has the contents of each cell of these nodes; those of a virtual image are its declaration.
 """
 
 from feqyldan.wire import (
@@ -45,7 +45,7 @@ def in_order(nodes):
 
 
 def filled(thing, node, first):
-    """Resolves the undeclared fields of an output from the node's in1, as far as that is
+    """Resolves the undeclared fields of an output from the node's in1, as far as in1 is
     resolved."""
     if not isinstance(thing, VirtualImage) or not is_open(thing):
         return thing

@@ -204,7 +204,8 @@ def is_of_other_kind(operands):
 
 
 def is_of_other_graph(operands):
-    """The graph is the first operand."""
+    """Checks if an operand is a virtual image of another graph. The graph itself is the first
+    operand."""
     graph = operands[0].cell.name
     return any(isinstance(thing, VirtualImage) and thing.graph != graph for _, thing, _ in operands)
 

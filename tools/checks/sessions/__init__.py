@@ -1,5 +1,5 @@
 """Sessions of clients, written from docs/wire.md: requests, with the code or the body of each
-reply."""
+reply. The docstring of a session says which objects its names are, or what it tests."""
 
 from functools import partial
 

@@ -12,8 +12,8 @@ LEFT, RIGHT = (0, 0, 2, 1), (2, 0, 4, 1)
 
 
 def adding(sample, *sums, function=ACCUMULATE, **beside):
-    """Nodes that run in turn on a sample of image 1. Image 2 has the first sum before them, and the
-    next one after each."""
+    """Returns rows that run a node several times on a sample of image 1. Image 2 has the first of
+    the sums before, and the next one after each run."""
     return [wrote(1, U8, [sample]), wrote(2, S16, sums[:1]),
             *(row for after in sums[1:]
               for row in (ran(function, 1, None, 2, **beside), holds(2, S16, [after]))),

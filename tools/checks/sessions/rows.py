@@ -80,19 +80,19 @@ def holds_text(named: Reference, text: bytes, client: int = CLIENT) -> Row:
 
 def told(named: Reference, fmt: int, valid: Sequence[int], width: int = 1, height: int = 1,
          client: int = CLIENT) -> Row:
-    """Returns QueryImage, with the returned rectangle."""
+    """Returns the row of QueryImage, with the expected description."""
     return (wire.query_image(client, named), struct.pack(">BHH4H", fmt, width, height, *valid))
 
 
 def shows(named: Reference, fmt: int, samples: Sequence[int], valid: Sequence[int], width: int,
           height: int = 1) -> List[Row]:
-    """Returns both queries: the rectangle and the samples."""
+    """Returns the rows that query an image's rectangle, and read its samples."""
     return [told(named, fmt, valid, width, height), holds(named, fmt, samples, width, height)]
 
 
 def confined(named: Reference, valid: Sequence[int], wanted: Wanted = b"",
              client: int = CLIENT) -> Row:
-    """Returns SetValid."""
+    """Returns the row of SetValid."""
     return (wire.set_valid(client, named, valid), wanted)
 
 
@@ -108,13 +108,13 @@ def aged(number: int, wanted: Wanted = b"", client: int = CLIENT) -> Row:
 
 
 def registered(of: int, delay: int, wanted: Wanted = b"", client: int = CLIENT) -> Row:
-    """Returns the registration of a delay that ages after a graph's runs."""
+    """Returns the row that registers a delay, which then ages after a graph's runs."""
     return (wire.register_auto_aging(client, of, delay), wanted)
 
 
 def in_slots(row: Callable[..., Row], number: int, fmt: int, samples: Sequence[int],
              client: int = CLIENT) -> List[Row]:
-    """Returns the row for each slot of a delay of images of one sample, from slot 0 on."""
+    """Returns the row for each slot of a delay whose images have one sample, from slot 0 on."""
     return [row(reference(number, k), fmt, [sample], client=client)
             for k, sample in enumerate(samples)]
 
@@ -129,7 +129,7 @@ NOTHING_FOUND = (0,) * 8
 
 
 def threshold(fmt: int) -> bytes:
-    """Returns a threshold that gives 7 for samples above 100, and 3 otherwise."""
+    """Returns the frame that creates a threshold with 7 for samples above 100, and 3 for others."""
     return wire.create_threshold(CLIENT, fmt, (100,), 7, 3)
 
 
@@ -152,8 +152,8 @@ def extremes(number: int, client: int = CLIENT) -> Row:
 
 
 def found(number: int, *numbers: int, client: int = CLIENT) -> Row:
-    """Returns the least and the greatest sample, the number of pixels with each, and x and y of the
-    first of each."""
+    """Returns the row that reads extremes: the least and the greatest sample, the number of pixels
+    with each, and x and y of the first pixel with each."""
     return (wire.read_min_max(client, number), struct.pack(">hhII4H", *numbers))
 
 
@@ -181,12 +181,12 @@ def virtual(number: int, of: int, fmt: int = OPEN, width: int = OPEN, height: in
 
 
 def added(of: int, number: int, node: bytes, client: int = CLIENT) -> Row:
-    """Returns a row that adds a node, in bytes, to a graph, and its number."""
+    """Returns the row that adds a node, in bytes, to a graph and gets this number."""
     return (frame(client, wire.ADD_NODE, name(of) + node), name(number))
 
 
 def unadded(of: int, code: int, node: bytes, client: int = CLIENT) -> Row:
-    """Returns a row that adds a node which the graph refuses."""
+    """Returns the row that adds a node to a graph and is refused with this code."""
     return (frame(client, wire.ADD_NODE, name(of) + node), code)
 
 
@@ -211,8 +211,8 @@ CREATES = (
 
 
 def on_image(named: Reference) -> Tuple[bytes, ...]:
-    """Requests that name an image. Each has a body that fits an image of one U8 sample, or a text
-    that fits none."""
+    """Returns requests that name an image. Each would succeed for an image of one U8 sample, except
+    one PGM text that is always refused."""
     return (
         wire.query_image(CLIENT, named), wire.write_image(CLIENT, named, U8, 1, 1, b"\n"),
         wire.read_image(CLIENT, named), wire.write_image_pgm(CLIENT, named, b"P2 1 1 255 1"),
@@ -221,8 +221,8 @@ def on_image(named: Reference) -> Tuple[bytes, ...]:
 
 
 def on_graph(of: int) -> Tuple[bytes, ...]:
-    """Requests that name a graph. Except for AddNode and RegisterAutoAging they name nothing
-    else."""
+    """Returns requests that name a graph. Except for AddNode and RegisterAutoAging they name
+    nothing else."""
     return (
         wire.create_virtual_image(CLIENT, of), wire.add_node(CLIENT, of, wire.NOT_BITS, 1, None, 2),
         wire.remove_node(CLIENT, of, 1), wire.verify_graph(CLIENT, of),

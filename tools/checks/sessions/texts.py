@@ -88,7 +88,7 @@ FAULTY_TEXTS = {
 
 
 def raw(width, height, samples):
-    """Returns the only form in which a text is written."""
+    """Returns a P5 text in the only form that the server writes."""
     return b"P5\n%d %d\n255\n" % (width, height) + bytes(samples)
 
 
@@ -103,8 +103,7 @@ def pgm_texts():
 
 
 def faulty_pgm_texts():
-    """1 is an image of one U8 sample, which is as it was after each text that stands for no
-    picture."""
+    """1 is an image of one U8 sample. A text with a fault leaves it unchanged."""
     rows = [opened(), made(1, U8), wrote_text(1, b"P2 1 1 255 9")]
     for text, code in (
         (b"P5 1 1 40000\n\x00\x05", INVALID_FORMAT), (b"P5 1 1 255\n\x07\x07", INVALID_FORMAT),

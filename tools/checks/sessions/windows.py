@@ -190,7 +190,7 @@ def greatest_sums(number):
 
 
 def two_outputs():
-    """1 is an image of 3 by 3 U8 samples, 2 and 3 of S16, 4 a delay of two such."""
+    """1 is an image of 3 by 3 U8 samples, 2 and 3 of S16, 4 a delay of two slots like 2."""
     slots = [reference(4, 0), reference(4, 1)]
     across, down = [4, 8, 4] * 3, [12] * 3 + [24] * 3 + [12] * 3
     return [

@@ -346,7 +346,8 @@ def spoiled(draw, fields):
     byte."""
     if fields and draw.chance(0.03):
         k = draw.rng.randrange(len(fields))
-        # A short may be a side: it becomes small or too large, so that no image is large by chance.
+        # Two bytes may be a side of an image. The side becomes small or too large, so that no image
+        # is large by chance.
         last, others = draw.pick((b"\0", b"\xff", draw.rng.randbytes(1))), (b"\0", b"\xff")
         fields[k] = last.rjust(len(fields[k]), draw.pick(others))
         # A body that is also truncated has two faults, the first of which decides.

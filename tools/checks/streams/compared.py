@@ -40,7 +40,7 @@ class Counts:
         return sum(self.functions[number, mode] for mode in BORDERS)
 
     def table(self):
-        """Returns a line for each op, and one for unknown ops."""
+        """Returns a line for each op, and a line for unknown ops."""
         for op in [*sorted(model.STANDING), UNKNOWN]:
             codes = sorted((code, count) for (of, code), count in self.codes.items() if of == op)
             line = ", ".join(f"{wire.CODES[code]} {count}" for code, count in codes)
@@ -54,7 +54,8 @@ class Counts:
         yield f"  graphs that ran, by nodes: {ran}"
 
     def lacks(self):
-        """Returns the cases that never occurred, and codes that the model's table doesn't have."""
+        """Yields the cases that never occurred, and the codes that the model's table doesn't
+        have."""
         for op in sorted(model.STANDING):
             seen = {code for of, code in self.codes if of == op}
             codes = model.codes_of(op)

@@ -24,8 +24,8 @@ def long(value):
     return struct.pack(">I", value)
 
 
-# Samples near the limits of the formats, of their bytes and of each other; few, so that equal ones
-# are frequent.
+# Samples near the limits of the formats, of their bytes and of each other. They are few, so that
+# equal samples are frequent.
 ENDS = {
     U8: (0, 1, 2, 9, 10, 11, 127, 128, 200, 254, 255),
     S16: (-32768, -32767, -256, -129, -3, -1, 0, 1, 9, 10, 11, 127, 255, 256, 32766, 32767),
@@ -50,8 +50,8 @@ class Draw:
 
     def __init__(self, rng, state, limits, size):
         self.rng, self.state, self.limits = rng, state, limits
-        # Few sizes, so that images often have the same one, and a given small one, because graphs
-        # run on small images.
+        # Few sizes, so that images often have the same size; and the given small one, because
+        # graphs run on small images.
         near = [(size[0] + 1, size[1])] if rng.random() < 0.3 else []
         self.sizes = [size, *near, *(self.any_size() for _ in range(rng.choice((0, 0, 1, 1, 2))))]
 

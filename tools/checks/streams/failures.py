@@ -40,8 +40,8 @@ def cut_down(program, failure, seed):
 
 
 def without_parts(program, failure, seed, size, end):
-    """Returns a failure without those parts of a size that can be removed one after another, the
-    last one first."""
+    """Removes the parts of a size from a failing stream, the last part first, if the stream still
+    fails without them. Returns the shorter failure."""
     at = len(failure.frames)
     while at > 0 and time.monotonic() < end:
         at = max(0, at - size)
@@ -69,7 +69,7 @@ def shorter_streams(failure, at, size):
 
 
 def with_less_names(frame, client, name):
-    """Decreases the names above one of the client's by one in a frame."""
+    """Decreases each name above `name` by one, in a frame of the client."""
     of, op, body = model.parts_of(frame)
     if of != client:
         return frame
@@ -79,7 +79,7 @@ def with_less_names(frame, client, name):
 
 
 def with_less_nodes(frame, client, graph, number):
-    """Decreases the node numbers above one of the graph's by one in a frame."""
+    """Decreases each node number above `number` by one, in a frame on the client's graph."""
     of, op, body = model.parts_of(frame)
     is_of_graph = of == client and op == REMOVE_NODE and body[:4] == graph
     return wire.frame(client, op, with_less_at(body, 4, number)) if is_of_graph else frame

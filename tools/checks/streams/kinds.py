@@ -20,7 +20,7 @@ CLIENTS = (0, 1, 2, 7, 255, 256, 257, 263, 512, 1793, 65535)
 
 
 def mixed(stream):
-    """Any requests, of one to five clients."""
+    """Sends any requests, of one to five clients."""
     clients = stream.rng.sample(CLIENTS, stream.rng.randint(1, 5))
     client = clients[0]
     for _ in range(40 + len(clients) * stream.rng.randint(60, 220)):
@@ -30,7 +30,7 @@ def mixed(stream):
 
 
 def hold_by_graphs(stream, client):
-    """Images and a virtual image that only graphs still use, and released delays that were
+    """Creates images and a virtual image that only graphs still use, and released delays that were
     registered with these graphs."""
     for _ in range(3):
         for op, body in ((CREATE_IMAGE, struct.pack(">BHH", U8, 2, 1)),
@@ -49,7 +49,7 @@ def hold_by_graphs(stream, client):
 
 
 def to_all_objects(stream):
-    """One client reaches its limit of objects; another one has a few."""
+    """Lets one client reach its limit of objects, while another client has a few."""
     full, other = stream.rng.sample(CLIENTS, 2)
     stream.ask(full, OPEN_CONTEXT, b"")
     draw = stream.draw_of(full)
@@ -84,7 +84,7 @@ def exceeds(left):
 
 
 def to_the_quota(stream):
-    """One client uses up its quota; another one has a few images."""
+    """Lets one client use up its quota, while another client has a few images."""
     full, other = stream.rng.sample(CLIENTS, 2)
     for client in (full, other):
         stream.ask(client, OPEN_CONTEXT, b"")
@@ -128,7 +128,7 @@ def fill_by_delay(stream, full):
 
 
 def to_great_sums(stream):
-    """Sums over a large picture, and of large samples with large coefficients."""
+    """Computes sums over a large picture, and of large samples with large coefficients."""
     client = stream.rng.choice(CLIENTS)
     draw = stream.draw_of(client)
     width, height = draw.rng.randint(17, 64), draw.rng.randint(17, 64)
@@ -158,7 +158,7 @@ def to_great_sums(stream):
 
 
 def to_all_nodes(stream):
-    """A graph reaches its limit of nodes, in a chain."""
+    """Lets a graph reach its limit of nodes, in a chain."""
     client = stream.rng.choice(CLIENTS)
     draw, most = stream.draw_of(client), model.LIMITS.nodes
     stream.ask(client, OPEN_CONTEXT, b"")
@@ -192,7 +192,7 @@ GREAT_SIZES = (4097, 4112), (4112, 4097), (SIDE, 2057), (2057, SIDE)
 
 
 def to_sums_that_wrap(stream):
-    """The integral image of a picture whose sum exceeds U32."""
+    """Computes the integral image of a picture whose sum exceeds U32."""
     client = stream.rng.choice(CLIENTS)
     width, height = stream.rng.choice(GREAT_SIZES)
     stream.ask(client, OPEN_CONTEXT, b"")
@@ -204,7 +204,7 @@ def to_sums_that_wrap(stream):
     stream.ask(client, READ_IMAGE, wire.reference(2))
 
 
-# One seed of each this many gives each kind of stream that isn't mixed.
+# Of this many seeds in a row, one gives each kind of stream that isn't mixed.
 TURN = 48
 KINDS = {5: to_all_objects, 8: to_great_sums, 11: to_the_quota, 14: to_all_nodes,
          17: to_sums_that_wrap}

@@ -132,7 +132,7 @@ MANIFOLD = (
 
 
 def border(draw, number):
-    """Draws a mode and a constant."""
+    """Draws a border mode and a constant."""
     if draw.chance(0.02):
         return draw.pick(((3, 0), (255, 0), (wire.UNDEFINED, 1), (wire.REPLICATE, 255)))
     mode = draw.rng.choices(BORDERS, (4, 4, 5) if number in WINDOWED else (7, 2, 1))[0]

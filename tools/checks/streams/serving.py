@@ -9,8 +9,8 @@ from checks import model
 
 # Seconds after which a program that doesn't answer is killed.
 PATIENCE = 120
-# The prefix of an entry that describes the end of the program. As the start of a frame its length
-# would be too large.
+# The prefix of an entry that describes the end of the program. No reply begins like this: its
+# length would be too large.
 ENDED = b"it ended with status"
 
 
@@ -30,7 +30,7 @@ def words_for(limits):
 
 @contextlib.contextmanager
 def running(command):
-    """A process of the program, which is killed if it doesn't end by itself."""
+    """Yields a process of the program. It is killed if it doesn't end by itself."""
     pipes = dict.fromkeys(("stdin", "stdout", "stderr"), subprocess.PIPE)
     process = subprocess.Popen(command, bufsize=0, **pipes)
     watch = threading.Timer(PATIENCE, process.kill)

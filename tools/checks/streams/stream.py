@@ -89,7 +89,8 @@ class Stream:
         return code
 
     def ask_about(self, client, references, share=0.5):
-        """Reads samples of images, rectangles, and the contents of other objects, each often."""
+        """Often reads the samples and the rectangles of images, and the contents of other
+        objects."""
         draw = self.draw_of(client)
         for kind, ops in QUESTIONS.items():
             cells = [cell for cell, _ in draw.cells(kind) if cell_bytes(cell) in references]
@@ -101,7 +102,8 @@ class Stream:
                                  else long(cell.name))
 
     def confine(self, client, references, share_of_none=0):
-        """Mostly makes the images among these valid in a part, or all of them valid nowhere."""
+        """Makes the images among the references valid in a part. With a chance of `share_of_none`
+        makes all of them valid nowhere."""
         draw = self.draw_of(client)
         is_none = draw.chance(share_of_none)
         for cell, image in draw.cells(model.Image):

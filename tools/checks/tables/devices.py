@@ -63,8 +63,8 @@ def check_sizes(program: Program, library: str, pairs: Pairs) -> None:
 
 
 def check_failing_reads(program: Program, library: str, pairs: Pairs) -> None:
-    """Fails each read. The replies to completely read frames are there. The last read finds the end
-    of the stream."""
+    """Fails each read in turn. The replies to all frames that were read completely must be there.
+    The last read finds the end of the stream."""
     stream, output = joined(pairs)
     number = 0
     for k, (request, _) in enumerate(pairs):
@@ -78,8 +78,8 @@ def check_failing_reads(program: Program, library: str, pairs: Pairs) -> None:
 
 
 def check_failing_writes(program: Program, library: str, pairs: Pairs) -> None:
-    """Fails each write. All earlier bytes are there, and nothing after the reply whose write
-    failed, the rest of which the program may still write at its end."""
+    """Fails each write in turn. All bytes before it must be there, and none after the reply whose
+    write failed. The program may still write the rest of that reply at its end."""
     stream, number = joined(pairs)[0], 0
     for k, (_, reply) in enumerate(pairs):
         before, most = number, joined(pairs[:k + 1])[1]
@@ -92,8 +92,8 @@ def check_failing_writes(program: Program, library: str, pairs: Pairs) -> None:
 
 def run_in_pieces(program: Program, library: str, stream: bytes,
                   **told: int) -> Tuple[int, bytes, bytes]:
-    """Returns the program's status, output and line with pieces of this size, or with a failure of
-    this call."""
+    """Runs the program in pieces of this size, or with a failure of this call. Returns its status,
+    output and line."""
     environment = {**os.environ, "LD_PRELOAD": library}
     environment.update({variable: str(number) for variable, number in told.items()})
     program.runs += 1

@@ -88,8 +88,8 @@ def check_long_frames(program: Program) -> None:
 
 
 def check_prefixes(program: Program, words: str, pairs: Pairs) -> None:
-    """Sends each prefix of a stream. The replies to its complete frames are there, and it is
-    truncated unless it ends between frames."""
+    """Sends each prefix of a stream. The replies to its complete frames must be there. The stream
+    counts as truncated unless the prefix ends between frames."""
     stream, ends = b"".join(request for request, _ in pairs), {0: b""}
     for request, reply in pairs:
         ends[max(ends) + len(request)] = ends[max(ends)] + reply

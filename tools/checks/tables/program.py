@@ -37,8 +37,8 @@ class Program:
     def run_on_file(self, front: bytes, length: int, end: bytes = b"",
                     words: Sequence[Word] = ("serve",)) -> Tuple[int, bytes, bytes, int]:
         """Returns the program's status, output and line on standard error, and the number of bytes
-        read, for a file of this length with zeros between its front and its end. Only the program,
-        if any, has the whole file in memory."""
+        read. The input is a file of this length, with zeros between its front and its end. No
+        process but the program may have the whole file in memory."""
         self.runs += 1
         with tempfile.TemporaryFile() as stream:
             stream.write(front)

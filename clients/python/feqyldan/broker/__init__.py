@@ -4,11 +4,11 @@ their standard input.
 
     python3 -m feqyldan.broker --socket PATH [--servers N] [OPTION..] -- PROGRAM serve [WORD..]
 
-starts the program N times and listens at the path. Each connection gets a client number of its own,
-and one of the servers. Its request frames are passed on with that number, and its replies come
-back, in order, with the number that it sent. So all programs may use client number 7, and each has
-a context of its own. A connection that sends frames of several clients has one context for all of
-them.
+The broker starts the program N times and listens at the path. Each connection gets a client number
+of its own, and one of the servers. Request frames are passed on with that number, and replies come
+back, in order, with the number that the connection sent. So all programs may use client number 7,
+and each has a context of its own. A connection that sends frames of several clients has one context
+for all of them.
 
 What connections can rely on, and how it is ensured:
 

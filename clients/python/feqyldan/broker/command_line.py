@@ -19,9 +19,10 @@ BYTES_HELD = 268_500_992
 # Default shares of the memory: for all servers, for the broker itself, and for the frames and
 # replies that it buffers.
 SERVERS_PART, OWN_PART, HELD_PART = 3 / 4, 1 / 4, 1 / 8
-# Python itself takes about 40 MB of address space.
+# The least limit on the broker's own memory, in bytes. Python itself takes about 40 MB of address
+# space.
 LEAST_OWN_MEMORY = 2**27
-# The pipes to and from a server, with those of its replacement while that one starts.
+# The pipes to and from a server, and those of its replacement while that one starts.
 FILES_OF_SERVER = 6
 USAGE = """
 Memory: for each connection the broker buffers at most one request frame and one reply. Each has at
@@ -54,8 +55,8 @@ def servers_unless_told() -> int:
 
 
 def memory_each(servers: int) -> int:
-    """Returns the default limit of each server's address space in bytes: together three quarters of
-    the memory."""
+    """Returns the default limit of each server's address space, in bytes. All limits together are
+    three quarters of the memory."""
     return part_of_memory(SERVERS_PART / servers)
 
 

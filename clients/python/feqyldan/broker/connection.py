@@ -13,15 +13,17 @@ if TYPE_CHECKING:
 
 # The most seconds that a turn of requests that may take long is expected to take.
 TURN_SECONDS = 0.001
-# How many requests that may take long are at most in a turn, where those before them were quick.
+# The most requests in a turn that may take long, if the earlier ones were quick.
 LONG_AT_ONCE = 4
 
 
 class Limits(NamedTuple):
-    """The limits of the broker. Numbers of connections at the same time: all, of one process, of
-    one user. Bytes: of the longest frame and reply, and of those of all connections. Seconds:
-    without a byte within a frame or a reply, without a request, of the longest request, for pending
-    requests once the broker stops, and between two lines of counts."""
+    """
+    The limits of the broker. Numbers of connections at the same time: in all, of one process, of
+    one user. Bytes: of the longest frame and reply, and of those of all connections together.
+    Seconds: without a byte within a frame or a reply, without a request, of the longest request,
+    for pending requests after the broker is told to end, and between two reports of the counts.
+    """
 
     connections: int
     per_process: int
@@ -43,25 +45,26 @@ class Connection:
         self.sock, self.number, self.owner, self.limits = sock, number, owner, limits
         self.total = total
         self.incoming = Incoming(limits.bytes_held, total, descriptors)
-        # What is left of its replies.
+        # The replies that aren't sent yet.
         self.outgoing = bytearray()
-        # The server that has its context, once it has asked anything; and its turn that is with it.
+        # The server that has the connection's context, after the first request; and the turn that
+        # is with the server.
         self.server: Optional["Server"] = None
         self.turn: Optional["Turn"] = None
-        # Whether the server has heard of it, so that it may have a context.
+        # Whether the server has got a request of the connection, and so may have a context for it.
         self.is_known = False
-        # Its place in the line of those that wait for their next turn.
+        # The place in the line for the next turn.
         self.place: Any = None
-        # The seconds of the server's time that it has had, those that its last turn took, and those
-        # that a request that may take long is expected to take.
+        # Seconds of the server's time: used in all, used by the last turn, and expected for a
+        # request that may take long.
         self.used, self.took, self.pace = 0.0, 0.0, TURN_SECONDS
-        # Whether more may come from it; whether it is still there; whether its context is being
+        # Whether the connection may send more; whether it is open; whether its context is being
         # released.
         self.reads, self.is_open, self.is_leaving = True, True, False
-        # What it is watched for.
+        # The events that it is watched for.
         self.interest = 0
-        # When it last sent a byte that was wanted, when it last took one that was there, and when
-        # it was last served.
+        # When it last sent a byte that was awaited, when it last took a byte that was waiting, and
+        # when it was last served.
         self.received_at = self.taken_at = self.served_at = now
 
     def __str__(self) -> str:
@@ -71,7 +74,7 @@ class Connection:
 
     def wanted(self) -> int:
         """Returns the events to watch for. The connection isn't read while a long frame of it waits
-        here, so that it can't have two."""
+        here, so that it never has two."""
         is_held_up = self.turn is not None and self.turn.is_long_and_unwritten
         reads = self.reads and not is_held_up and self.incoming.has_room
         return (READ if reads else 0) | (WRITE if self.outgoing else 0)
@@ -80,7 +83,8 @@ class Connection:
         return self.turn is None and self.incoming.is_whole and len(self.outgoing) <= AHEAD
 
     def next_frames(self, turn_bytes: int) -> Frames:
-        """Returns the frames of its next turn; after its end, the release of its context."""
+        """Returns the frames of the next turn. After the connection's end that is the release of
+        its context."""
         if self.is_leaving:
             return release_of(self.number)
         return self.incoming.take(self.number,
@@ -100,11 +104,11 @@ class Connection:
         return not (self.reads or self.turn or self.outgoing or self.incoming.is_whole)
 
     def fault(self) -> Optional[str]:
-        """Returns what is wrong with its last bytes, in words."""
+        """Returns in words what is wrong with the bytes that came last; None if nothing is."""
         is_cut_short = not self.reads and self.incoming.has_part
         return self.incoming.fault or ("it ended within a frame" if is_cut_short else None)
 
-    # ---- what it is sent
+    # ---- replies to it
 
     def send(self, data: memoryview, now: float) -> int:
         """Sends data, and returns how many bytes the connection took."""
@@ -137,7 +141,7 @@ class Connection:
     # ---- the clock
 
     def stall(self, now: float) -> Optional[str]:
-        """Returns what the connection has delayed for too long, in words."""
+        """Returns in words what the connection has delayed for too long; None if nothing."""
         patience, idle = self.limits.patience, self.limits.idle
         if self.outgoing and now - self.taken_at > patience:
             return (f"it took none of its {len(self.outgoing)} bytes of replies for "
@@ -153,7 +157,7 @@ class Connection:
 
     @property
     def bytes_held(self) -> int:
-        """Its share of the bytes held for all connections."""
+        """The connection's share of the bytes held for all connections."""
         return self.incoming.taken + len(self.outgoing)
 
     def clear(self) -> None:

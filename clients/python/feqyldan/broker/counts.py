@@ -8,19 +8,19 @@ from ..service.metrics import ACCEPTED, MEMORY, metric, metrics_of, metrics_of_s
 
 
 class Counts(Accepted):
-    """Counts since the broker began."""
+    """The counts since the broker began."""
 
     def __init__(self) -> None:
         super().__init__()
         self.servers_ended = 0
         self.requests = self.bytes_in = self.bytes_out = 0
-        # By code, that of success among them, which nobody counts.
+        # By status code. The entry of success stays 0.
         self.refusals = [0] * 256
-        # The seconds of the longest request, since the broker began and since that was last told.
+        # The seconds of the longest request: since the broker began, and since the last report.
         self.longest = self.longest_lately = 0.0
 
     def note_gap(self, seconds: float) -> None:
-        """Notes how long a server took to answer a request."""
+        """Notes how many seconds a server took to answer a request."""
         if seconds > self.longest_lately:
             self.longest_lately = seconds
             self.longest = max(self.longest, seconds)

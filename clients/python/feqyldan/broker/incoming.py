@@ -10,18 +10,19 @@ from ..service.visitors import HEAD, LEAST_FRAME
 
 LEAST_LENGTH, GREATEST_LENGTH = wire.LEAST_LENGTH, wire.GREATEST_LENGTH
 CLIENT = struct.Struct(">H")
-# How many bytes of frames are read ahead of a connection: about what a pipe would hold. A longer
-# frame is a long one.
+# Bytes of small frames that are read ahead from a connection, about as many as a pipe holds. A
+# longer frame counts as long.
 AHEAD = 65_536
-# How many bytes of a long frame are moved at once, so that others get their turn.
+# The most bytes of a long frame that are moved in one step, so that other connections get their
+# turn.
 CHUNK = 262_144
-# How many bytes of small frames are a turn: the server takes a millisecond or two for them, and the
-# broker as long. Where others wait for the same server a turn is shorter, so that they share the
+# Bytes of small frames in a turn: the server takes a millisecond or two for them, and the broker as
+# long. If other connections wait for the same server, a turn is shorter, so that they share the
 # broker's time too.
 TURN_BYTES, SHARED_TURN_BYTES = 16_384, 1024
 
-# A request that takes as long as its frame is, and has a short reply; one that may take long, with
-# a short reply; and one of which nothing is known, not even how long its reply is.
+# Kinds of requests. LIGHT: its time grows with its frame, and its reply is short. LONG: it may take
+# long, and its reply is short. UNKNOWN: neither its time nor the length of its reply is known.
 LIGHT, LONG, UNKNOWN = 0, 1, 2
 KINDS = bytearray([UNKNOWN]) * 256
 for _op in (wire.OPEN_CONTEXT, wire.QUERY_IMAGE, wire.WRITE_IMAGE, wire.CREATE_LUT,
@@ -38,8 +39,9 @@ for _op in (wire.RELEASE_CONTEXT, wire.CREATE_IMAGE, wire.WRITE_IMAGE_PGM, wire.
 
 
 class Frames:
-    """Whole frames of one connection, with its number filled in: the bytes, and the client (u16)
-    and the op (u8) of each frame as one number, as the connection sent them."""
+    """Complete frames of one connection, with its client number filled in: their bytes in `pieces`,
+    and their total `size`. `asked` has a number for each frame: the client (u16) and the op (u8)
+    that the connection sent. `long` is how many of the requests may take long."""
 
     __slots__ = ("pieces", "size", "asked", "long")
 
@@ -48,7 +50,7 @@ class Frames:
 
 
 def release_of(number: int) -> Frames:
-    """Returns the request that releases a connection's context."""
+    """Returns the frame that releases a connection's context."""
     return Frames([bytearray(wire.release_context(number))], LEAST_FRAME,
                   [number << 8 | wire.RELEASE_CONTEXT], 1)
 
@@ -73,19 +75,20 @@ class Total:
 
 
 class Incoming:
-    """The bytes that a connection has sent and that aren't passed on yet: small frames, or a long
-    one. The last frame may be incomplete."""
+    """The bytes that a connection has sent and that aren't passed on yet: small frames, or one long
+    frame. The last frame may be incomplete."""
 
     def __init__(self, most: int, total: Total, descriptors: Descriptors) -> None:
         self.most, self.total, self.descriptors = most, total, descriptors
-        # How many bytes of the total it has.
+        # Bytes of the total that are taken for this connection.
         self.taken = 0
         self.held = bytearray()
-        # The bytes of the first frame, once its length is there; or what is wrong with that.
+        # The size of the first frame in bytes, once its length has come; or what is wrong with the
+        # length.
         self.size: Optional[int] = None
         self.fault: Optional[str] = None
-        # The pieces of a long frame, how much of the last of them is filled, and how many bytes are
-        # to come. They are taken one by one, as the bytes come.
+        # The pieces of a long frame, the filled bytes of the last piece, and the bytes that are
+        # still to come. Pieces are allocated one by one, as the bytes come.
         self.pieces: List[bytearray] = []
         self.filled, self.left = 0, 0
 
@@ -101,7 +104,7 @@ class Incoming:
 
     @property
     def has_part(self) -> bool:
-        """Whether there is only an incomplete frame."""
+        """Whether there is an incomplete frame and nothing else."""
         return bool(self.pieces or self.held) and not self.is_whole
 
     def receive(self, sock: socket.socket) -> int:
@@ -131,7 +134,7 @@ class Incoming:
         self.filled = 0
 
     def let_go(self) -> None:
-        """Gives its share of the total back."""
+        """Gives the connection's share of the total back."""
         self.total.give(self.taken)
         self.taken = 0
 
@@ -154,9 +157,9 @@ class Incoming:
                 self.left = self.size - self.filled
 
     def take(self, number: int, long_at_once: int, turn_bytes: int) -> Frames:
-        """Returns the frames of a turn, with this client number filled in; the first one is
-        complete. A limited number of them may take long, and no frame follows one of an unknown
-        kind."""
+        """Returns the frames of a turn, with this client number filled in. The first frame must be
+        complete. At most `long_at_once` of them may take long, and no frame follows one of an
+        unknown kind."""
         frames = (self.take_long(number) if self.pieces else
                   self.take_small(number, long_at_once, turn_bytes))
         self.look()

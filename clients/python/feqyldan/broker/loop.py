@@ -19,17 +19,17 @@ from .counts import Counts, as_metrics
 from .incoming import Total, TotalReached
 from .server import Piece, Server, ServerFault, Turn
 
-# A server that ends within so many seconds and has answered nothing has failed. So many such ends
-# in a row are one of the broker; in between there is a pause.
+# A server has failed if it ends within EARLY_SECONDS and has answered nothing. After FAILURES
+# failures in a row the broker fails; between two starts there is a pause of RESTART_PAUSE seconds.
 EARLY_SECONDS, FAILURES, RESTART_PAUSE = 1.0, 3, 0.25
-# The seconds that a server which has closed its output may take to end.
+# The seconds that a server may take to end after it has closed its output.
 END_SECONDS = 1.0
-# Seconds between two looks at the clock while the broker stops, and while a turn is put off.
+# Seconds between two checks of the clock: while the broker stops, and while a turn is put off.
 STOP_LOOKS, PUT_OFF_LOOKS = 0.1, 0.001
 
 
 class Plan(NamedTuple):
-    """The program to start, the number of servers, and the limit of each one's address space in
+    """The program to start, the number of servers, and the limit of each server's address space in
     bytes."""
 
     command: List[str]
@@ -43,21 +43,22 @@ class Broker(Front):
     def __init__(self, listener: Listener, status: Optional[Listener], plan: Plan,
                  limits: Limits) -> None:
         self.plan, self.limits, self.counts = plan, limits, Counts()
-        # Of each process and each user those connections count too whose context is being released.
+        # The connections of each process and each user include those whose context is being
+        # released.
         super().__init__("broker", listener, status, self.counts, limits, as_metrics)
         self.total = Total(limits.total_held)
         self.numbers: Deque[int] = deque(range(limits.connections))
         self.open: Set[Connection] = set()
-        # Those that have asked while there was no server.
+        # The connections that sent requests while there was no server.
         self.homeless: Set[Connection] = set()
         self.look_seconds = min(1.0, limits.patience / 4, limits.report)
         self.looked_at = self.now
-        # All whose processes aren't gone. How often in a row one has failed; when the next may be
-        # started; what went wrong.
+        # The servers whose processes exist. Then the failures in a row, when the next server may be
+        # started, and the exit status after the last failure.
         self.servers: List[Server] = []
         self.failures, self.starts_from, self.failure = 0, self.now, 0
         self.is_over = False
-        # When the last replies and the servers are waited for no longer, once the broker is to end.
+        # When the broker stops waiting for replies and servers; None until it is told to end.
         self.stops_at: Optional[float] = None
         self.was_told = self.was_told_twice = False
         self.signals = Signals(self.events, self.take_signals)
@@ -89,7 +90,7 @@ class Broker(Front):
         self.manager.is_listening()
 
     def go_round(self) -> None:
-        """Handles what is ready, or waits for it."""
+        """Handles all events that are ready, or waits for one."""
         self.listen_or_not()
         ready = self.events.ready(self.timeout())
         self.now = time.monotonic()
@@ -100,7 +101,7 @@ class Broker(Front):
         self.look_at_clock()
 
     def timeout(self) -> Optional[float]:
-        """Returns the seconds until the clock must be checked; None if nothing can be late."""
+        """Returns the seconds until the clock must be checked; None if nothing has a deadline."""
         if any(server.puts_off for server in self.servers):
             return PUT_OFF_LOOKS
         if self.stops_at is not None:
@@ -117,8 +118,9 @@ class Broker(Front):
     # ---- new connections
 
     def may_listen(self) -> bool:
-        """Returns whether newcomers are accepted. They wait while a number is about to become free,
-        or while there is no server. If all connections are in use, they are turned away."""
+        """Returns whether new connections are accepted or turned away now. They wait while a number
+        is about to become free, or while there is no server. They are turned away if all numbers
+        are in use."""
         has_answer = bool(self.numbers) or len(self.open) >= self.limits.connections
         can_serve = any(server.takes_connections for server in self.servers)
         return has_answer and can_serve and self.stops_at is None
@@ -137,7 +139,8 @@ class Broker(Front):
         return self.admission.reason_against(owner)
 
     def free(self, connection: Connection) -> None:
-        """Frees the number of a connection: no server has a context of it any more."""
+        """Frees the client number of a connection, because no server has a context for it any
+        more."""
         self.numbers.append(connection.number)
         self.admission.let_out(connection.owner)
         server = connection.server
@@ -149,7 +152,7 @@ class Broker(Front):
     # ---- connections
 
     def serve(self, connection: Connection, mask: int) -> None:
-        """Reads from and writes to one connection that is ready."""
+        """Reads from and writes to a connection that is ready."""
         if not connection.is_open:
             return
         try:
@@ -166,13 +169,13 @@ class Broker(Front):
         except TotalReached:
             self.end_greatest()
         except MemoryError:
-            # What was read may be lost.
+            # Bytes that were read may be lost.
             self.end(connection, "the broker has no memory for its frame (--own-memory)")
         if connection.is_open:
             self.settle(connection)
 
     def end_greatest(self) -> None:
-        """Ends the connection with the most bytes held."""
+        """Ends the connection that holds the most bytes."""
         greatest = max(self.open, key=lambda connection: connection.bytes_held)
         self.end(greatest, f"{greatest.bytes_held} bytes of its frames or replies wait, the most "
                            f"of {self.total.bytes} in all (--total-held)")
@@ -182,13 +185,13 @@ class Broker(Front):
             connection.received_at = self.now
             return
         connection.reads = False
-        # Fails where the connection is closed both ways: then nobody waits for replies.
+        # Fails if the connection is closed in both directions: then nobody waits for replies.
         connection.sock.send(b"")
 
     def settle(self, connection: Connection) -> None:
-        """Lets a connection wait for its next turn, or ends it if possible, and watches it for the
-        next events. Replies to frames that came before its end, or before a length out of range,
-        are still sent."""
+        """Puts a connection in line for its next turn, or ends it if it has finished, and watches
+        it for the next events. Replies to frames that came before its end, or before a length out
+        of range, are still sent."""
         if connection.may_ask() and self.stops_at is None:
             self.wait_for_turn(connection)
         if connection.incoming.fault:
@@ -200,7 +203,7 @@ class Broker(Front):
 
     def wait_for_turn(self, connection: Connection) -> None:
         """Puts a connection in its server's line. A new connection gets the server with the fewest
-        connections; a server that may end as others have, or may hang, is chosen last."""
+        connections. A server that may end as others have, or that may hang, is chosen last."""
         if connection.server is None:
             servers = [server for server in self.servers if server.takes_connections]
             if not servers:
@@ -239,8 +242,8 @@ class Broker(Front):
             self.release(connection)
 
     def release(self, connection: Connection) -> None:
-        """Releases the context of a connection that has ended, or frees its number if that is
-        done."""
+        """Releases the context of a connection that has ended; frees the connection's number if its
+        context is released already."""
         server = connection.server
         has_context = connection.is_known and not connection.is_leaving
         if server is not None and has_context and server.lost_at is None and self.stops_at is None:
@@ -249,10 +252,10 @@ class Broker(Front):
         else:
             self.free(connection)
 
-    # ---- what servers are asked, and answer
+    # ---- requests to servers, and replies
 
     def pass_on(self, server: Server) -> None:
-        """Begins the turns that can begin, and writes what the server takes."""
+        """Begins the turns that can begin now, and writes as much as the server takes."""
         for connection in server.begin_turns(self.now):
             if connection.is_open:
                 self.watch(connection)
@@ -261,7 +264,7 @@ class Broker(Front):
         try:
             written = server.write()
         except OSError:
-            # It is about to end; what it has answered is still read.
+            # The server is about to end; its replies are still read.
             self.close_input(server)
             return
         for connection in written:
@@ -311,7 +314,7 @@ class Broker(Front):
                 self.watch(connection)
 
     def complete(self, server: Server, turn: Turn) -> None:
-        """Handles the end of a turn that a server has answered."""
+        """Handles the end of a turn: the server has answered all of its requests."""
         server.complete(turn, self.now)
         if turn.connection.is_open:
             self.settle(turn.connection)
@@ -321,7 +324,7 @@ class Broker(Front):
     # ---- servers that begin and end
 
     def begin_servers(self) -> None:
-        """Starts as many servers as configured. Raises OSError if one can't be started."""
+        """Starts the configured number of servers. Raises OSError if one can't be started."""
         while not self.has_servers():
             server = Server(self.plan.command, self.plan.memory, self.counts, self.now)
             self.servers.append(server)
@@ -338,8 +341,8 @@ class Broker(Front):
             self.starts_from = self.now + ACCEPT_PAUSE
 
     def reload(self) -> None:
-        """Starts new servers for new connections. The existing ones end when their last connection
-        does."""
+        """Starts new servers for new connections. Each existing server ends when its last
+        connection ends."""
         before = [server for server in self.servers if server.takes_connections]
         for server in before:
             server.is_retiring = True
@@ -386,7 +389,7 @@ class Broker(Front):
         self.settle(connection)
 
     def bury(self) -> None:
-        """Drops the servers whose processes have ended, and starts others."""
+        """Removes the servers whose processes have ended, and starts others."""
         for server in [*self.servers]:
             if self.is_overdue(server):
                 server.process.kill()
@@ -398,8 +401,8 @@ class Broker(Front):
             self.begin_again()
 
     def is_overdue(self, server: Server) -> bool:
-        """Returns whether a server should have ended: its output or its input was closed long
-        enough ago."""
+        """Returns whether a server should have ended by now: its output or its input was closed too
+        long ago."""
         if server.lost_at is not None:
             return self.now > server.lost_at + END_SECONDS
         return server.closed_at is not None and self.now > server.closed_at + self.limits.grace
@@ -422,8 +425,8 @@ class Broker(Front):
         return not server.answers and self.now < server.began_at + EARLY_SECONDS
 
     def give_up(self) -> None:
-        """Stops the broker if no server is left that has ever answered. Otherwise goes on with
-        those, and tries again later."""
+        """Stops the broker if it has no server that has ever answered. Otherwise it goes on with
+        those servers, and tries again later."""
         left = [server for server in self.servers if server.closed_at is None and server.answers]
         if not left:
             self.stop()
@@ -444,7 +447,7 @@ class Broker(Front):
         self.end_hung()
         self.bury()
         self.end_late_visitors()
-        # Where the broker itself had no time, bytes may wait that it hasn't moved yet.
+        # If the broker itself had no time, it may not have moved bytes that have come.
         if late < self.look_seconds:
             self.end_stalled()
         self.report(len(self.open))
@@ -456,7 +459,7 @@ class Broker(Front):
                 self.end(connection, words)
 
     def end_hung(self) -> None:
-        """Ends the servers that have worked on one request for longer than allowed."""
+        """Ends the servers that have worked on a request for longer than allowed."""
         longest = self.limits.longest
         if longest is None:
             return
@@ -496,7 +499,7 @@ class Broker(Front):
                     self.lines.say("starts new servers for new connections after SIGHUP")
                     self.reload()
             elif self.was_told:
-                # Whoever asks twice doesn't wait.
+                # A second signal ends the waiting.
                 self.was_told_twice, self.stops_at = True, self.now
             else:
                 self.lines.say(f"ends because of {which.name}")
@@ -504,8 +507,8 @@ class Broker(Front):
                 self.stop()
 
     def stop(self) -> None:
-        """Accepts nothing more. Requests that a server already has are still answered; others are
-        not passed on."""
+        """Accepts nothing more. Servers still answer the requests that they have; other requests
+        are dropped."""
         if self.stops_at is not None:
             return
         self.stops_at = self.now + self.limits.grace
@@ -526,7 +529,7 @@ class Broker(Front):
                                                            for connection in self.open))
 
     def finish(self) -> int:
-        """Ends what is left, and returns the exit status."""
+        """Ends the connections and servers that are left, and returns the exit status."""
         for connection in [*self.open]:
             self.end(connection)
         why = ("the broker was told twice to end" if self.was_told_twice else

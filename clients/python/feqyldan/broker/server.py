@@ -1,5 +1,5 @@
-"""A server's process, with the connections that wait for it, the requests written to it, and the
-replies that it owes."""
+"""A server's process: the connections that wait for it, the requests that are written to it, and
+the replies that it owes."""
 
 import heapq
 import itertools
@@ -15,31 +15,32 @@ from .connection import TURN_SECONDS, Connection
 from .counts import Counts
 from .incoming import AHEAD, CHUNK, CLIENT, SHARED_TURN_BYTES, TURN_BYTES, Frames
 
-# A reply's length, its client, its op and its code; the bytes of a reply before its body, and the
-# least length.
+# The head of a reply: its length, client number, op and code; its size in bytes; and the least
+# length field.
 REPLY = struct.Struct(">IHBB")
 REPLY_HEAD, LEAST_REPLY = 8, 4
-# How many buffers are written at once.
+# The most buffers that one call writes.
 PIECES_AT_ONCE = 64
-# What a request and a byte of it are expected to take by themselves, in seconds.
+# The seconds that a request, and each byte of it, are expected to take at least.
 REQUEST_SECONDS, BYTE_SECONDS = 1e-6, 1e-9
-# What a connection counts as having had of a server's time when it comes: so those who wait for a
-# turn get it, however many come and go.
+# The seconds of a server's time that a new connection counts as having used. So the connections in
+# line get their turn, however many connections come and go.
 ARRIVAL_SECONDS = 0.01
 
 
-# Where a connection's last turn took so long, its next one is put off for a part of that, at most
-# some milliseconds, where one that had less was just answered: who asks one request after another
-# waits for one long turn, and not for one each time.
+# A connection's turn is put off if its last turn took LONG_TURN seconds or more, and a connection
+# that had used less was just answered. It is put off by a part of that last turn, at most
+# MOST_PUT_OFF seconds. So a program that sends one request after another waits for one long turn,
+# and not for one each time.
 LONG_TURN, PART_PUT_OFF, MOST_PUT_OFF = 0.02, 0.05, 0.02
 
 
 class ServerFault(Exception):
-    """The server's program wrote something that isn't the reply to its request."""
+    """The server's program wrote bytes that aren't the reply to its request."""
 
 
 class Turn:
-    """The requests of one connection that the server has."""
+    """The requests of one connection that are with the server."""
 
     __slots__ = ("connection", "asked", "long", "size", "began", "least", "expected", "answered",
                  "unwritten")
@@ -49,7 +50,7 @@ class Turn:
         self.size, self.began = frames.size, now
         self.least = len(frames.asked) * REQUEST_SECONDS + self.size * BYTE_SECONDS
         self.expected = self.least + frames.long * connection.pace
-        # How many of the replies have begun, and how many bytes of the requests aren't written yet.
+        # How many of the replies have begun, and the bytes of the requests that aren't written yet.
         self.answered, self.unwritten = 0, self.size
 
     @property
@@ -58,16 +59,16 @@ class Turn:
 
 
 class Line:
-    """The connections that wait for a turn. The next turn goes to the one that has used the least
-    of the server's time, so a short request comes before those of connections that take much. A
-    connection that was away gets no credit for the time that it didn't use."""
+    """The connections that wait for a turn. The next turn goes to the connection that has used the
+    least of the server's time, so a short request comes before those of connections that use much.
+    A connection that was away gets no credit for the time that it didn't use."""
 
     def __init__(self) -> None:
-        # A place is its connection's as long as that says so.
+        # A place counts as long as its connection has it as `place`.
         self.places: List[Tuple[float, int, Connection]] = []
         self.ticks = itertools.count()
         self.waiting = 0
-        # The time that the connection had had whose turn came last.
+        # The time that the connection of the last turn had used before that turn, in seconds.
         self.now = 0.0
 
     def __len__(self) -> int:
@@ -94,8 +95,8 @@ class Line:
         return connection
 
     def forget(self, connection: Connection) -> None:
-        """Takes a connection out of the line. Its entry is removed later together with others, so
-        that such entries never outnumber the valid ones by far."""
+        """Takes a connection out of the line. Its entry is removed later together with others,
+        early enough that such entries don't outnumber the valid ones by far."""
         if connection.place is not None:
             connection.place = None
             self.waiting -= 1
@@ -123,8 +124,8 @@ class Server:
 
     def __init__(self, command: List[str], memory: Optional[int], counts: Counts,
                  now: float) -> None:
-        # In a session of its own: what ends the broker from a terminal reaches it by the end of its
-        # input alone.
+        # In a session of its own, so that a terminal that ends the broker doesn't end it; the end
+        # of its input does.
         self.process = subprocess.Popen(
             command, stdin=subprocess.PIPE, stdout=subprocess.PIPE, bufsize=0,
             start_new_session=True)
@@ -134,30 +135,31 @@ class Server:
         for pipe in (self.input, self.output):
             os.set_blocking(pipe, False)
             enlarge(pipe)
-        # What the broker itself asks isn't counted.
+        # Requests of the broker itself go to a count that isn't reported.
         self.counts, self.uncounted = counts, Counts()
-        # The connections whose contexts it has, those that are being released among them.
+        # The connections whose contexts the server has, also those that are being released.
         self.members: Set[Connection] = set()
         self.line = Line()
-        # What isn't written yet, each piece with its turn; and the turns that are owed replies,
-        # with the seconds that these are expected to take.
+        # The bytes that aren't written yet, each piece with its turn; the turns that wait for
+        # replies; and the seconds that these are expected to take.
         self.waiting: Deque[Tuple[memoryview, Turn]] = deque()
         self.owed: Deque[Turn] = deque()
         self.expected = 0.0
-        # What it wrote last: the beginning of a reply whose head isn't whole stays in it. How many
-        # bytes of the reply that has begun are to come.
+        # The bytes that the server wrote last, after the beginning of an incomplete reply head; and
+        # how many bytes of the current reply are still to come.
         self.buffer = bytearray(CHUNK)
         self.view = memoryview(self.buffer)
         self.rest, self.left = 0, 0
         self.answers = 0
         self.began_at = self.moved_at = self.turned_at = now
-        # Whose turn was the last, and whether a long turn is put off since that one may ask again.
+        # The connection of the last turn; and whether a long turn is put off because it may ask
+        # again.
         self.last: Optional[Connection] = None
         self.puts_off = False
-        # Whether it gets no new connections; whether it is told to end; whether its input takes
-        # nothing now.
+        # Whether the server gets no new connections; whether it was told to end; whether its input
+        # takes nothing now.
         self.is_retiring = self.is_told = self.is_blocked = False
-        # When its input was ended; since when it is of no use.
+        # When its input was closed; when its output was found closed or wrong.
         self.closed_at: Optional[float] = None
         self.lost_at: Optional[float] = None
 
@@ -169,14 +171,14 @@ class Server:
         return not self.is_retiring and self.closed_at is None
 
     def add(self, connection: Connection) -> None:
-        """Adds a connection that has asked nothing yet."""
+        """Adds a connection that has sent no request yet."""
         connection.server, connection.used = self, self.line.now + ARRIVAL_SECONDS
         self.members.add(connection)
 
     # ---- requests
 
     def begin_turns(self, now: float) -> List[Connection]:
-        """Begins turns as long as those that have begun aren't expected to take long. Returns their
+        """Begins turns as long as the turns in progress aren't expected to take long. Returns their
         connections."""
         begun: List[Connection] = []
         self.puts_off = False
@@ -185,8 +187,8 @@ class Server:
             self.puts_off = self.may_be_asked_first(now)
             if self.puts_off:
                 break
-            # No long turn begins beside what is quick: who is answered in a moment may ask again
-            # before it.
+            # No long turn begins next to quick ones: a connection that is answered in a moment may
+            # send its next request before the long turn.
             if self.owed and self.line.first.took >= LONG_TURN:
                 break
             connection = self.line.take()
@@ -196,8 +198,8 @@ class Server:
         return begun
 
     def may_be_asked_first(self, now: float) -> bool:
-        """Returns whether the last answered connection may soon ask again, and come before the
-        first in line, which takes long."""
+        """Returns whether the connection that was answered last may soon send another request,
+        which should come before the first turn in line, a long one."""
         last, first = self.last, self.line.first
         if last is None or self.owed or first.took < LONG_TURN:
             return False
@@ -218,7 +220,7 @@ class Server:
         self.counts_of(turn).bytes_in += turn.size
 
     def write(self) -> List[Connection]:
-        """Writes what the server takes. Returns the connections whose turns are now written
+        """Writes as much as the server takes. Returns the connections whose turns are now written
         completely."""
         written: List[Connection] = []
         while self.waiting:
@@ -242,9 +244,9 @@ class Server:
     # ---- replies
 
     def replies(self, now: float) -> Iterator[Piece]:
-        """Yields the bytes that the server wrote, split at the ends of turns, with the clients that
-        the connections sent. Each piece is valid until the next one is taken. Raises EOFError at
-        the end."""
+        """Yields the bytes that the server wrote, split at the ends of turns, with the client
+        numbers that the connections sent. Each piece is valid until the next one is taken. Raises
+        EOFError at the end of the server's output."""
         with self.view[self.rest :] as room:
             count = os.readv(self.output, [room])
         if not count:
@@ -269,8 +271,8 @@ class Server:
         return Piece(turn, self.view[start:end], not self.left and turn.answered == len(turn.asked))
 
     def scan(self, at: int, end: int) -> int:
-        """Fills in the clients that the connection sent in the replies to the first turn, as far as
-        they have come. Returns where the last reply that has begun ends."""
+        """Fills in the client numbers that the connection sent in the replies to the first turn, as
+        far as the replies have come. Returns where the last reply that has begun ends."""
         if not self.owed:
             raise ServerFault("a reply without a request")
         turn, buffer = self.owed[0], self.buffer
@@ -294,7 +296,7 @@ class Server:
         return at
 
     def complete(self, turn: Turn, now: float) -> None:
-        """Notes that the first pending turn has its replies."""
+        """Notes that all replies to the first pending turn have come."""
         self.owed.popleft()
         self.expected = self.expected - turn.expected if self.owed else 0.0
         turn.connection.has_taken(max(now - max(self.turned_at, turn.began), turn.least), turn.long)
@@ -305,7 +307,7 @@ class Server:
     # ---- its end
 
     def close_input(self, now: float) -> None:
-        """Closes the server's input, so that it ends."""
+        """Closes the server's input, so that the server ends."""
         if self.closed_at is None:
             self.closed_at = now
             assert self.process.stdin is not None
@@ -321,10 +323,10 @@ class Server:
         self.line.clear()
 
     def seconds_at_request(self, now: float) -> float:
-        """Returns how long the server has worked on its request; 0 without one."""
+        """Returns the seconds that the server has worked on its request; 0 if it has none."""
         return now - self.moved_at if self.owed else 0.0
 
     def status(self) -> Optional[int]:
-        """Returns its exit status, as a shell has it for a signal; None while it runs."""
+        """Returns the exit status, as a shell reports a signal; None while the server runs."""
         status = self.process.poll()
         return status if status is None or status >= 0 else 128 - status

@@ -3,8 +3,8 @@ The door: a Unix socket at which each connection gets a server of its own.
 
     python3 -m feqyldan.door --socket PATH [OPTION..] -- PROGRAM serve [WORD..]
 
-listens at the path. For each connection it starts the program, with the connection as its standard
-input and output. No byte of a request or a reply passes through the door.
+The door listens at the path. For each connection it starts the program, with the connection as its
+standard input and output. No byte of a request or a reply passes through the door.
 
 What connections can rely on, and how it is ensured:
 

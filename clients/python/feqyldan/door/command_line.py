@@ -66,7 +66,7 @@ def add_times(made: argparse.ArgumentParser) -> None:
 
 
 def plan_of(told: argparse.Namespace) -> Plan:
-    """Returns the plan: which server is started, and how."""
+    """Returns the plan: which program each server runs, and how."""
     total = part_of_memory(SERVERS_PART) if told.total_memory == 0 else told.total_memory
     memory = told.memory
     if memory == 0:

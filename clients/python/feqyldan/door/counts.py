@@ -5,17 +5,17 @@ from typing import Any, Dict, Tuple
 from ..service.admission import Accepted
 from ..service.metrics import ACCEPTED, MEMORY, metric, metrics_of, metrics_of_servers
 
-# What a server's status says (docs/wire.md). Its own words go nowhere: most would be of programs
-# that went before their replies came.
+# The meanings of a server's exit status (docs/wire.md). The server's own messages aren't logged:
+# most are of programs that left before their replies came.
 MEANINGS = {
     2: "its arguments are refused", 3: "its connection's frames have a fault, or ended within one",
     5: "there was no memory to start with"}
-# The statuses of servers whose connection ended, between two frames or otherwise.
+# The exit statuses of servers whose connection ended.
 USUAL = (0, 4)
 
 
 class Counts(Accepted):
-    """Counts since the door began."""
+    """The counts since the door began."""
 
     def __init__(self) -> None:
         super().__init__()

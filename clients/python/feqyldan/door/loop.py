@@ -16,14 +16,14 @@ from ..service.signals import Signals
 from .counts import USUAL, Counts, as_metrics, meaning_of
 from .server import Plan, Server, chosen
 
-# Seconds between two looks at the clock.
+# Seconds between two checks of the clock.
 LOOK_SECONDS = 1.0
 
 
 class Limits(NamedTuple):
-    """The limits of the door. Numbers of connections at the same time: all, of one process, of one
-    user. Seconds: for pending requests once a connection or the door ends, and between two lines of
-    counts."""
+    """The limits of the door. Numbers of connections at the same time: in all, of one process, of
+    one user. Seconds: for pending requests after a connection or the door ends, and between two
+    reports of the counts."""
 
     connections: int
     per_process: int
@@ -33,24 +33,24 @@ class Limits(NamedTuple):
 
 
 def has_ended(sock: socket.socket) -> bool:
-    """Returns whether the other end of a connection is gone."""
+    """Returns whether the program at the other end of a connection has left."""
     poll = select.poll()
     poll.register(sock.fileno(), 0)
     return bool(poll.poll(0))
 
 
 class Door(Front):
-    """The door: its listening socket, and the servers, each with a connection."""
+    """The door: its listening socket, and the servers, each with its connection."""
 
     def __init__(self, listener: Listener, status: Optional[Listener], plan: Plan,
                  limits: Limits) -> None:
         self.plan, self.limits, self.counts = plan, limits, Counts()
         self.words = plan.command
-        # By their process numbers.
+        # The servers by their process numbers.
         self.servers: Dict[int, Server] = {}
         super().__init__("door", listener, status, self.counts, limits, as_metrics)
         self.looked_at = self.now
-        # When servers are waited for no longer, once the door is to end.
+        # When the door stops waiting for its servers; None until it is told to end.
         self.stops_at: Optional[float] = None
         self.was_told_twice = False
         self.signals = Signals(self.events, self.take_signals)
@@ -80,7 +80,7 @@ class Door(Front):
         return 0
 
     def timeout(self) -> Optional[float]:
-        """Returns the seconds until the clock must be checked; None if nothing can be late."""
+        """Returns the seconds until the clock must be checked; None if nothing has a deadline."""
         if self.stops_at is not None:
             return max(0.0, min(LOOK_SECONDS, self.stops_at - self.now))
         is_quiet = not (self.status or self.admission.turned_away.present
@@ -119,14 +119,14 @@ class Door(Front):
         self.events.watch_end(sock.fileno(), partial(self.leave, server))
 
     def leave(self, server: Server, _mask: int) -> None:
-        """Handles the end of a connection: its server has the grace to end."""
+        """Handles the end of a connection: its server has the seconds of --grace to end."""
         self.events.forget(server.sock.fileno())
         server.left_at = self.now
 
     # ---- servers that end
 
     def bury(self) -> None:
-        """Notes all servers that have ended."""
+        """Removes all servers that have ended, and counts them."""
         while self.servers:
             try:
                 process, status, usage = os.wait4(-1, os.WNOHANG)
@@ -144,7 +144,7 @@ class Door(Front):
         self.descriptors.close(server.sock)
         self.admission.let_out(server.owner)
         self.counts.ended += 1
-        # One that wrote to a program that had gone is ended by that.
+        # SIGPIPE ends a server that wrote to a program that had left.
         if status not in USUAL and status != -signal.SIGPIPE:
             self.counts.failed += 1
             self.lines.say(f"{server} {meaning_of(status)}")
@@ -154,7 +154,7 @@ class Door(Front):
         os.kill(server.process, signal.SIGKILL)
 
     def end_left(self) -> None:
-        """Kills the servers that go on after their connections ended."""
+        """Kills the servers that still run --grace seconds after their connections ended."""
         for server in self.servers.values():
             if server.left_at is not None and self.now > server.left_at + self.limits.grace:
                 server.left_at = None
@@ -190,14 +190,14 @@ class Door(Front):
             elif which == signal.SIGHUP:
                 self.reload()
             elif self.stops_at is not None:
-                # Whoever asks twice doesn't wait.
+                # A second signal ends the waiting.
                 self.was_told_twice, self.stops_at = True, self.now
             else:
                 self.lines.say(f"ends because of {which.name}")
                 self.stop()
 
     def reload(self) -> None:
-        """Chooses the program again, for new connections."""
+        """Finds the program again, for new connections."""
         try:
             self.words = chosen(self.plan.command)
         except (Unusable, OSError) as reason:
@@ -206,7 +206,7 @@ class Door(Front):
             self.lines.say(f"starts {self.words[0]} for new connections after SIGHUP")
 
     def stop(self) -> None:
-        """Accepts nothing more, and closes the servers' inputs."""
+        """Accepts no more connections, and closes the servers' inputs."""
         self.stops_at = self.now + self.limits.grace
         self.stop_listening()
         for server in self.servers.values():

@@ -15,20 +15,20 @@ from ..service.lines import Unusable
 from ..service.machine import limit_memory
 from ..service.metrics import memory_of
 
-# How much of its replies a server may have written that aren't taken yet, as far as the system
-# allows that: it is then woken up less often.
+# Bytes of replies that a server may write ahead of the program, as far as the system allows it. The
+# more, the less often the server wakes up.
 SEND_BYTES = 1 << 20
-# The seconds that the program may take to end by itself where its input is empty.
+# The seconds that a server with empty input may take to end.
 TRIAL_SECONDS = 10.0
-# Where a package has the programs that its starter chooses from.
+# Where a package has the programs that its starter script chooses from.
 PROGRAMS = os.path.join("..", "lib", "feqyldan")
 TICKS = os.sysconf("SC_CLK_TCK")
 
 
 class Plan(NamedTuple):
-    """The plan of a server: the program, the limits of address space in bytes of each server and of
-    all, the nice value, whether each runs as its connection's user, and the seconds for which
-    replies may wait to be read and requests to come."""
+    """The plan of a server: the program; the limits of address space, in bytes, of each server and
+    of all; the nice value; whether each server runs as its connection's user; and the seconds for
+    which replies may wait to be read, and requests may take to come."""
 
     command: List[str]
     memory: Optional[int]
@@ -41,8 +41,8 @@ class Plan(NamedTuple):
 
 def chosen(command: List[str]) -> List[str]:
     """Returns the command with the path of its program, so that no start has to search for it. A
-    package's starter, which is a script, is replaced by the program that it would start. Raises
-    Unusable if the program doesn't exist, or doesn't serve."""
+    package's starter script is replaced by the program that it would start. Raises Unusable if the
+    program doesn't exist, or doesn't serve."""
     path = shutil.which(command[0])
     if path is None:
         raise Unusable(f"there is no program {command[0]} that can be run: give the server's path "
@@ -59,7 +59,7 @@ def chosen(command: List[str]) -> List[str]:
 
 
 def check(words: List[str]) -> None:
-    """Raises Unusable if a server with empty input doesn't succeed."""
+    """Raises Unusable if the command doesn't succeed with empty input."""
     try:
         status = subprocess.run(words, stdin=subprocess.DEVNULL, stdout=subprocess.DEVNULL,
                                 timeout=TRIAL_SECONDS, check=False).returncode
@@ -80,26 +80,26 @@ def set_time(sock: socket.socket, option: int, seconds: float) -> None:
 
 
 class Server:
-    """The process of a server, and a copy of its connection. Through the copy the door sees the
-    program leave, and ends the server's input."""
+    """The process of a server, and a copy of its connection. With the copy the door sees when the
+    program leaves, and ends the server's input."""
 
     def __init__(self, sock: socket.socket, owner: Owner, words: List[str], plan: Plan,
                  now: float) -> None:
         self.sock, self.owner, self.began_at = sock, owner, now
-        # Since when nobody is at the other end.
+        # When the program at the other end left; None while it is there.
         self.left_at: Optional[float] = None
         sock.setblocking(True)
         sock.setsockopt(socket.SOL_SOCKET, socket.SO_SNDBUF, SEND_BYTES)
         set_time(sock, socket.SO_SNDTIMEO, plan.patience)
         if plan.idle is not None:
             set_time(sock, socket.SO_RCVTIMEO, plan.idle)
-        # In a session of its own: what ends the door from a terminal doesn't reach it. What it says
-        # is said of its status too.
+        # In a session of its own, so that a terminal that ends the door doesn't end it. Its
+        # messages aren't needed: its status says the same.
         started: Dict[str, Any] = {
             "stdin": sock.fileno(), "stdout": sock.fileno(), "stderr": subprocess.DEVNULL,
             "start_new_session": True}
         if plan.is_of_peer:
-            # Another user's process isn't this one's to limit, once it runs.
+            # Once it runs, the process of another user can't be limited from here.
             started.update(user_of(sock), preexec_fn=partial(limit, 0, plan))
         process = subprocess.Popen(words, **started)
         self.process = process.pid
@@ -112,7 +112,8 @@ class Server:
         return f"the server of process {self.process} for {self.owner}"
 
     def end_input(self) -> None:
-        """Ends the server's input: requests that were sent are still answered, and then it ends."""
+        """Ends the server's input. The server still answers requests that were sent, and then
+        ends."""
         with contextlib.suppress(OSError):
             self.sock.shutdown(socket.SHUT_RD)
 
@@ -128,7 +129,7 @@ class Server:
 
 def user_of(sock: socket.socket) -> Dict[str, Any]:
     """Returns the settings that run a process as the user and the group at the other end, without
-    further groups."""
+    supplementary groups."""
     _process, user, group = struct.unpack("iII",
                                           sock.getsockopt(socket.SOL_SOCKET, socket.SO_PEERCRED,
                                                           12))
@@ -136,12 +137,12 @@ def user_of(sock: socket.socket) -> Dict[str, Any]:
 
 
 def limit(process: int, plan: Plan) -> None:
-    """Limits a process; this one if the number is 0."""
+    """Limits a process; the calling one if the number is 0."""
     limit_memory(process, plan.memory)
     if plan.nice:
         with contextlib.suppress(OSError):
             os.setpriority(os.PRIO_PROCESS, process, plan.nice)
-            # Its session may be a group of its own to the scheduler, which is as nice by itself.
+            # The scheduler may have a separate nice value for the session (autogroup).
             with open(f"/proc/{process or 'self'}/autogroup", "w") as file:
                 file.write(str(plan.nice))
 
@@ -155,7 +156,7 @@ def processor_seconds_of(process: int) -> float:
 
 
 def bytes_of(process: int) -> Tuple[int, int]:
-    """Returns how many bytes a process has read and written; zeros if it isn't known."""
+    """Returns how many bytes a process has read and written; zeros if they aren't known."""
     with contextlib.suppress(OSError), open(f"/proc/{process}/io") as file:
         found = dict(line.split(": ") for line in file)
         return int(found["rchar"]), int(found["wchar"])

@@ -11,8 +11,8 @@ from .lines import Lines
 from .listener import Listener
 from .visitors import turned_away
 
-# How many connections are accepted before others have their turn; the seconds until that is tried
-# again when the system had no room for one.
+# Connections accepted before other events have their turn; and the seconds until the next try after
+# the system had no resources for a connection.
 ACCEPTED_AT_ONCE, ACCEPT_PAUSE = 4, 1.0
 
 
@@ -34,7 +34,7 @@ def owner_of(sock: socket.socket) -> Owner:
 
 
 class Accepted:
-    """The numbers of connections that were accepted and turned away, and other counts."""
+    """Counts of the connections that were accepted and turned away, and other counts."""
 
     def __init__(self) -> None:
         self.accepted = self.turned_away = 0
@@ -44,12 +44,12 @@ class Accepted:
         raise NotImplementedError
 
     def as_words(self, before: Tuple[float, ...]) -> str:
-        """Returns what has happened since the counts were these, in words."""
+        """Returns in words what has happened since the counts were `before`."""
         raise NotImplementedError
 
 
 class Admission:
-    """Accepts connections and counts those that each process and each user has."""
+    """Accepts connections, and counts those of each process and of each user."""
 
     def __init__(self, per_process: int, per_user: int, counts: Accepted, lines: Lines,
                  events: Events, descriptors: Descriptors) -> None:
@@ -57,7 +57,7 @@ class Admission:
         self.lines, self.descriptors = lines, descriptors
         self.processes: "Counter[Owner]" = Counter()
         self.users: "Counter[int]" = Counter()
-        # Which processes were turned away, which is said once a minute.
+        # The processes that were turned away since the last report. Only the first time is logged.
         self.told: Set[Owner] = set()
         self.turned_away = turned_away(events, descriptors)
 
@@ -71,7 +71,7 @@ class Admission:
         return sock, owner_of(sock)
 
     def reason_against(self, owner: Owner) -> Optional[str]:
-        """Returns why a process gets no connection, in words."""
+        """Returns in words why a process gets no connection; None if it gets one."""
         if self.processes[owner] >= self.per_process:
             return f"it has {self.processes[owner]} connections, the limit (--per-process)"
         if self.users[owner.user] >= self.per_user:

@@ -3,9 +3,9 @@ Handles descriptors that a program sends along with its bytes (SCM_RIGHTS). Noth
 Closing the last copy of one may take as long as its sender likes: a TCP socket that lingers with
 unsent bytes waits for up to 2^15 seconds, and a message can have 253 of them.
 
-Linux refuses them at the sender if a socket says so (SO_PASSRIGHTS, from 6.16 on). On older systems
-a separate process closes them, together with the sockets in which unread ones may wait. That
-process is killed if it hangs: a process that exits waits for nothing.
+Linux refuses descriptors at the sender if the receiving socket asks for that (SO_PASSRIGHTS, from
+6.16 on). On older systems a separate process closes them, together with the sockets in which unread
+ones may wait. That process is killed if it hangs: a process that exits waits for nothing.
 """
 
 import array
@@ -16,12 +16,13 @@ import socket
 from typing import Iterator, List, Optional, Tuple
 
 SO_PASSRIGHTS = 83
-# A message has at most so many descriptors.
+# The most descriptors in a message.
 MOST_SENT = 253
 
 
 def refuse(sock: socket.socket) -> bool:
-    """Lets a socket, and those that it accepts, refuse descriptors. Returns whether Linux can."""
+    """Makes a socket, and the sockets that it accepts, refuse descriptors. Returns whether Linux
+    can."""
     with contextlib.suppress(OSError):
         sock.setsockopt(socket.SOL_SOCKET, SO_PASSRIGHTS, 0)
         return True
@@ -63,7 +64,7 @@ class Descriptors:
         if self.are_refused or sock.fileno() < 0:
             sock.close()
         else:
-            # The other end sees it now, whenever the last copy is closed.
+            # The other end sees the end now, even if the last copy is closed later.
             with contextlib.suppress(OSError):
                 sock.shutdown(socket.SHUT_RDWR)
             with self.held_elsewhere([sock.fileno()]):
@@ -71,10 +72,10 @@ class Descriptors:
 
     @contextlib.contextmanager
     def held_elsewhere(self, descriptors: List[int]) -> Iterator[None]:
-        """A context in which closing a descriptor never closes its last copy: another process has
-        that, and closes it after the context."""
+        """Runs a `with` in which closing a descriptor never closes its last copy. Another process
+        has that copy, and closes it after the `with`."""
         if not self.hand_over(descriptors):
-            # It hangs, or has ended.
+            # The other process hangs, or has ended.
             self.end()
             self.hand_over(descriptors)
         yield
@@ -93,7 +94,7 @@ class Descriptors:
 
 
 class Closer:
-    """A process that closes the descriptors that it is sent, once a message without descriptors
+    """A process that receives descriptors, and closes them when a message without descriptors
     comes."""
 
     def __init__(self) -> None:
@@ -116,15 +117,14 @@ class Closer:
 
     def kill(self) -> None:
         self.sock.close()
-        # The door has waited for it if it ended by itself.
+        # If the process ended by itself, the door has waited for it already.
         with contextlib.suppress(ProcessLookupError, ChildProcessError):
             os.kill(self.process, signal.SIGKILL)
             os.waitpid(self.process, 0)
 
 
 def close_all_sent(source: socket.socket) -> None:
-    """Drops everything of the process that it is a copy of, and closes the descriptors that
-    come."""
+    """Closes the descriptors that this child of a fork inherited, then those that it receives."""
     signal.set_wakeup_fd(-1)
     for which in (signal.SIGTERM, signal.SIGINT, signal.SIGHUP):
         signal.signal(which, signal.SIG_IGN)

@@ -8,15 +8,15 @@ Handler = Callable[[int], None]
 
 
 class Events:
-    """The watched descriptors, each with the function that handles it when it is ready. It uses
-    epoll directly: the layer of `selectors` costs as much as a small request."""
+    """The watched descriptors, each with the function that handles its events. Uses epoll directly,
+    because the layer of `selectors` costs as much as a small request."""
 
     def __init__(self) -> None:
         self.epoll = select.epoll()
         self.handlers: Dict[int, Handler] = {}
 
     def watch(self, descriptor: int, wanted: int, handler: Handler) -> None:
-        """Watches a descriptor for READ, WRITE or both; stops watching it for 0."""
+        """Watches a descriptor for READ, WRITE or both. For 0, stops watching it."""
         if not wanted:
             self.forget(descriptor)
             return
@@ -27,7 +27,7 @@ class Events:
         self.handlers[descriptor] = handler
 
     def watch_end(self, descriptor: int, handler: Handler) -> None:
-        """Watches a connection only for the end of both directions."""
+        """Watches a connection only for the end of both of its directions."""
         self.epoll.register(descriptor, 0)
         self.handlers[descriptor] = handler
 
@@ -37,8 +37,8 @@ class Events:
             self.epoll.unregister(descriptor)
 
     def ready(self, seconds: Optional[float]) -> List[Tuple[Handler, int]]:
-        """Returns the events within some seconds. A descriptor that is at its end or broken is
-        ready for everything."""
+        """Returns the events that come within this many seconds. A descriptor at its end, or
+        broken, is ready for everything."""
         return [
             (self.handlers[descriptor],
              (READ if mask & ~WRITE else 0) | (WRITE if mask & ~READ else 0))

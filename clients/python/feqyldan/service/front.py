@@ -1,4 +1,4 @@
-"""The side of a door or a broker that programs and operators see: it listens, admits or turns away
+"""The part of a door or a broker that programs and operators see. It listens, admits or turns away
 connections, reports its state, and writes messages."""
 
 import socket
@@ -15,7 +15,7 @@ from .visitors import StatusSocket
 
 
 class Front:
-    """The base class of the door and the broker. The methods at the end are theirs to define."""
+    """The base class of the door and the broker, which define the methods at the end."""
 
     def __init__(self, name: str, listener: Listener, status: Optional[Listener], counts: Accepted,
                  limits: Any, as_metrics: Callable[[Dict[str, Any]], str]) -> None:
@@ -32,7 +32,7 @@ class Front:
         self.is_listening = False
 
     def has_news(self) -> bool:
-        """Returns whether something has happened that wasn't reported yet."""
+        """Returns whether something has happened that isn't reported yet."""
         return self.reported != self.admission.counts.told()
 
     # ---- new connections
@@ -70,7 +70,7 @@ class Front:
             self.status.look_at_clock(self.now)
 
     def report(self, connections: int) -> None:
-        """Reports what has happened since the last report, once a minute by default."""
+        """Reports what has happened since the last report, at most once a minute by default."""
         if self.now - self.reported_at < self.report_seconds:
             return
         counts = self.admission.counts
@@ -86,25 +86,25 @@ class Front:
         self.admission.turned_away.end_all()
 
     def close(self) -> None:
-        """Closes its open sockets."""
+        """Closes the open sockets."""
         self.listener.close(self.descriptors)
         if self.status:
             self.status.close()
         self.descriptors.end()
         self.events.close()
 
-    # ---- what each of them fills in
+    # ---- for the door and the broker to define
 
     def may_listen(self) -> bool:
-        """Returns whether newcomers are admitted or turned away now; otherwise they wait."""
+        """Returns whether new connections are admitted or turned away now; otherwise they wait."""
         raise NotImplementedError
 
     def reason_against(self, owner: Owner) -> Optional[str]:
-        """Returns why a process gets no connection, in words."""
+        """Returns in words why a process gets no connection; None if it gets one."""
         raise NotImplementedError
 
     def begin(self, sock: socket.socket, owner: Owner) -> None:
-        """Begins a connection that is admitted."""
+        """Begins to serve a connection that was admitted."""
         raise NotImplementedError
 
     def state(self) -> Dict[str, Any]:

@@ -5,7 +5,7 @@ import select
 import sys
 import time
 
-# How many lines a second are written.
+# The most lines that are written in a second.
 LINES_A_SECOND = 20
 
 
@@ -14,9 +14,8 @@ class Unusable(Exception):
 
 
 class Lines:
-    """Writes lines to standard error, at most 20 a second, so that a connection that is ended again
-    and again doesn't fill a disk. No line waits for its reader: one that would have to wait is
-    dropped."""
+    """Writes lines to standard error, at most 20 a second, so that a connection that ends again and
+    again doesn't fill a disk. A line that would have to wait for its reader is dropped."""
 
     def __init__(self, name: str) -> None:
         self.name = name
@@ -33,8 +32,8 @@ class Lines:
             self.left_out += 1
 
     def write(self, words: str) -> bool:
-        """Writes a line, and returns whether it was written. The reader of standard error may have
-        ended, or may read no more: then a write to a full pipe would wait forever."""
+        """Writes a line, and returns whether it was written. A write to a full pipe would wait
+        forever if the reader of standard error has ended or reads no more."""
         with contextlib.suppress(OSError, ValueError):
             ready = select.poll()
             ready.register(sys.stderr.fileno(), select.POLLOUT)

@@ -1,5 +1,5 @@
-"""Listening sockets: a Unix socket with a file of its own, or one that a service manager hands
-over."""
+"""Listening sockets: a Unix socket with a file of its own, or one that a service manager passes to
+this program."""
 
 import contextlib
 import fcntl
@@ -12,14 +12,15 @@ from typing import Iterator, List, Optional, Tuple
 from .descriptors import Descriptors, refuse
 from .lines import Unusable
 
-# The first descriptor that a service manager hands over (sd_listen_fds(3)).
+# The first descriptor that a service manager passes (sd_listen_fds(3)).
 FIRST_HANDED = 3
-# How long another program may take to begin at the same path.
+# Seconds that another program may take to begin to listen at the same path.
 LOCK_SECONDS = 5.0
 
 
 class Listener:
-    """A listening Unix socket. Closing it removes its file, unless the socket was handed over."""
+    """A listening Unix socket. Closing it removes its file, unless a service manager passed the
+    socket."""
 
     def __init__(self, sock: socket.socket, path: str,
                  file: Optional[Tuple[int, int]] = None) -> None:
@@ -29,7 +30,7 @@ class Listener:
 
     def close(self, descriptors: Descriptors) -> None:
         if self.file is None:
-            # Who handed it over still has it.
+            # The service manager that passed the socket still has it.
             self.sock.close()
         else:
             descriptors.close(self.sock)
@@ -40,7 +41,7 @@ class Listener:
 
 
 def listen_at(path: str, mode: int) -> Listener:
-    """Returns a socket of this program's own, whose file has this mode."""
+    """Returns a socket of this program, whose file has the permissions `mode`."""
     if not path:
         raise Unusable("the path of a socket is empty: give one by --socket PATH or --status PATH")
     with locked(path):
@@ -49,8 +50,8 @@ def listen_at(path: str, mode: int) -> Listener:
 
 @contextlib.contextmanager
 def locked(path: str) -> Iterator[None]:
-    """A context in which no other program can check or take a path, by a lock on a file of this
-    name with .lock after it."""
+    """Runs a `with` in which no other program can check or take a path. The lock is on a file named
+    as the path with .lock after it."""
     name, until = f"{path}.lock", time.monotonic() + LOCK_SECONDS
     file = None
     while file is None:
@@ -67,15 +68,15 @@ def locked(path: str) -> Iterator[None]:
 
 
 def lock(name: str) -> Optional[int]:
-    """Returns the file of this name with its lock; None if another program still has the lock after
-    a moment."""
+    """Returns the open, locked file of this name; None, after a short pause, if another program has
+    the lock."""
     try:
         file = os.open(name, os.O_RDWR | os.O_CREAT | os.O_NOFOLLOW | os.O_CLOEXEC, 0o600)
     except OSError as error:
         raise Unusable(f"can't open the lock file {name}: {error.strerror}") from error
     with contextlib.suppress(BlockingIOError):
         fcntl.flock(file, fcntl.LOCK_EX | fcntl.LOCK_NB)
-        # Who had the lock before may have removed the file.
+        # The last owner of the lock may have removed the file.
         if is_at(file, name):
             return file
     os.close(file)
@@ -86,7 +87,7 @@ def lock(name: str) -> Optional[int]:
 def bind(path: str, mode: int) -> Listener:
     remove_stale(path)
     sock = socket.socket(socket.AF_UNIX, socket.SOCK_STREAM)
-    # The file has its mode from the first moment on.
+    # The file must have its permissions from the first moment on.
     mask = os.umask(0o777 & ~mode)
     try:
         sock.bind(path)
@@ -100,8 +101,8 @@ def bind(path: str, mode: int) -> Listener:
 
 
 def handed_over() -> List[Listener]:
-    """Returns the sockets that a service manager hands over. It goes on listening when this program
-    ends."""
+    """Returns the sockets that a service manager passes. The manager goes on listening when this
+    program ends."""
     process, count = os.environ.pop("LISTEN_PID", ""), os.environ.pop("LISTEN_FDS", "")
     if process != str(os.getpid()):
         return []
@@ -123,7 +124,7 @@ def handed(descriptor: int) -> Listener:
 
 
 def is_at(file: int, path: str) -> bool:
-    """Returns whether an open file is the one at a path."""
+    """Returns whether an open file is the file at a path."""
     with contextlib.suppress(FileNotFoundError):
         return os.path.samestat(os.fstat(file), os.lstat(path))
     return False
@@ -135,7 +136,7 @@ def file_of(path: str) -> Tuple[int, int]:
 
 
 def remove_stale(path: str) -> None:
-    """Removes the file of a socket at which nobody listens any more."""
+    """Removes the file of a socket if nobody listens there any more."""
     try:
         is_socket = stat.S_ISSOCK(os.lstat(path).st_mode)
     except FileNotFoundError:
@@ -149,7 +150,7 @@ def remove_stale(path: str) -> None:
         try:
             probe.connect(path)
         except BlockingIOError:
-            # So many others wait to be accepted that there is no room for one more.
+            # Somebody listens, but the queue of waiting connections is full.
             pass
         except ConnectionRefusedError:
             os.unlink(path)

@@ -7,9 +7,9 @@ from typing import Iterator, Optional
 
 from .lines import Unusable
 
-# Files of a program's own: its sockets, and those of who is answered once.
+# Files for this program itself: its own sockets, and the connections that are answered once.
 OWN_FILES = 256
-# The control groups of the machine, and which of them this program is in.
+# The control groups of the machine, and the file that says which of them this program is in.
 GROUPS, OWN_GROUPS = "/sys/fs/cgroup", "/proc/self/cgroup"
 
 
@@ -19,14 +19,14 @@ def processors() -> int:
 
 
 def memory_bytes() -> int:
-    """Returns the bytes of memory of the machine, or fewer if a control group of this program
-    allows fewer."""
+    """Returns the bytes of memory that this program may use: the machine's, or fewer if a control
+    group allows fewer."""
     return min([os.sysconf("SC_PAGE_SIZE") * os.sysconf("SC_PHYS_PAGES"), *group_limits()])
 
 
 def group_limits() -> Iterator[int]:
-    """Returns the memory limits of this program's control groups and of those above them, of both
-    versions."""
+    """Yields the memory limits, in bytes, of this program's control groups and of the groups above
+    them, of both versions."""
     try:
         with open(OWN_GROUPS) as file:
             groups = [line.rstrip("\n").split(":", 2) for line in file]
@@ -43,7 +43,8 @@ def group_limits() -> Iterator[int]:
 
 
 def folders_up(path: str) -> Iterator[str]:
-    """Yields a group's path, those above it, and the root, which is its own in a container."""
+    """Yields a group's path, those of the groups above it, and the root, which is its own in a
+    container."""
     while path.strip("/"):
         yield path
         path = os.path.dirname(path)
@@ -57,7 +58,8 @@ def number_in(path: str) -> Optional[int]:
 
 
 def raise_file_limit(whose: str, files: int) -> None:
-    """Raises the limit on open files, so that this many can be open besides the program's own."""
+    """Raises the limit on open files, so that `files` more can be open besides the program's own.
+    Raises Unusable if the hard limit is lower."""
     wanted = files + OWN_FILES
     soft, hard = resource.getrlimit(resource.RLIMIT_NOFILE)
     if hard != resource.RLIM_INFINITY and hard < wanted:
@@ -68,12 +70,12 @@ def raise_file_limit(whose: str, files: int) -> None:
 
 
 def limit_memory(process: int, memory: Optional[int]) -> None:
-    """Limits the address space of a process that was started, at most to this program's own limit;
-    only to that if the memory is None."""
+    """Limits the address space of a process, in bytes, to `memory` or this program's own limit, the
+    smaller one. If `memory` is None, only the own limit counts."""
     allowed = resource.getrlimit(resource.RLIMIT_AS)[1]
     limits = [limit for limit in (memory, allowed)
               if limit is not None and limit != resource.RLIM_INFINITY]
     limit = min(limits, default=resource.RLIM_INFINITY)
-    # It may have ended.
+    # The process may have ended.
     with contextlib.suppress(ProcessLookupError):
         resource.prlimit(process, resource.RLIMIT_AS, (limit, limit))

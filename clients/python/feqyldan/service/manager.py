@@ -8,14 +8,14 @@ from typing import Optional
 
 
 class Manager:
-    """systemd, if this program is one of its services that notify."""
+    """The service manager systemd, if this program runs as a service that notifies it."""
 
     def __init__(self) -> None:
-        # The servers have nothing to tell.
+        # Removed from the environment, because the servers have nothing to notify.
         self.address = os.environ.pop("NOTIFY_SOCKET", "")
         microseconds = os.environ.pop("WATCHDOG_USEC", "")
         os.environ.pop("WATCHDOG_PID", None)
-        # How often it wants to hear that the loop goes round, with half of the time to spare.
+        # Seconds between two signs of life of the loop: half of what systemd asks for.
         self.pause: Optional[float] = int(microseconds) / 2e6 if microseconds.isdigit() else None
         self.told_at = 0.0
 

@@ -1,9 +1,9 @@
-"""The state in Prometheus' text format, including what the system knows about processes."""
+"""The state in Prometheus' text format, with what the system knows about processes."""
 
 from typing import Any, Dict, Iterator, List, Sequence, Tuple
 
-# Of a program and of each of its servers: the name, its place in the state, whether it only grows,
-# and what it is.
+# The metrics of a program or of each of its servers: the name, the key in the state, the type
+# (counter or gauge), and the help text.
 Metrics = Sequence[Tuple[str, str, str, str]]
 ACCEPTED = (
     ("connections", "connections.open", "gauge", "Connections that are open"),
@@ -41,7 +41,7 @@ def metric(name: str, kind: str, words: str, values: List[Tuple[str, Any]]) -> I
 
 
 def memory_of(process: int) -> Tuple[int, int]:
-    """Returns the bytes of memory of a process, and the most that it has had; zeros if it has
+    """Returns the bytes of memory that a process has, and the most that it has had; zeros if it has
     ended."""
     found = {"VmRSS": 0, "VmHWM": 0}
     try:

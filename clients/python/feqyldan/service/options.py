@@ -9,7 +9,7 @@ from .lines import Unusable
 from .listener import Listener, handed_over, listen_at
 from .machine import memory_bytes
 
-# Client numbers are 0 to 65,535.
+# A client number is from 0 to 65,535.
 MOST_CONNECTIONS = 65_536
 LEAST_MEMORY, MOST_MEMORY = 2**24, 2**48
 CONNECTIONS, PER_PROCESS, PER_USER = 64, 8, MOST_CONNECTIONS
@@ -46,7 +46,7 @@ def memory_from(words: str) -> Optional[int]:
 
 
 def part_of_memory(part: float) -> int:
-    """Returns a part of the machine's memory, or of the memory that a control group allows."""
+    """Returns a part of the memory, in bytes, that the machine has or a control group allows."""
     return max(LEAST_MEMORY, int(memory_bytes() * part))
 
 
@@ -74,7 +74,7 @@ def parser(name: str, description: str, epilog: str) -> argparse.ArgumentParser:
 
 
 def add_admission(made: argparse.ArgumentParser, among: str) -> None:
-    """Adds the limits on connections."""
+    """Adds the options for the limits on connections."""
     connections = partial(number_from, 1, MOST_CONNECTIONS)
     add = made.add_argument
     add("--connections", type=connections, default=CONNECTIONS, metavar="N",
@@ -86,8 +86,8 @@ def add_admission(made: argparse.ArgumentParser, among: str) -> None:
 
 
 def listeners(told: argparse.Namespace) -> Tuple[Listener, Optional[Listener]]:
-    """Returns the listening sockets. Those that were handed over come first: the one for programs,
-    then the one for the state."""
+    """Returns the listening sockets for programs and for the state. Sockets that a service manager
+    passed come first, in this order."""
     handed = handed_over()
     if not handed and told.socket is None:
         raise Unusable("there is no socket to listen at: give --socket PATH, or hand one over "

@@ -10,8 +10,8 @@ TAKEN = (signal.SIGTERM, signal.SIGINT, signal.SIGHUP, signal.SIGCHLD)
 
 
 class Signals:
-    """A context in which the signals for ending, reloading and a child's end are read and don't
-    interrupt."""
+    """Runs a `with` in which the signals to end, to reload and of a child's end don't interrupt,
+    but are read."""
 
     def __init__(self, events: Events, handler: Handler) -> None:
         self.events, self.handler = events, handler
@@ -35,5 +35,5 @@ class Signals:
         self.writer.close()
 
     def taken(self) -> List[signal.Signals]:
-        """Returns the signals that have come, in order."""
+        """Returns the signals that have come, in order, and forgets them."""
         return [signal.Signals(number) for number in self.reader.recv(4096)]

@@ -1,4 +1,4 @@
-"""Connections that get a short answer: those that are turned away, and those that ask for the
+"""Connections that get one short answer: those that are turned away, and those that ask for the
 state."""
 
 import json
@@ -12,26 +12,26 @@ from .descriptors import Descriptors
 from .events import READ, WRITE, Events
 from .listener import Listener
 
-# A frame's length, its client and its op; the least bytes of a frame.
+# The head of a frame: its length, client number and op. No frame is shorter.
 HEAD = struct.Struct(">IHB")
 LEAST_FRAME = HEAD.size
 
-# How many there are at once of each kind, and how many seconds they have for what they ask.
+# The most visitors of each kind at the same time, and the seconds that each has for its question.
 VISITORS_AT_ONCE, VISIT_SECONDS = 64, 5.0
-# The seconds until an accept is tried again that had no room.
+# The seconds until the next try to accept, after the system had no resources for a connection.
 ACCEPT_PAUSE = 1.0
-# The longest first line of who asks for the state.
+# The longest first line of a question for the state, in bytes.
 LINE_BYTES = 4096
 PAGE = "HTTP/1.0 {}\r\nContent-Type: {}\r\nContent-Length: {}\r\nConnection: close\r\n\r\n"
 
-# Gives the answer to what has come so far, or None where more is wanted. No bytes more come where
-# the second is True.
+# Returns the answer to the bytes so far; None if more are needed. The second argument says that no
+# more bytes come.
 Answer = Callable[[bytes, bool], Optional[bytes]]
 
 
 class Visitor:
-    """A connection that is answered once: the bytes that have come, what is left of the answer once
-    there is one, and when the connection is ended in any case."""
+    """A connection that is answered once: the bytes that have come, the unsent rest of the answer
+    once there is one, and the time at which the connection is ended in any case."""
 
     __slots__ = ("heard", "answer", "until")
 
@@ -47,11 +47,11 @@ class Visitors:
                  answer: Answer) -> None:
         self.events, self.descriptors = events, descriptors
         self.most, self.answer = most, answer
-        # Who came first is first.
+        # In the order in which they came.
         self.present: Dict[socket.socket, Visitor] = {}
 
     def add(self, sock: socket.socket) -> None:
-        """Adds a connection; if there are too many, the first one is closed."""
+        """Adds a connection. If there are too many, the oldest one is closed."""
         if len(self.present) >= VISITORS_AT_ONCE:
             self.end(next(iter(self.present)))
         sock.setblocking(False)
@@ -59,8 +59,8 @@ class Visitors:
         self.events.watch(sock.fileno(), READ, lambda _: self.serve(sock))
 
     def serve(self, sock: socket.socket) -> None:
-        """Reads what a visitor asks, sends as much of the answer as its socket takes, and ends it
-        after the last byte."""
+        """Reads the question of a visitor, sends as much of the answer as its socket takes, and
+        ends the connection after the last byte."""
         visitor = self.present.get(sock)
         if visitor is None:
             return
@@ -99,7 +99,7 @@ class Visitors:
 
 
 def turned_away(events: Events, descriptors: Descriptors) -> Visitors:
-    """Returns the connections whose first frame is answered NO_RESOURCES."""
+    """Returns the visitors whose first frame is answered NO_RESOURCES."""
 
     def answer(data: bytes, is_all: bool) -> Optional[bytes]:
         if len(data) < LEAST_FRAME:
@@ -111,8 +111,8 @@ def turned_away(events: Events, descriptors: Descriptors) -> Visitors:
 
 
 class StatusSocket:
-    """A second socket that reports the state of the program, as JSON, or as Prometheus' text for
-    HTTP's GET /metrics."""
+    """A second socket that reports the state of the program: as JSON, or in Prometheus' text format
+    for HTTP's GET /metrics."""
 
     def __init__(self, listener: Listener, events: Events, descriptors: Descriptors,
                  state: Callable[[], Dict[str, Any]],
@@ -120,7 +120,7 @@ class StatusSocket:
         self.listener, self.events, self.state, self.metrics = listener, events, state, metrics
         self.descriptors = descriptors
         self.visitors = Visitors(events, descriptors, LINE_BYTES, self.answer)
-        # When it accepts again, where there was no room for one more.
+        # When the next accept is tried, after the system had no resources for a connection.
         self.accepts_from: Optional[float] = None
         self.listen()
 
@@ -152,7 +152,7 @@ class StatusSocket:
         return self.page(words[1] if len(words) > 1 else b"/")
 
     def page(self, path: bytes) -> bytes:
-        """Returns HTTP's answer to GET."""
+        """Returns the HTTP answer to GET."""
         status, kind, body = "200 OK", "application/json", json.dumps(self.state()) + "\n"
         if path == b"/metrics":
             kind, body = "text/plain; version=0.0.4", self.metrics(self.state())

@@ -1,4 +1,5 @@
-"""Misreadings of docs/wire.md, which random streams must tell from the right reading."""
+"""Misreadings of docs/wire.md, which random streams must tell from the right reading. A docstring
+here states what the misreading says."""
 
 from checks.model.faults.bodies import BODY_FAULTS
 from checks.model.faults.clients import CLIENT_FAULTS

@@ -49,8 +49,8 @@ returns-clause-comes c =
     c.age_registered.ensures in
     record { done = done; refused = tt; unchanged = tt }
 
-pub returns-clause-limits : goal.returns-clause-limits
-returns-clause-limits c =
+pub returns-clause-within_limits : goal.returns-clause-within_limits
+returns-clause-within_limits c =
     (subst (Keeps c.args.limits c.args.table.now) (returns-clause-comes c).done (process_graph_keeps c.args.limits c.args.table.now c.args.graph c.requires.context)).keeps
 
 pub returns-clause-balances : goal.returns-clause-balances

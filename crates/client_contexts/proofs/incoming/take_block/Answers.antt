@@ -5,8 +5,8 @@ use Rattle.client_contexts.proofs.incoming.take_block.Goals as goal
 
 pub returns-in-Err-clause-lends : goal.returns-in-Err-clause-lends
 returns-in-Err-clause-lends c =
-    on_ok_weaker c.take-in-Err.result (λ lends format.
-    (rw c.format-format.ensures at lends format) ∙ ap (λ n. n + one_of c.args.desc.format format) (c.drop_free.ensures.lent format ∙ ap (λ p. lent_of p format) c.in-Err.ensures.err))
+    on_ok_weaker c.take-in-Err.result (λ block format.
+    (rw c.format-format.ensures at block.lends format) ∙ ap (λ n. n + one_of c.args.desc.format format) (c.drop_free.ensures.lent format ∙ ap (λ p. lent_of p format) c.in-Err.ensures.err))
     c.take-in-Err.ensures.lends
 
 pub returns-in-Err-clause-err : goal.returns-in-Err-clause-err

@@ -21,7 +21,7 @@ loop-k-preserved c =
       rooms = ap (map block_size) pushed ∙ sizes_more rooms blocks b k r d c.loop-k-test.true refl c.loop-k.invariant.rooms taken.format taken.count;
       lends = λ f.
           subst (λ (l : List Samples). lent_of c.take.new.self f ≡ lent_of c.args.pool.now f + blocks_of_format l f) (sym pushed)
-          (lends_more blocks b r.0 taken.format c.args.pool.now pool c.take.new.self f taken.lends (c.loop-k.invariant.lends f));
+          (lends_more blocks b r.0 taken.format c.args.pool.now pool c.take.new.self f taken.lends.lends (c.loop-k.invariant.lends f));
       adds = λ f.
-          omega (arith, taken_adds pool c.take.new.self r.0 taken.lends taken.most taken.other_free f, rooms_left rooms k r d c.loop-k-test.true refl f, c.loop-k.invariant.adds f);
+          omega (arith, taken_adds pool c.take.new.self r.0 taken.lends.lends taken.lends.most taken.lends.other_free f, rooms_left rooms k r d c.loop-k-test.true refl f, c.loop-k.invariant.adds f);
     }

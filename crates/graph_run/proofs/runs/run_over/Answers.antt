@@ -41,52 +41,44 @@ run_tasks-requires-clause-reduces c =
     c.requires.objects c.requires.names c.prove_descriptions.ensures c.as_mut_slice-blocks.result.now (ap (map block_size) c.as_mut_slice-blocks.ensures.value ∙ c.requires.schedule.3) c.take.ensures.planes.0 c.as_mut_slice-planes.result.now c.take.ensures.planes.1 c.take.ensures.planes.2
     (c.as_mut_slice-planes.ensures.value ∙ c.take.ensures.planes.3) c.take.new.table.objects (ap (λ (x : Context). x.objects) c.take.ensures.left) c.args.tallies.now c.requires.tallies
 
-pub give-requires-clause-count : goal.give-requires-clause-count
-give-requires-clause-count c = slot_count c.args.table.now.objects c.requires.ready.0 c.args.verified.now c.requires.ready.1 c.requires.schedule.0 c.requires.schedule.1 c.args.schedule.now c.requires.schedule.2
-
-pub give-requires-clause-cells : goal.give-requires-clause-cells
-give-requires-clause-cells c = cells_enough c.args.table.now.objects c.requires.ready.0 c.args.verified.now c.requires.ready.1 c.requires.schedule.0 c.requires.schedule.1 c.args.schedule.now c.requires.schedule.2
-
-pub give-requires-clause-planes : goal.give-requires-clause-planes
-give-requires-clause-planes c =
-    planes_enough c.args.table.now.objects c.requires.ready.0 c.args.verified.now c.requires.ready.1 c.requires.schedule.0 c.requires.schedule.1 c.args.schedule.now c.requires.schedule.2
-    c.requires.objects c.requires.names c.prove_descriptions.ensures c.as_mut_slice-blocks.result.now (ap (map block_size) c.as_mut_slice-blocks.ensures.value ∙ c.requires.schedule.3) c.take.ensures.planes.0 c.as_mut_slice-planes.result.now c.take.ensures.planes.1 c.take.ensures.planes.2
-    (c.as_mut_slice-planes.ensures.value ∙ c.take.ensures.planes.3) c.take.new.table.objects (ap (λ (x : Context). x.objects) c.take.ensures.left)
-    c.args.tallies.now c.requires.tallies c.run_tasks.new.planes c.run_tasks.new.tallies c.run_tasks.ensures.leaves
-
-pub give-requires-clause-within : goal.give-requires-clause-within
-give-requires-clause-within c = λ k below. omega (arith, slot_within c.args.table.now.objects c.requires.ready.0 c.args.verified.now c.requires.ready.1 c.requires.schedule.0 c.requires.schedule.1 c.args.schedule.now c.requires.schedule.2 c.as_mut_slice-blocks.result.now (ap (map block_size) c.as_mut_slice-blocks.ensures.value ∙ c.requires.schedule.3) k below, c.take.auto.blocks)
-
-pub give-requires-clause-formats : goal.give-requires-clause-formats
-give-requires-clause-formats c =
-    formats_back c.args.table.now.objects c.requires.ready.0 c.args.verified.now c.requires.ready.1 c.requires.schedule.0 c.requires.schedule.1 c.args.schedule.now c.requires.schedule.2
-    c.requires.objects c.requires.names c.prove_descriptions.ensures c.as_mut_slice-blocks.result.now (ap (map block_size) c.as_mut_slice-blocks.ensures.value ∙ c.requires.schedule.3) c.take.ensures.planes.0 c.as_mut_slice-planes.result.now c.take.ensures.planes.1 c.take.ensures.planes.2
-    (c.as_mut_slice-planes.ensures.value ∙ c.take.ensures.planes.3) c.take.new.table.objects (ap (λ (x : Context). x.objects) c.take.ensures.left)
-    c.args.tallies.now c.requires.tallies c.run_tasks.new.planes c.run_tasks.new.tallies c.run_tasks.ensures.leaves c.run_tasks.ensures.blocks c.take.new.blocks c.take.ensures.formats
-
-pub give-requires-clause-images : goal.give-requires-clause-images
-give-requires-clause-images c =
-    images_back c.args.table.now.objects c.requires.ready.0 c.args.verified.now c.requires.ready.1 c.requires.schedule.0 c.requires.schedule.1 c.args.schedule.now c.requires.schedule.2
-    c.requires.objects c.requires.names c.prove_descriptions.ensures c.as_mut_slice-blocks.result.now (ap (map block_size) c.as_mut_slice-blocks.ensures.value ∙ c.requires.schedule.3) c.take.ensures.planes.0 c.as_mut_slice-planes.result.now c.take.ensures.planes.1 c.take.ensures.planes.2
-    (c.as_mut_slice-planes.ensures.value ∙ c.take.ensures.planes.3) c.take.new.table.objects (ap (λ (x : Context). x.objects) c.take.ensures.left)
-    c.args.tallies.now c.requires.tallies c.run_tasks.new.planes c.run_tasks.new.tallies c.run_tasks.ensures.leaves
-
-pub give-requires-clause-apart : goal.give-requires-clause-apart
-give-requires-clause-apart c = clients_are_apart c.args.table.now.objects c.requires.ready.0 c.args.verified.now c.requires.ready.1 c.requires.schedule.0 c.requires.schedule.1 c.args.schedule.now c.requires.schedule.2
-
-pub give-requires-clause-back : goal.give-requires-clause-back
-give-requires-clause-back c =
-    planes_back c.args.table.now.objects c.requires.ready.0 c.args.verified.now c.requires.ready.1 c.requires.schedule.0 c.requires.schedule.1 c.args.schedule.now c.requires.schedule.2
-    c.requires.objects c.requires.names c.prove_descriptions.ensures c.as_mut_slice-blocks.result.now (ap (map block_size) c.as_mut_slice-blocks.ensures.value ∙ c.requires.schedule.3) c.take.ensures.planes.0 c.as_mut_slice-planes.result.now c.take.ensures.planes.1 c.take.ensures.planes.2
-    (c.as_mut_slice-planes.ensures.value ∙ c.take.ensures.planes.3) c.take.new.table.objects (ap (λ (x : Context). x.objects) c.take.ensures.left)
-    c.args.tallies.now c.requires.tallies c.run_tasks.new.planes c.run_tasks.new.tallies c.run_tasks.ensures.leaves
-
-pub give-requires-clause-tallies : goal.give-requires-clause-tallies
-give-requires-clause-tallies c =
-    tallies_back c.args.table.now.objects c.requires.ready.0 c.args.verified.now c.requires.ready.1 c.requires.schedule.0 c.requires.schedule.1 c.args.schedule.now c.requires.schedule.2
-    c.requires.objects c.requires.names c.prove_descriptions.ensures c.as_mut_slice-blocks.result.now (ap (map block_size) c.as_mut_slice-blocks.ensures.value ∙ c.requires.schedule.3) c.take.ensures.planes.0 c.as_mut_slice-planes.result.now c.take.ensures.planes.1 c.take.ensures.planes.2
-    (c.as_mut_slice-planes.ensures.value ∙ c.take.ensures.planes.3) c.take.new.table.objects (ap (λ (x : Context). x.objects) c.take.ensures.left)
-    c.args.tallies.now c.requires.tallies c.run_tasks.new.planes c.run_tasks.new.tallies c.run_tasks.ensures.leaves
+pub give-requires : goal.give-requires
+give-requires c =
+    let l = c.args.table.now.objects in
+    let n = c.requires.ready.0 in
+    let v = c.args.verified.now in
+    let ready = c.requires.ready.1 in
+    let p = c.requires.schedule.0 in
+    let plan = c.requires.schedule.1 in
+    let s = c.args.schedule.now in
+    let is = c.requires.schedule.2 in
+    let are = c.requires.objects in
+    let names = c.requires.names in
+    let described = c.prove_descriptions.ensures in
+    let blocks = c.as_mut_slice-blocks.result.now in
+    let planned = ap (map block_size) c.as_mut_slice-blocks.ensures.value ∙ c.requires.schedule.3 in
+    let taken = c.take.ensures.planes in
+    let planes = c.as_mut_slice-planes.result.now in
+    let placed = c.as_mut_slice-planes.ensures.value ∙ taken.3 in
+    let bare = c.take.new.table.objects in
+    let left = ap (λ (x : Context). x.objects) c.take.ensures.left in
+    let tallies = c.args.tallies.now in
+    let new = c.requires.tallies in
+    let after = c.run_tasks.new.planes in
+    let counted = c.run_tasks.new.tallies in
+    let leaves = c.run_tasks.ensures.leaves in
+    record {
+      count = slot_count l n v ready p plan s is;
+      cells = cells_enough l n v ready p plan s is;
+      planes = planes_enough l n v ready p plan s is are names described blocks planned taken.0 planes taken.1 taken.2 placed bare left tallies new after counted leaves;
+      within = λ k below. omega (arith, slot_within l n v ready p plan s is blocks planned k below, c.take.auto.blocks);
+      formats =
+          formats_back l n v ready p plan s is are names described blocks planned taken.0 planes taken.1 taken.2 placed bare left tallies new after counted leaves
+          c.run_tasks.ensures.blocks c.take.new.blocks c.take.ensures.formats;
+      images = images_back l n v ready p plan s is are names described blocks planned taken.0 planes taken.1 taken.2 placed bare left tallies new after counted leaves;
+      apart = clients_are_apart l n v ready p plan s is;
+      back = planes_back l n v ready p plan s is are names described blocks planned taken.0 planes taken.1 taken.2 placed bare left tallies new after counted leaves;
+      tallies = tallies_back l n v ready p plan s is are names described blocks planned taken.0 planes taken.1 taken.2 placed bare left tallies new after counted leaves;
+    }
 
 pub returns-clause-value : goal.returns-clause-value
 returns-clause-value c = λ nodes ready.

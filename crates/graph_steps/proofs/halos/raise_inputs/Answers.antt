@@ -1,15 +1,8 @@
-use Rattle.std.proofs.Common.{◌≡◌, ℕ, ◌+◌, ◌<◌, ◌≤◌, ◌^◌, ◌∙◌, min, length, sym, ap, inl, inr, refl, arith}
+use Rattle.std.proofs.Common.{◌≡◌, ◌+◌, ◌<◌, ◌≤◌, ◌^◌, ◌∙◌, min, length, ap, inl, inr, refl, arith}
 use Rattle.std.proofs.lemmas.List.{length-set}
-use Rattle.std.specs.Prelude.{◌⊎◌}
-use Rattle.graph_steps.specs.declared.step.SecondSource.{SecondSource}
-use Rattle.graph_steps.specs.declared.step.SecondSource.TheVariants.{Nothing, Plane, Table}
 use Rattle.graph_steps.specs.Program.{halo}
 use Rattle.graph_steps.proofs.HaloLaws.{raised_one, raised_two}
 use Rattle.graph_steps.proofs.halos.raise_inputs.Goals as goal
-
-not_plane : (source : SecondSource) (c : ℕ) → (source ≡ Nothing) ⊎ ((k : ℕ) × (source ≡ Table k)) → source ≡ Plane c → ⊥
-not_plane source c (inl none) is = let e : Nothing ≡ Plane c = sym none ∙ is in cc
-not_plane source c (inr (k, table)) is = let e : Table k ≡ Plane c = sym table ∙ is in cc
 
 pub raise-requires : goal.raise-requires
 raise-requires c = c.requires.reads c.args.step.now.first (inl refl)
@@ -31,22 +24,12 @@ returns-in-Plane c =
     (c.requires.reads s.first (inl refl)) (c.requires.reads c.in-Plane.second (inr c.in-Plane.is)) c.in-Plane.is c.raise.ensures c.raise-in-Plane.ensures in
     record { grows = r.grows; enough = λ k reads. (let e = r.enough k reads in omega arith); within = λ k. r.within c.args.high k (omega arith); others = r.others; len = r.len }
 
-pub returns-in-Nothing : goal.returns-in-Nothing
-returns-in-Nothing c =
+pub returns-in_default : goal.returns-in_default
+returns-in_default c =
     let s = c.args.step.now in
     let fit : c.args.high < 2 ^ 16 = c.ranges.high.fits in
     let m = c.min-rows.ensures in
     let a = c.saturating_add.ensures in
     let enough : min c.args.high (halo c.args.halos.now s.output + s.radius) ≤ c.min-rows.result = omega arith in
-    let r = raised_one s c.min-rows.result c.args.halos.now c.raise.new.halos (c.requires.reads s.first (inl refl)) (λ k e. not_plane s.second k (inl c.in-Nothing.is) e) c.raise.ensures in
-    record { grows = r.grows; enough = λ k reads. (let e = r.enough k reads in omega arith); within = λ k. r.within c.args.high k (omega arith); others = r.others; len = r.len }
-
-pub returns-in-Table : goal.returns-in-Table
-returns-in-Table c =
-    let s = c.args.step.now in
-    let fit : c.args.high < 2 ^ 16 = c.ranges.high.fits in
-    let m = c.min-rows.ensures in
-    let a = c.saturating_add.ensures in
-    let enough : min c.args.high (halo c.args.halos.now s.output + s.radius) ≤ c.min-rows.result = omega arith in
-    let r = raised_one s c.min-rows.result c.args.halos.now c.raise.new.halos (c.requires.reads s.first (inl refl)) (λ k e. not_plane s.second k (inr (_, c.in-Table.is)) e) c.raise.ensures in
+    let r = raised_one s c.min-rows.result c.args.halos.now c.raise.new.halos (c.requires.reads s.first (inl refl)) (λ k e. c.in_default.not-Plane k e) c.raise.ensures in
     record { grows = r.grows; enough = λ k reads. (let e = r.enough k reads in omega arith); within = λ k. r.within c.args.high k (omega arith); others = r.others; len = r.len }

@@ -1,7 +1,7 @@
-use Rattle.std.proofs.Common.{◌≡◌, ℕ, ◌+◌, ◌≤◌, List, map, All, IsTrue, refl, sym, ap, subst, ◌∙◌, if◌then◌else◌}
-use Rattle.object_table.proofs.Common.{set_value, is_at, nat_cmp, err_from_is_err_and, can_add, with_node, ObjectValue, GraphObject, object_bytes, Entry, Context, NamedObject, graph_value, IsTable, entry_object, used_more, nodes_in, used_names, name_count}
+use Rattle.std.proofs.Common.{◌≡◌, ℕ, ◌+◌, ◌≤◌, List, map, All, refl, sym, ap, subst, ◌∙◌}
+use Rattle.object_table.proofs.Common.{set_value, is_at, nat_cmp, err_from_is_err_and, with_node, GraphObject, object_bytes, Entry, Context, NamedObject, graph_value, IsTable, entry_object, used_more, nodes_in, used_names, name_count}
 use Rattle.graph_verify.specs.declared.fault.GraphFault.TheVariants as graph_fault
-use Rattle.object_table.proofs.EntryLemmas.{nothing_under, kind_under, under_is, shown_name, IsTable-written}
+use Rattle.object_table.proofs.EntryLemmas.{kind_under, shown_name, IsTable-written}
 use Rattle.object_table.proofs.GraphLemmas.{unchanged, live_there, all_below, few-uses, named-recounted, IsTable-added}
 use Rattle.object_table.proofs.table.Table.add_node.Goals as goal
 use Rattle.object_table.proofs.table.Table.add_node.Goals.{After-begin_uses}
@@ -11,18 +11,11 @@ invariant_of-self c =
     let same = c.in_err-number.ensures.err in
     IsTable-written _ _ _ _ _ c.add_node.new.self _ c.self.invariant (sym c.in-Some.ensures.value) (c.get_mut.follows.holds _).0 (ap nodes_in same) (ap object_bytes same)
 
-pub returns-in_err-number : goal.returns-in_err-number
-returns-in_err-number c =
+pub returns-in_err-number-clause-err : goal.returns-in_err-number-clause-err
+returns-in_err-number-clause-err c =
     let new = record c.in-Some.entry.now { object = c.add_node.new.self } in
-    let under = under_is _ _ _ c.self.view_is c.args.graph _ (sym c.in-Some.ensures.value) in
     let p = err_from_is_err_and c.from_residual.result c.from_residual.ensures.1 in
-    rw (p.1, p.2) (record {
-      number = tt;
-      ok = tt;
-      capacity = tt;
-      fault = c.in_err-number.ensures.fault ∙ ap (λ (o : ObjectValue). if can_add (graph_value o) then graph_fault.NoMemory else graph_fault.NoResources) (sym under);
-      err = unchanged _ _ _ c.self.view_is c.args.graph _ (sym c.in-Some.ensures.value) _ _ c.in_err-number.ensures.err (c.get_mut.follows.holds new).0;
-    })
+    rw p.1 (unchanged _ _ _ c.self.view_is c.args.graph _ (sym c.in-Some.ensures.value) _ _ c.in_err-number.ensures.err (c.get_mut.follows.holds new).0)
 
 pub begin_uses-requires : goal.begin_uses-requires
 begin_uses-requires c =

@@ -1,6 +1,6 @@
 use Rattle.std.proofs.Common.{arith, sym, ap, ◌∙◌}
 use Rattle.object_table.proofs.Common.{aged_object, nodes_in}
-use Rattle.object_table.proofs.EntryLemmas.{nothing_under, shown_name, IsTable-written}
+use Rattle.object_table.proofs.EntryLemmas.{shown_name, IsTable-written}
 use Rattle.object_table.proofs.table.Table.age.Goals as goal
 
 pub invariant_of-self : goal.invariant_of-self

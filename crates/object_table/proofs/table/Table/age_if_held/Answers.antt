@@ -4,9 +4,6 @@ use Rattle.object_table.proofs.AgeLemmas.{none_to_age, shown_aged}
 use Rattle.object_table.proofs.EntryLemmas.{IsTable-written}
 use Rattle.object_table.proofs.table.Table.age_if_held.Goals as goal
 
-pub invariant_of-self : goal.invariant_of-self
-invariant_of-self c = rw c.get_mut.follows.holds-at-none c.self.invariant
-
 pub returns-in_default : goal.returns-in_default
 returns-in_default c = rw c.get_mut.follows.holds-at-none (c.self.view_is ∙ none_to_age _ _ _ c.self.view_is c.args.name (sym c.in_default.ensures.value))
 

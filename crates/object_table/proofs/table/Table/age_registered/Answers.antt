@@ -1,4 +1,4 @@
-use Rattle.std.proofs.Common.{map-id, ◌≡◌, ◌≢◌, ◌≤◌, ◌<◌, ℕ, List, ◌∷◌, [], length, take, get_or, sym, ap, subst, ◌∙◌, arith, take_all}
+use Rattle.std.proofs.Common.{map-id, ◌≡◌, ◌≢◌, ◌<◌, ℕ, List, ◌∷◌, [], length, take, get_or, sym, ap, subst, ◌∙◌, arith}
 use Rattle.object_table.proofs.Common.{AllPairs, GraphValue, aged_under, Context, with_objects, graph_under}
 use Rattle.object_table.proofs.AgeLemmas.{aged_more, kind_aged, graph_aged}
 use Rattle.object_table.proofs.table.Table.age_registered.Goals as goal
@@ -40,10 +40,3 @@ loop-k-preserved c =
     ∙ ap (λ (t : Context). with_objects t (aged_under (get_or c.delays.result.now k 0 ∷ []) t.objects)) c.loop-k.invariant
     ∙ ap (λ (l : List ℕ). with_objects old (aged_under (get_or l k 0 ∷ []) (aged_under (take k names) old.objects))) (same at)
     ∙ ap (with_objects old) (aged_more names k 0 old.objects apart (there at))
-
-pub returns : goal.returns
-returns c =
-    let first = c.delays-count.ensures.delays ∙ ap (λ (g : GraphValue). g.delays) c.graph.ensures in
-    let names = (graph_under c.args.self.now.objects c.args.graph).delays in
-    let past : length names ≤ c.loop-k.k = omega (arith, ap length first, c.loop-k-test.false) in
-    c.loop-k.invariant ∙ ap (λ l. with_objects c.args.self.now (aged_under l c.args.self.now.objects)) (take_all c.loop-k.k names past)

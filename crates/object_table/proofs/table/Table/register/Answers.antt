@@ -1,15 +1,8 @@
-use Rattle.std.proofs.Common.{arith, ◌≡◌, ◌≢◌, ℕ, true, false, [], ◌∷◌, ◌++◌, sym, ap, subst, ◌∙◌, if◌then◌else◌, ◌==◌, filter}
+use Rattle.std.proofs.Common.{arith, ◌≡◌, ◌≢◌, ℕ, false, [], ◌∷◌, ◌++◌, sym, ap, subst, ◌∙◌, if◌then◌else◌, ◌==◌, filter}
 use Rattle.object_table.proofs.Common.{AllPairs, list_any, GraphValue, with_delays, GraphObject, is_there, with_objects, graph_value, graph_under, nodes_in, is_registered, one_more, with_graph}
 use Rattle.object_table.proofs.AgeLemmas.{apart_and}
-use Rattle.object_table.proofs.EntryLemmas.{nothing_under, kind_under, under_is, shown_name, IsTable-written}
+use Rattle.object_table.proofs.EntryLemmas.{kind_under, under_is, shown_name, IsTable-written}
 use Rattle.object_table.proofs.table.Table.register.Goals as goal
-
-pub returns-then-is_registered-clause-ok : goal.returns-then-is_registered-clause-ok
-returns-then-is_registered-clause-ok c =
-    let now = c.args.self.now in
-    let there : is_registered (graph_under now.objects c.args.graph) c.args.delay ≡ true =
-    ap (λ g. is_registered g c.args.delay) (sym c.graph-found.ensures) ∙ sym c.if-is_registered.ensures in
-    ap (λ b. with_objects now (if b then now.objects else with_graph now.objects c.args.graph (one_more now.objects (graph_under now.objects c.args.graph) c.args.delay))) (sym there)
 
 pub set_delays-requires-clause-distinct : goal.set_delays-requires-clause-distinct
 set_delays-requires-clause-distinct c =

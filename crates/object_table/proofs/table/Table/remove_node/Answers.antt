@@ -1,6 +1,6 @@
-use Rattle.std.proofs.Common.{◌≡◌, ℕ, List, map, not, refl, sym, ap, subst, ◌∙◌, All, IsTrue}
-use Rattle.object_table.proofs.Common.{set_value, is_at, nat_cmp, err_from_is_err_and, Format, Node, without_node, ObjectValue, GraphObject, object_bytes, object_kind, Entry, object_blocks, blocks_in, LendsAtLeast, Balances, Context, charge_of, with_objects, still_held, NamedObject, graph_value, entry_object, used_less, is_kept, kept_entries, nodes_in, used_names, has_node, Kind}
-use Rattle.object_table.proofs.EntryLemmas.{nothing_under, kind_under, under_is, shown_name, IsTable-written}
+use Rattle.std.proofs.Common.{◌≡◌, ℕ, List, map, refl, sym, ap, subst, ◌∙◌, All, IsTrue}
+use Rattle.object_table.proofs.Common.{set_value, is_at, nat_cmp, err_from_is_err_and, Format, Node, without_node, GraphObject, object_bytes, object_kind, Entry, object_blocks, blocks_in, LendsAtLeast, Balances, Context, charge_of, with_objects, still_held, NamedObject, graph_value, entry_object, used_less, is_kept, kept_entries, nodes_in, used_names, Kind}
+use Rattle.object_table.proofs.EntryLemmas.{kind_under, shown_name, IsTable-written}
 use Rattle.object_table.proofs.EntryBlockLemmas.{owns-written, Balances-written, Balances-written_then, graph_blocks}
 use Rattle.object_table.proofs.GraphLemmas.{AreLeft, unchanged, charged-after, held-after, live_there, removed-left, IsTable-same}
 use Rattle.object_table.proofs.table.Table.remove_node.Goals as goal

@@ -1,6 +1,6 @@
-use Rattle.std.proofs.Common.{sym, ap, ◌∙◌}
-use Rattle.object_table.proofs.Common.{object_kind, distribution_value, with_counts, Kind}
-use Rattle.object_table.proofs.EntryLemmas.{nothing_under, kind_under, under_is, shown_name, IsTable-written, none_of_kind}
+use Rattle.std.proofs.Common.{sym, ap}
+use Rattle.object_table.proofs.Common.{object_kind, with_counts, Kind}
+use Rattle.object_table.proofs.EntryLemmas.{kind_under, shown_name, IsTable-written, none_of_kind}
 use Rattle.object_table.proofs.table.Table.set_counts.Goals as goal
 
 pub invariant_of-self : goal.invariant_of-self

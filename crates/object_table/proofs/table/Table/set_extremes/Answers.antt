@@ -1,6 +1,6 @@
 use Rattle.std.proofs.Common.{sym, ap}
 use Rattle.object_table.proofs.Common.{object_kind, ExtremesObject, Kind}
-use Rattle.object_table.proofs.EntryLemmas.{nothing_under, kind_under, shown_name, IsTable-written, none_of_kind}
+use Rattle.object_table.proofs.EntryLemmas.{kind_under, shown_name, IsTable-written, none_of_kind}
 use Rattle.object_table.proofs.table.Table.set_extremes.Goals as goal
 
 pub invariant_of-self : goal.invariant_of-self

@@ -1,6 +1,6 @@
-use Rattle.std.proofs.Common.{sym, ap, subst, ◌∙◌}
-use Rattle.object_table.proofs.Common.{ImageValue, with_valid, ImageObject, IsObject, image_value, nodes_in, IsWithin}
-use Rattle.object_table.proofs.EntryLemmas.{nothing_held, found_under, image_is, image_there, shown_cell, IsTable-written, no_nodes}
+use Rattle.std.proofs.Common.{sym, ap, ◌∙◌}
+use Rattle.object_table.proofs.Common.{with_valid, ImageObject, image_value, nodes_in}
+use Rattle.object_table.proofs.EntryLemmas.{image_there, shown_cell, IsTable-written, no_nodes}
 use Rattle.object_table.proofs.table.Table.set_valid.Goals as goal
 
 pub invariant_of-self : goal.invariant_of-self

@@ -1,6 +1,6 @@
 use Rattle.std.proofs.Common.{[], sym, ap, ◌∙◌}
-use Rattle.object_table.proofs.Common.{ImageValue, description_of, image_value, with_samples, nodes_in}
-use Rattle.object_table.proofs.EntryLemmas.{nothing_held, image_is, image_there, shown_cell, IsTable-written, no_nodes}
+use Rattle.object_table.proofs.Common.{image_value, with_samples, nodes_in}
+use Rattle.object_table.proofs.EntryLemmas.{image_there, shown_cell, IsTable-written, no_nodes}
 use Rattle.object_table.proofs.table.Table.take.Goals as goal
 
 pub invariant_of-self : goal.invariant_of-self

@@ -1,6 +1,6 @@
-use Rattle.std.proofs.Common.{sym, ap, subst, ◌∙◌}
-use Rattle.object_table.proofs.Common.{description_of, ImageObject, IsObject, nodes_in, picture_image}
-use Rattle.object_table.proofs.EntryLemmas.{nothing_held, found_under, image_is, image_there, shown_cell, IsTable-written, no_nodes}
+use Rattle.std.proofs.Common.{sym, ap, ◌∙◌}
+use Rattle.object_table.proofs.Common.{ImageObject, nodes_in, picture_image}
+use Rattle.object_table.proofs.EntryLemmas.{image_there, shown_cell, IsTable-written, no_nodes}
 use Rattle.object_table.proofs.table.Table.write.Goals as goal
 
 pub invariant_of-self : goal.invariant_of-self

@@ -1,5 +1,5 @@
-use Rattle.std.proofs.Common.{◌<◌, ◌≤◌, length, take, refl, ap, ◌∙◌, arith, take_all}
-use Rattle.object_table.proofs.Common.{flat_map, length-map, nodes_at, used_names}
+use Rattle.std.proofs.Common.{◌<◌, length, take, refl, ◌∙◌, arith}
+use Rattle.object_table.proofs.Common.{flat_map, nodes_at, used_names}
 use Rattle.object_table.proofs.UseLemmas.{node_more}
 use Rattle.object_table.proofs.KeptLemmas.{left_of, left-nil, left-append, held-left, kind_kept, nodes_kept, count_kept}
 use Rattle.object_table.proofs.table.graphs.end_all_uses.Goals as goal
@@ -43,13 +43,3 @@ loop-k-preserved c =
       charge = c.end_uses-left.ensures.charge;
       balances = λ format. omega (arith, c.loop-k.invariant.balances format, c.end_uses-left.ensures.balances format);
     }
-
-pub end_uses-left-requires-clause-owns : goal.end_uses-left-requires-clause-owns
-end_uses-left-requires-clause-owns c format = omega (arith, c.requires.owns format, c.loop-k.invariant.balances format)
-
-pub returns-clause-entries : goal.returns-clause-entries
-returns-clause-entries c =
-    let old = c.args.entries.now.entries in
-    let nodes = nodes_at c.args.graph old in
-    let past : length nodes ≤ c.loop-k.k = omega (arith, c.loop-k-test.false, ap length c.nodes_under-count.ensures, length-map c.nodes_under-count.result.now (λ n. n.node)) in
-    c.loop-k.invariant.left_over ∙ ap (λ l. left_of (flat_map used_names l) old) (take_all c.loop-k.k nodes past)

@@ -1,7 +1,7 @@
 use Rattle.std.proofs.Common.{rules, sym, subst}
 use Rattle.graph_steps.specs.Planes.{read_images, IsReadable}
 use Rattle.graph_steps.proofs.StepLaws.{plane_lent, plane_read, table_lent}
-use Rattle.graph_steps.proofs.one_step.second_of.Goals as goal
+use Rattle.graph_steps.proofs.one_step.second_input.Goals as goal
 
 pub bounds-planes-at : goal.bounds-planes-at
 bounds-planes-at g c = (c.requires c.in-Plane.at c.in-Plane.is).0
