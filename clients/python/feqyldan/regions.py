@@ -20,9 +20,9 @@ class Region(NamedTuple):
 
 def regions(marks: Any, least: int = 1) -> List[Region]:
     """
-    Returns the regions of non-zero samples in an image or an array of shape (height, width). Only
-    regions of at least `least` pixels count, the largest first. Raises BadPicture for anything
-    else. Needs NumPy, and OpenCV or SciPy.
+    Returns the regions of non-zero samples in an image or an array of shape (height, width), the
+    largest first. Regions of fewer than `least` pixels are left out. Raises BadPicture if `marks`
+    is neither an image nor such an array. Needs NumPy, and OpenCV or SciPy.
     """
     numpy = needed_numpy("regions()")
     pixels = _pixels_of(numpy, marks) != 0

@@ -139,7 +139,7 @@ class FramePipeline(Pipeline):
 
 
 class Turn:
-    """A station in use: sends frames to it."""
+    """Sends the frames of a stream to one station."""
 
     def __init__(self, station: Station) -> None:
         graph, self._camera, out = station
