@@ -44,7 +44,7 @@ ReordersNodes nodes v = IsPermutation (map (λ l. (l.number, l.node)) nodes) (zi
 abbrev pub CanRunWithin : ℕ → List Linked → Type 0
 CanRunWithin work nodes = (is : Reference → Operand) → AreOperands is nodes → verdict work is (linked_nodes nodes) ≡ None
 
--- a fact about the verdict that refuses a graph; nothing is stated if memory ran out
+-- if the graph was refused, P holds for the verdict; if memory ran out, nothing is stated
 abbrev pub IfRefused : VerifyFault → (Verdict → Type 0) → Type 0
 IfRefused NoMemory P = ⊤
 IfRefused (Refused v) P = P v

@@ -14,7 +14,7 @@ use image_core::{Image, ImageMut, RowUpdate};
 use lane_rows::{Accumulated, OfSum, Squared, update_row};
 use vx_base::Rect;
 
-/// A lane kernel's update of sums with an image of the same size, in an area where the image is
+/// Updates sums by a lane kernel from an image of the same size, in an area where the image is
 /// valid.
 #[derive(Drop)]
 struct Added<'a, 'b, K> {

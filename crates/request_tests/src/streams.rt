@@ -46,10 +46,10 @@ const STORED_REPLIES: &[u8] = b"\x00\x00\x00\x04\x00\x07\x01\x00\
 \x00\x00\x00\x04\x00\x07\x18\x00\
 \x00\x00\x00\x0a\x00\x07\x07\x00\x01\x00\x01\x00\x01\xf5";
 
-/// The offsets at which the replies in `REPLIES` end.
+/// 0, and the offsets at which the replies in `REPLIES` end.
 const REPLY_ENDS: [usize; 9] = [0, 8, 16, 28, 40, 48, 56, 70, 84];
 
-/// The offsets at which the replies in `STORED_REPLIES` end.
+/// 0, and the offsets at which the replies in `STORED_REPLIES` end.
 const STORED_ENDS: [usize; 7] = [0, 8, 20, 32, 40, 48, 62];
 
 /// The devices of a stream: the sizes of their pieces, and the number of calls until one fails.
