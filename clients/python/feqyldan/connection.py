@@ -660,7 +660,7 @@ class Connection:
 
     @property
     def _answered(self) -> int:
-        """The position where the last reply ends that a request has got."""
+        """The position at the end of the last reply that was given to a request."""
         line = self._line
         while len(line) > 1 and line[1].answer is not None:
             line.popleft()
