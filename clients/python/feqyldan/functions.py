@@ -335,9 +335,10 @@ class Functions(Generic[Given]):
     def convolve(self, input: Operand, convolution: Convolution, output: Operand,
                  border: Border = UNDEFINED) -> Given:
         """
-        Writes the sum of the window by the convolution's coefficients, divided by its scale,
-        rounded toward zero and then saturated. The first coefficient is for the window's last
-        pixel. U8 to U8 or S16. A virtual output of open format becomes S16.
+        Writes the sum of the window's samples, weighted by the convolution's coefficients. The sum
+        is divided by the convolution's scale, rounded toward zero and saturated. The first
+        coefficient is for the window's last pixel. U8 to U8 or S16. A virtual output of open format
+        becomes S16.
         """
         return self._do("convolve", input, convolution, output, border=border)
 
@@ -349,8 +350,8 @@ class Functions(Generic[Given]):
 
     @function(wire.INTEGRAL, "IntegralImage")
     def integral_image(self, input: Operand, output: Operand) -> Given:
-        """Writes at each valid pixel the sum of the valid samples neither to the right of it nor
-        below it, modulo 2^32. U8 to U32."""
+        """Writes at each valid pixel the sum of the valid samples up to its column and its row,
+        both included, modulo 2^32. U8 to U32."""
         return self._do("integral_image", input, None, output)
 
     @function(wire.MIN_MAX_LOCATION, "MinMaxLoc")
