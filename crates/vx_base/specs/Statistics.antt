@@ -91,8 +91,8 @@ count_of z samples = count_by (λ s. int_eq s z) samples
 abbrev pub first_of : (ℕ → ℕ → ℤ) → ℤ → List (ℕ × ℕ) → ℕ × ℕ
 first_of f z ps = unwrap_or (find (λ p. int_eq (f p.0 p.1) z) ps) (0, 0)
 
--- the least and the greatest valid sample of a U8 or S16 image; for each of the two, the number of
--- valid pixels that have it, and the first such pixel
+-- the least and the greatest valid sample of a U8 or S16 image. For each of the two: the number of
+-- valid pixels that have it, and the first such pixel.
 abbrev pub extremes : ImageValue → Extremes
 extremes image =
     let least = best_of int_min (valid_samples image) in

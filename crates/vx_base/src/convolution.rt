@@ -45,9 +45,9 @@ fn is_odd_side(side: u8) -> bool
 }
 
 impl Convolution {
-    /// Returns the matrix with these coefficients, in row-major order. `None` if the number of
-    /// columns or of rows is not 3, 5, 7 or 9, the exponent is above 31, or there isn't one
-    /// coefficient for each element.
+    /// Returns the matrix with these coefficients, in row-major order. `None` if `columns` or
+    /// `rows` is not 3, 5, 7 or 9, `exponent` is above 31, or there isn't one coefficient for each
+    /// element.
     pub fn new(columns: u8, rows: u8, exponent: u8, coefficients: &[i16]) -> Option<Convolution>
         ensures { result ≡ (if is_convolution columns rows exponent (length coefficients.now)
             then Some (record {
