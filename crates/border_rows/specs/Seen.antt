@@ -19,13 +19,14 @@ border_row valid Undefined y = None
 border_row valid (Constant value) y = None
 border_row valid Replicate y = Some (clamp_coordinate valid.y0 valid.y1 y)
 
--- the valid row that a window reads for row y: row y itself if it is valid, else the border's row,
--- if there is one
+-- the valid row that a window reads for row y: row y itself if it is valid, else the result of
+-- border_row
 abbrev pub row_seen : Rectangle → Border → ℤ → Option ℕ
 row_seen valid border y =
     if int_le (pos valid.y0) y && int_lt y (pos valid.y1) then Some (unsigned_abs y) else border_row valid border y
 
--- the sample that a window reads in column x of a row for which it reads the valid row `line`
+-- the sample that a window reads in column x along the valid row `line`, or the border's sample if
+-- column x is not valid
 abbrev pub seen_along : ImageValue → Border → ℕ → ℤ → ℤ
 seen_along image border line x =
     if int_lt x (pos image.valid.x0) then border_value border (pixel_at image image.valid.x0 line)

@@ -40,7 +40,7 @@ pub fn border_value(border: Border, edge: u8) -> u8
 }
 
 /// Returns the valid row that a window reads for row `y`: row `y` itself if it is valid, else the
-/// border's row. `None` if the border takes no row of the image.
+/// nearest valid row if the border is replicated. `None` if neither is the case.
 fn row_seen(image: &Image<'_>, border: Border, y: i32) -> Option<u16>
     requires { image.now.valid.y0 < image.now.valid.y1 }
     ensures value { result ≡ row_seen image.now.valid border y }
@@ -58,7 +58,7 @@ fn row_seen(image: &Image<'_>, border: Border, y: i32) -> Option<u16>
     }
 }
 
-/// Converts samples to the number type.
+/// Writes the samples to `out`, converted to the number type.
 fn load_samples<T: Loaded>(samples: &[u8], out: &mut [T])
     requires { length samples.now ≡ length out.old }
     ensures { map T.value out.new ≡ map pos samples.now }
@@ -137,8 +137,8 @@ pub fn load_row<T: Loaded>(
 }
 
 /// Returns the samples that a window reads in row `y` of a U8 image, at `count` valid columns from
-/// column `x` on. They are the image's own samples, without a copy, or part of `off_rows` if the
-/// border takes no row of the image. Each sample of `off_rows` has the border's value.
+/// column `x` on. They are the image's own samples, without a copy. If the window reads no valid
+/// row for row `y`, they are part of `off_rows`, whose samples all have the border's value.
 pub fn row_in_place<'a>(
     image: &'a Image<'_>,
     x: u16,

@@ -1,4 +1,5 @@
-//! Worked examples: the results for a column of four pixels, and for one that differs in one row.
+//! Worked examples: the results for a column of four pixels, and for a second column that differs
+//! from the first in one row.
 ghost use Rattle.std.specs.Prelude.{◌≡◌, [], ◌∷◌, Some, None, pos};
 ghost use Rattle.vx_base.specs.declared.format.Format.TheVariants.{U8, S16, U32};
 ghost use Rattle.vx_base.specs.declared.function.Function.TheVariants.{NotBits, Box, Convolve};
@@ -25,7 +26,7 @@ pub fn box_of_a_column()
         ≡ pos 13 ∷ pos 40 ∷ pos 50 ∷ pos 56 ∷ [] }
 {}
 
-/// Convolution with five rows: if row 2 differs, row 0 of the output does, two rows above it.
+/// Convolution with a matrix of five rows: if row 2 of the input differs, row 0 of the output does.
 pub fn convolved_column()
     ensures window_radius { window_radius Convolve (Some upper_row) ≡ Some 2 }
     ensures first { node_samples Convolve U8 (column 10 20 30 40)

@@ -44,9 +44,9 @@ pub fn rows_in_radius_decide()
         ≡ pixel_at (node_image n output format b other) x y }
 {}
 
-/// A band of the output is decided by a band of each input: of the first input the same band with
-/// its halo, of a second image or an accumulator the same band. The halo is as many rows as the
-/// vertical radius, above and below the band.
+/// A band of the output is decided by the rows of the first input in the same band and its halo. A
+/// second image, or the accumulator, is read in the same band only. The halo has as many rows above
+/// the band as the vertical radius, and as many below.
 pub fn bands_in_radius_decide()
     ensures { (n : Node) (output : Output) (format : Format) (a b : ImageValue)
         (second other : Option ObjectValue) (rows first last : ℕ) → IsImage a →

@@ -5,18 +5,18 @@ use Rattle.vx_base.specs.declared.format.Format.TheVariants.{U8, S16, U32}
 use Rattle.vx_base.specs.declared.function.Function.{Function}
 use Rattle.vx_base.specs.declared.function.Function.TheVariants.{AndBits, OrBits, XorBits, NotBits, Add, Subtract, Multiply, AbsoluteDifference, MinPixel, MaxPixel, Threshold, TableLookup, ConvertDepth, Box, Gaussian, Median, Erode, Dilate, Sobel, Convolve, Histogram, Integral, MinMaxLoc, Accumulate, AccumulateSquare}
 
--- two U8 inputs and a U8 output
+-- whether all three formats are U8: both inputs' and the output's
 abbrev pub are_bytes : Format → Format → Format → Bool
 are_bytes U8 U8 U8 = true
 are_bytes a b g = false
 
--- inputs and output all U8, or all S16
+-- whether all three formats are U8, or all are S16
 abbrev pub are_equal : Format → Format → Format → Bool
 are_equal U8 U8 U8 = true
 are_equal S16 S16 S16 = true
 are_equal a b g = false
 
--- U8 or S16 inputs and an S16 output, or all U8
+-- whether the inputs are U8 or S16 and the output is S16, or all three are U8
 abbrev pub are_arithmetic : Format → Format → Format → Bool
 are_arithmetic U8 U8 U8 = true
 are_arithmetic U8 U8 S16 = true

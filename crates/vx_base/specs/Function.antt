@@ -50,11 +50,11 @@ function_numbered n = find (λ function. function_number function == n) function
 abbrev pub of_one_image : Parameters
 of_one_image = record { second_input = None; policy = false; greatest_amount = None; output = kind.Image; output_pair = false }
 
--- an input image and a second input of this kind
+-- one input image, a second input of this kind, and one output image
 abbrev pub of_two_operands : Kind → Parameters
 of_two_operands second = record of_one_image { second_input = Some second }
 
--- two input images and an overflow policy
+-- two input images, an overflow policy, and one output image
 abbrev pub of_arithmetic : Parameters
 of_arithmetic = record (of_two_operands kind.Image) { policy = true }
 

@@ -64,7 +64,8 @@ inputs n = n.in1 ∷ optional_cells n.in2
 abbrev pub outputs : Node → List Reference
 outputs n = optional_cells n.out1 ++ optional_cells n.out2
 
--- the kind of a node's second input; if the node's function has none, Image, which is then unused
+-- the kind of a node's second input; if the node's function has no second input, the kind is Image,
+-- which nothing uses
 abbrev pub second_kind : Node → Kind
 second_kind n = unwrap_or (parameters n.function).second_input kind.Image
 

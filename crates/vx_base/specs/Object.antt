@@ -72,7 +72,7 @@ object_format other = None
 abbrev pub image_bytes : ImageValue → ℕ
 image_bytes image = byte_count (description_of image)
 
--- the bytes that an object counts against the client's quota: the bytes of its images' samples
+-- the bytes that an object takes from the client's quota: the bytes of its images' samples
 abbrev pub object_bytes : ObjectValue → ℕ
 object_bytes (ImageObject image) = image_bytes image
 object_bytes (DelayObject images) = sum_by image_bytes images

@@ -22,8 +22,8 @@ image_of_one ConvertDepth n output format a = from_one format (formula_of_one Co
 image_of_one Integral n output format a = sums_in format a
 image_of_one function n output format a = from_nine format (formula_of_nine function output) n.border a
 
--- an output image in this format, computed from the node's first input and, if there is one, the
--- next operand
+-- an output image in this format, computed from the node's first input and from its second operand,
+-- if it has one
 abbrev pub node_image : Node → Output → Format → ImageValue → Option ObjectValue → ImageValue
 node_image n output format a None = image_of_one n.function n output format a
 node_image n output format a (Some (ImageObject b)) = from_two format (formula_of_two n.function format n.policy n.amount) a b
@@ -32,7 +32,7 @@ node_image n output format a (Some (ThresholdObject threshold)) = from_one forma
 node_image n output format a (Some (ConvolutionObject convolution)) = from_matrix format convolution n.border a
 node_image n output format a (Some other) = from_one format (λ _. pos 0) a
 
--- the operand after the first input: the second input, or the output's earlier content if the function accumulates
+-- a node's second operand: its second input, or the output's earlier content if the function accumulates
 abbrev pub second_or_output : Node → Option ObjectValue → ObjectValue → Option ObjectValue
 second_or_output n second old = if accumulates n.function then Some old else second
 
@@ -45,24 +45,24 @@ node_output n output (ImageObject a) second (DistributionObject d) = Distributio
 node_output n output (ImageObject a) second (ExtremesObject e) = ExtremesObject (extremes a)
 node_output n output first second old = old
 
--- an output's reference with its new value, as a list of one pair; empty if the first input or the
--- output is missing
+-- an output's reference and the output's new value, as a list of one pair; empty if the first input
+-- or the output is missing
 abbrev pub written_to : Node → Output → Reference → Option ObjectValue → Option ObjectValue → Option ObjectValue → List (Reference × ObjectValue)
 written_to n output cell (Some first) second (Some old) = (cell, node_output n output first second old) ∷ []
 written_to n output cell first second old = []
 
--- the new value of one output, as a list of at most one pair. `start` gives the objects at the
--- start of the run, `held` the present objects: the output's earlier value is from `start`, the
--- inputs from `held`.
+-- an output's reference and the output's new value, as a list of at most one pair. `start` gives the
+-- objects at the start of the run, `held` the present objects. The output's earlier value is from
+-- `start`, the inputs are from `held`.
 abbrev pub written_in : Node → Output → Option Reference → (Reference → Option ObjectValue) → (Reference → Option ObjectValue) → List (Reference × ObjectValue)
 written_in n output None start held = []
 written_in n output (Some cell) start held = written_to n output cell (held n.in1) (option_and_then held n.in2) (start cell)
 
--- each output of a node with its new value
+-- the outputs of a node, each with the output's new value
 abbrev pub written_from : (Reference → Option ObjectValue) → Node → (Reference → Option ObjectValue) → List (Reference × ObjectValue)
 written_from start n held = written_in n First n.out1 start held ++ written_in n Second n.out2 start held
 
--- each output of a node that runs first with its new value: all objects are still as at the start
--- of the run
+-- the outputs of the first node that runs, each with the output's new value; until then all objects
+-- are as at the start of the run
 abbrev pub written_by : Node → (Reference → Option ObjectValue) → List (Reference × ObjectValue)
 written_by n held = written_from held n held

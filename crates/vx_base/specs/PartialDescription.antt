@@ -1,4 +1,4 @@
--- Partial descriptions, as virtual images are declared. OpenVX 1.3, "Object: Image", vxCreateVirtualImage.
+-- Partial descriptions, with which virtual images are declared. OpenVX 1.3, "Object: Image", vxCreateVirtualImage.
 use Rattle.std.specs.Prelude.{ℕ, Bool, true, ◌&&◌, IsTrue, if◌then◌else◌, Option, Some, None}
 use Rattle.std.specs.Option.{option_or}
 use Rattle.vx_base.specs.declared.format.Format.{Format}

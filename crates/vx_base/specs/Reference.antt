@@ -11,7 +11,7 @@ pub record Reference : Type 0 where
 abbrev pub reference_to : ℕ → Reference
 reference_to name = record { name = name; slot = None }
 
--- whether two slots of references are equal; None is no slot
+-- whether the slots of two references are equal; None is no slot
 abbrev pub same_slot : Option ℕ → Option ℕ → Bool
 same_slot None None = true
 same_slot (Some j) (Some k) = j == k

@@ -35,11 +35,11 @@ pub record BinsValue : Type 0 where
   pub offset : ℕ
   pub range : ℕ
 
--- whether bins may have these numbers; the sum of offset and range may exceed 256
+-- whether bins may have this number, offset and range; the sum of offset and range may exceed 256
 abbrev pub are_bins : ℕ → ℕ → ℕ → Bool
 are_bins bins offset range = ((nat_le 1 bins && nat_le bins GREATEST_BINS) && nat_lt offset 256) && (nat_le 1 range && nat_le range 256)
 
--- the bins with these numbers, if they are permitted
+-- the bins with this number, offset and range, if these are permitted
 abbrev pub bins_of : ℕ → ℕ → ℕ → Option BinsValue
 bins_of bins offset range = if are_bins bins offset range then Some (record { bins = bins; offset = offset; range = range }) else None
 
@@ -66,9 +66,9 @@ histogram b image = tallies b (valid_samples image)
 abbrev pub sum_to : ImageValue → ℕ → ℕ → ℤ
 sum_to image x y = pos (sum_by unsigned_abs (samples_in (meet_of image.valid (whole_rectangle (x + 1) (y + 1))) image) % 2 ^ 32)
 
--- the integral image of a U8 image in this format, valid where the input is; samples outside the
--- input's valid rectangle count as 0. These zeros and the modulus 2^32 are this project's choices;
--- OpenVX doesn't define sums beyond 32 bits.
+-- the integral image, in this format, of a U8 image. It is valid where the input is; samples outside
+-- the input's valid rectangle count as 0. These zeros and the modulus 2^32 are this project's
+-- choices; OpenVX doesn't define sums beyond 32 bits.
 abbrev pub sums_in : Format → ImageValue → ImageValue
 sums_in format image = image_from image.width image.height format image.valid (sum_to image)
 
@@ -91,7 +91,8 @@ count_of z samples = count_by (λ s. int_eq s z) samples
 abbrev pub first_of : (ℕ → ℕ → ℤ) → ℤ → List (ℕ × ℕ) → ℕ × ℕ
 first_of f z ps = unwrap_or (find (λ p. int_eq (f p.0 p.1) z) ps) (0, 0)
 
--- the least and the greatest valid sample of a U8 or S16 image, the number of pixels that have each, and the first such pixel
+-- the least and the greatest valid sample of a U8 or S16 image. For each of the two: the number of
+-- valid pixels that have it, and the first such pixel.
 abbrev pub extremes : ImageValue → Extremes
 extremes image =
     let least = best_of int_min (valid_samples image) in

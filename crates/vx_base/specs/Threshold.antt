@@ -6,7 +6,8 @@ use Rattle.vx_base.specs.declared.threshold.ThresholdKind.{ThresholdKind}
 use Rattle.vx_base.specs.declared.threshold.ThresholdKind.TheVariants.{Binary, Range}
 use Rattle.vx_base.specs.Sample.{min_sample, max_sample}
 
--- a threshold for samples of the format
+-- a threshold: the format of the samples that it tests, the comparison, and the results for samples
+-- that pass and for samples that don't
 pub record ThresholdValue : Type 0 where
   pub format : Format
   pub kind : ThresholdKind

@@ -126,7 +126,8 @@ row_product c f x l = total (map (λ k. f (x +ℤ pos (c.columns / 2) -ℤ pos k
 abbrev pub matrix_product : ConvolutionValue → (ℤ → ℤ → ℤ) → ℤ → ℤ → ℤ
 matrix_product c f x y = total (map (λ l. row_product c (λ u. f u (y +ℤ pos (c.rows / 2) -ℤ pos l)) x l) (range_with_len 0 c.rows))
 
--- the sum divided by 2^exponent, rounded toward zero and clamped to the format
+-- the dot product with the turned matrix, divided by 2^exponent, rounded toward zero and clamped to
+-- the format
 abbrev pub convolution_result : ConvolutionValue → Format → (ℤ → ℤ → ℤ) → ℤ → ℤ → ℤ
 convolution_result c format f x y = clamp format (int_div (matrix_product c f x y) (pos (2 ^ c.exponent)))
 

@@ -31,7 +31,8 @@ impl Model for Bins {
 }
 
 impl Bins {
-    /// Returns the bins with these numbers, or `None` if one of them is out of its range.
+    /// Returns the bins with this number, offset and range, or `None` if one of the three is beyond
+    /// its limits.
     pub fn new(bins: u16, offset: u16, range: u16) -> Option<Bins>
         ensures { result ≡ bins_of bins offset range }
     {

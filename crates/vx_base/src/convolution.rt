@@ -9,8 +9,9 @@ use std::marker::Model;
 /// The number of coefficients of the largest matrix, 9x9.
 pub const GREATEST_COEFFICIENTS: usize = 81;
 
-/// A convolution matrix for U8 images (OpenVX 1.3, `vx_convolution`). It has 3, 5, 7 or 9 columns
-/// and rows of S16 coefficients. Each sum is divided by a power of two, whose exponent is 0 to 31.
+/// A convolution matrix for U8 images (OpenVX 1.3, `vx_convolution`). It has 3, 5, 7 or 9 columns,
+/// 3, 5, 7 or 9 rows, and S16 coefficients. Each sum is divided by a power of two, whose exponent
+/// is 0 to 31.
 #[derive(Debug, Drop)]
 pub struct Convolution {
     columns: u8,
@@ -44,8 +45,9 @@ fn is_odd_side(side: u8) -> bool
 }
 
 impl Convolution {
-    /// Returns the matrix with these coefficients, in row-major order. `None` if a side is not 3,
-    /// 5, 7 or 9, the exponent is above 31, or there isn't one coefficient for each element.
+    /// Returns the matrix with these coefficients, in row-major order. `None` if `columns` or
+    /// `rows` is not 3, 5, 7 or 9, `exponent` is above 31, or there isn't one coefficient for each
+    /// element.
     pub fn new(columns: u8, rows: u8, exponent: u8, coefficients: &[i16]) -> Option<Convolution>
         ensures { result ≡ (if is_convolution columns rows exponent (length coefficients.now)
             then Some (record {

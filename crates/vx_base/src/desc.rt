@@ -68,7 +68,7 @@ impl Desc {
         let _sides = (self.width, self.height);
     }
 
-    /// Checks whether the images have the same width and height.
+    /// Checks whether this description and `other` have the same width and height.
     pub fn has_size_of(self, other: Desc) -> bool
         ensures { result ≡ same_size self other }
     {

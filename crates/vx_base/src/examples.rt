@@ -110,7 +110,8 @@ pub fn sums()
     ensures wrapped_short { sum S16 Wrap (pos 32767) (pos 1) ≡ negsuc 32767 }
 {}
 
-/// 100 - 200, and the distance between the least and the greatest S16 sample.
+/// Differences of 100 and 200, and the absolute difference of the least and the greatest S16
+/// sample.
 pub fn differences()
     ensures nearest { difference U8 Saturate (pos 100) (pos 200) ≡ pos 0 }
     ensures wrapped { difference U8 Wrap (pos 100) (pos 200) ≡ pos 156 }
@@ -119,7 +120,7 @@ pub fn differences()
     ensures absolute_of_ends { absolute_difference S16 (negsuc 32767) (pos 32767) ≡ pos 32767 }
 {}
 
-/// The square of -32768, unscaled and over 32768, and -3 over 2.
+/// The square of -32768, undivided and divided by 32768, and -3 divided by 2.
 pub fn products()
     ensures nearest { product S16 Saturate 0 (negsuc 32767) (negsuc 32767) ≡ pos 32767 }
     ensures wrapped { product S16 Wrap 0 (negsuc 32767) (negsuc 32767) ≡ pos 0 }
@@ -128,7 +129,8 @@ pub fn products()
     ensures to_zero { product S16 Saturate 1 (negsuc 2) (pos 1) ≡ negsuc 0 }
 {}
 
-/// 200 added to 400, 100 added to 32700, and squares of 255: unscaled, over 2 and over 32768.
+/// 200 added to 400, and 100 added to 32700. The square of 255, added undivided, divided by 2, and
+/// divided by 32768.
 pub fn accumulations()
     ensures added { accumulated_sum S16 (pos 200) (pos 400) ≡ pos 600 }
     ensures nearest { accumulated_sum S16 (pos 100) (pos 32700) ≡ pos 32767 }
@@ -154,7 +156,7 @@ pub fn accumulated_row()
     })).samples ≡ pos 11 ∷ pos 22 ∷ pos 0 ∷ pos 0 ∷ [] }
 {}
 
-/// -1 over 2 converted to U8, and 255 times 128 converted to S16.
+/// -1 converted to U8 with shift 1, and 255 converted to S16 with shift 7.
 pub fn conversions()
     ensures wrapped { depth_conversion U8 Wrap 1 (negsuc 0) ≡ pos 255 }
     ensures nearest { depth_conversion U8 Saturate 1 (negsuc 0) ≡ pos 0 }
@@ -268,8 +270,8 @@ pub fn and_of_halves()
         } }
 {}
 
-/// A code, and three sets of fields of Bitwise Not: of a node, without an output, and with a policy
-/// that the function doesn't take.
+/// The number and the name of a result code. Of three nodes of Bitwise Not, the first is permitted,
+/// the second has no output, and the third has a policy that the function doesn't take.
 pub fn nodes()
     ensures number { code_number InvalidFormat ≡ 5 }
     ensures name { code_name InvalidFormat ≡ codes "INVALID_FORMAT" }
@@ -310,7 +312,8 @@ pub fn nodes()
     }) ≡ false }
 {}
 
-/// Partial descriptions with their open parts filled in, and the formats of open outputs.
+/// Partial descriptions, open and filled in, and the formats that output images get if their own
+/// format is open.
 pub fn partial_descs()
     ensures filled { with_defaults (record { width = Some 4; height = None; format = None })
         (record { width = Some 8; height = Some 2; format = Some U8 })

@@ -1,8 +1,8 @@
 //! The extremes of an image's samples.
 
-/// The least and the greatest sample of an image, the number of pixels that have each, and the
-/// column and row of the first such pixel in row-major order (OpenVX 1.3, "Min, Max Location"). All
-/// eight numbers are 0 if the image has no valid pixel.
+/// The least and the greatest valid sample of an image (OpenVX 1.3, "Min, Max Location"). For each
+/// of the two: the number of valid pixels that have it, and the column and row of the first such
+/// pixel in row-major order. All eight numbers are 0 if the image has no valid pixel.
 #[derive(Clone, Copy, PartialEq, Eq, Debug)]
 pub struct Extremes {
     pub min: i16,

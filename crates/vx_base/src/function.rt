@@ -8,7 +8,7 @@ ghost use Rattle.vx_base.specs.declared.function.Function.{Function as VisionFun
 use crate::format::Format;
 use crate::kind::Kind;
 
-/// A vision function (OpenVX 1.3, "Vision Functions").
+/// A vision function (OpenVX 1.3, "Vision Functions"). Each variant quotes the name of its section.
 #[derive(Clone, Copy, PartialEq, Eq, Debug)]
 pub enum Function {
     /// "Bitwise AND".
@@ -239,8 +239,8 @@ impl Function {
         }
     }
 
-    /// Checks whether the function makes an `output` image from a `first` image and no other
-    /// operand with a format.
+    /// Checks whether the function makes an image of format `output` from an image of format
+    /// `first`, without a second operand that has a format.
     fn makes(self, first: Format, output: Format) -> bool
         ensures { result ≡ takes_formats self first None (Some output) }
     {
@@ -263,8 +263,8 @@ impl Function {
         }
     }
 
-    /// Checks whether the function makes an `output` image from a `first` image and a second
-    /// operand of format `second`.
+    /// Checks whether the function makes an image of format `output` from an image of format
+    /// `first` and a second operand of format `second`.
     fn joins(self, first: Format, second: Format, output: Format) -> bool
         ensures { result ≡ takes_formats self first (Some second) (Some output) }
     {

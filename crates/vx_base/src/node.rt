@@ -49,8 +49,8 @@ impl NodeSpec {
     ghost use Rattle.vx_base.specs.Node.{is_node, node_spec, IsNode};
 
     /// Returns the node with these fields, or `None` if they don't suit its function. A parameter
-    /// that the function doesn't take is `None`, `Policy::Wrap` or 0; no operand is name 0 without
-    /// a slot.
+    /// that the function doesn't take must be `None`, `Policy::Wrap` or 0. No operand may be the
+    /// reference of name 0 without a slot.
     pub fn new(node: Node) -> Option<NodeSpec>
         ensures { result ≡ node_spec node }
     {

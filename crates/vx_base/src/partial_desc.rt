@@ -33,7 +33,7 @@ impl Model for PartialDesc {
 
 impl PartialDesc {
     /// Returns the partial description with these parts; a part that is `None` is open. Returns
-    /// `None` if a given side isn't 1 to 8192.
+    /// `None` if a given width or height isn't 1 to 8192.
     pub fn new(
         width: Option<u16>,
         height: Option<u16>,

@@ -84,8 +84,8 @@ impl Rect {
     }
 
     /// Returns the pixels whose window, of radius `rx` across and `ry` down, lies wholly in this
-    /// rectangle. Under an undefined border this is the valid rectangle of a window function's
-    /// output.
+    /// rectangle. Under an undefined border the result is the valid rectangle of a window
+    /// function's output.
     pub fn shrink(self, rx: u16, ry: u16) -> Rect
         ensures { result ≡ shrink_of self rx ry }
     {

@@ -4,7 +4,7 @@ ghost use Rattle.vx_base.specs.declared.format.Format.{Format};
 ghost use Rattle.vx_base.specs.declared.function.Function.{Function};
 ghost use Rattle.vx_base.specs.Formats.{takes_formats, open_format};
 
-/// If a function can write an image from inputs of these formats, then `open_format` is a format
+/// If a function can write an image from inputs of given formats, then `open_format` is a format
 /// that its output may have.
 pub fn open_formats_suffice()
     ensures { (function : Function) (first output : Format) (second : Option Format) →

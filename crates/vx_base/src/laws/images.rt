@@ -42,7 +42,8 @@ pub fn formula_samples()
         pixel_at (image_from width height format valid f) x y ≡ pos 0 }
 {}
 
-/// A picture is a well-formed image, and an image's samples are a well-formed picture.
+/// A well-formed picture, taken as a wholly valid image, is a well-formed image. The samples of a
+/// well-formed image are a well-formed picture.
 pub fn pictures()
     ensures image { (p : PictureValue) → IsPicture p → IsImage (picture_image p) }
     ensures picture { (a : ImageValue) → IsImage a → IsPicture (picture_of a) }

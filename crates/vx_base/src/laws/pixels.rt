@@ -50,7 +50,7 @@ pub fn products_round_to_zero()
     ensures not_positive { (z : ℤ) (n : ℕ) → z ≤ℤ pos 0 → int_div z (pos (2 ^ n)) ≤ℤ pos 0 }
 {}
 
-/// The quotient by 2^n that Convert Bit Depth narrows is rounded down.
+/// Convert Bit Depth to U8 divides a sample by 2^n and rounds the quotient down.
 pub fn conversions_round_down()
     ensures not_above { (a : ℤ) (n : ℕ) → (int_div_euclid a (pos (2 ^ n)) *ℤ pos (2 ^ n)) ≤ℤ a }
     ensures nearest { (a : ℤ) (n : ℕ) → a <ℤ
@@ -64,7 +64,8 @@ pub fn absolute_differences()
     ensures shorts { (a b : ℤ) → absolute_difference S16 a b ≡ pos (min (distance a b) 32767) }
 {}
 
-/// If a function takes these formats, its results are samples of the output's format.
+/// If a function takes the formats of its inputs and its output, its results are samples of the
+/// output's format.
 pub fn results_are_samples()
     ensures one { (function : Function) (first output : Format) (policy : Policy) (n : ℕ) (a : ℤ) →
         IsTrue (takes_formats function first None (Some output)) →
