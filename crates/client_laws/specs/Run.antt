@@ -13,8 +13,8 @@ use Rattle.graph_run.specs.Operands.{operand_held}
 use Rattle.graph_run.specs.Solution.{Solves}
 use Rattle.client_model.specs.Graphs.{graph_named}
 
--- the objects as a run begins: a virtual image that the nodes write is an image of zeros with its resolved size and format; other objects
--- are unchanged
+-- the objects as a run begins: each virtual image that the nodes write is an image of zeros, with
+-- the resolved size and format; other objects are unchanged
 abbrev pub at_begin : List Node → List NamedObject → List NamedObject
 at_begin nodes objects = map (named_at_start (resolved_operand (operand_held objects) nodes) nodes) objects
 

@@ -31,9 +31,9 @@ pub fn what_verifies_runs()
 
 /// A successful ProcessGraph leaves the only solution of the graph. In the solution, each image,
 /// distribution and extremes that a node writes is the result of the node's function. The
-/// function's arguments are the node's inputs at the end of the run. This includes virtual images.
-/// All other objects are unchanged. After the run, virtual images have no samples again, and the
-/// delays that are registered with the graph age.
+/// function's arguments are the node's inputs at the end of the run. Inputs and outputs include
+/// virtual images. All other objects are unchanged. After the run, virtual images have no samples
+/// again, and the graph's registered delays age.
 pub fn a_run_is_the_only_solution()
     ensures { (limits : LimitsValue) (c later : Context) (name : ℕ) → KeepsLimits limits c →
         answer_to limits (Some c) (ProcessGraph name) ≡ (Empty, Some later) →
@@ -74,8 +74,9 @@ pub fn what_a_run_leaves()
         object_at later.objects cell ≡ object_at c.objects cell }
 {}
 
-/// A graph whose nodes were added in another order would run too, with the same result. Two graphs
-/// with the same nodes and the same registered delays also have the same result.
+/// If a graph runs, it would also run with its nodes added in another order, and leave the same
+/// result. Two graphs with the same registered delays, and with the same nodes in any order, also
+/// leave the same result.
 pub fn nodes_in_any_order()
     ensures had { (limits : LimitsValue) (c later : Context) (name : ℕ) (graph other : GraphValue) →
         KeepsLimits limits c → graph_named c.objects name ≡ Ok graph →

@@ -81,8 +81,8 @@ verify_found (Ok graph) limits c = reply_unless (option_map Rejected (graph_verd
 abbrev pub verify_graph : LimitsValue → Context → ℕ → Outcome
 verify_graph limits c name = verify_found (graph_named c.objects name) limits c
 
--- the reply for the verdict on a graph; the objects after the graph's run, with the delays
--- registered with the graph aged; or the refusal
+-- the reply and the context after the graph has run and its registered delays have aged; or the
+-- refusal
 abbrev pub process_found : Result GraphValue Refusal → LimitsValue → Context → Outcome
 process_found (Err refusal) limits c = Err refusal
 process_found (Ok graph) limits c =
@@ -90,7 +90,6 @@ process_found (Ok graph) limits c =
     reply_unless (option_map Rejected (graph_verdict limits c.objects graph)) Empty
     (with_objects c (aged_under graph.delays (run_of_graph (resolved_operand (operand_held c.objects) nodes) nodes c.objects)))
 
--- ProcessGraph: the verdict on the graph; a valid graph runs, and then the delays that are
--- registered with the graph age
+-- ProcessGraph: the verdict on the graph; a valid graph runs, and then its registered delays age
 abbrev pub process_graph : LimitsValue → Context → ℕ → Outcome
 process_graph limits c name = process_found (graph_named c.objects name) limits c

@@ -39,7 +39,7 @@ create_image limits c d = create limits c (ImageObject (new_image d.width d.heig
 abbrev pub described_image : ImageValue → Described
 described_image image = record { format = Some image.format; width = image.width; height = image.height; valid = image.valid }
 
--- the description of a virtual image as it was declared, with 0 for an open side and an empty valid rectangle
+-- the declared description of a virtual image: an open side is 0, and the valid rectangle is empty
 abbrev pub described_virtual : PartialDescription → Described
 described_virtual declared = record { format = declared.format; width = unwrap_or declared.width 0; height = unwrap_or declared.height 0; valid = empty_rectangle }
 
@@ -70,13 +70,14 @@ picture_refusal image picture =
     if not (same_format image.format picture.format) then Some InvalidFormat
     else (if same_size image picture then None else Some InvalidDimension)
 
--- the image with the samples of a picture of the same format and size, or the refusal
+-- the image with the samples of a picture, if the picture has the image's format and size; or the
+-- refusal
 abbrev pub write_to : Result ImageValue Refusal → Context → Reference → PictureValue → Outcome
 write_to (Err refusal) c cell p = Err refusal
 write_to (Ok image) c cell p =
     reply_unless (picture_refusal (description_of image) p.description) Empty (with_objects c (with_object c.objects cell (ImageObject (picture_image p))))
 
--- WriteImage: the picture's samples; the whole image is valid
+-- WriteImage: the image with the picture's samples; the whole image is valid
 abbrev pub write_image : Context → Reference → PictureValue → Outcome
 write_image c cell p = write_to (image_of c.objects cell) c cell p
 
@@ -86,14 +87,14 @@ fault_refusal fault.InvalidDimension = InvalidDimension
 fault_refusal fault.InvalidValue = InvalidValue
 fault_refusal other = InvalidFormat
 
--- the image with the samples of a text's picture; or the refusal: of the image's reference, else of
--- the text, else of the picture
+-- the image with the samples of a text's picture; or the first refusal: of the image's reference,
+-- of the text, or of the picture
 abbrev pub write_text_to : Result ImageValue Refusal → Context → Reference → Result PictureValue PgmFault → Outcome
 write_text_to (Err refusal) c cell picture = Err refusal
 write_text_to (Ok image) c cell (Err fault) = Err (fault_refusal fault)
 write_text_to (Ok image) c cell (Ok p) = write_to (Ok image) c cell p
 
--- WriteImagePgm: the samples of the text's picture; the whole image is valid
+-- WriteImagePgm: the image with the samples of the text's picture; the whole image is valid
 abbrev pub write_text : Context → Reference → List ℕ → Outcome
 write_text c cell text = write_text_to (image_of c.objects cell) c cell (read_result text)
 

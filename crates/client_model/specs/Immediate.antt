@@ -43,7 +43,7 @@ abbrev pub away_refusal : List NamedObject → Node → Option Refusal
 away_refusal objects n =
     if list_any (λ operand. is_some_virtual (object_at objects operand.0)) (operands n) then Some OptimizedAway else None
 
--- the refusal of an immediate node: that of its operands, else that of virtual images, else the
+-- the first refusal of an immediate node: of its operands, of a virtual image among them, or by the
 -- verdict on the node
 abbrev pub node_refusal : List NamedObject → Node → Option Refusal
 node_refusal objects n =

@@ -1,7 +1,7 @@
 -- The limits of sample bytes: a client's quota, and a graph's work bytes.
 use Rattle.std.specs.Prelude.{ℕ, Bool, ◌&&◌, nat_le, if◌then◌else◌, Option, Some, None}
 
--- the most sample bytes of a client's images, and of a graph's virtual images
+-- the greatest number of sample bytes: of a client's images, and of a graph's virtual images
 pub record LimitsValue : Type 0 where
   pub quota : ℕ
   pub work : ℕ

@@ -20,7 +20,7 @@ use Rattle.client_model.specs.Request.{IsRequest}
 use Rattle.client_model.specs.Answer.{answer_to}
 use Rattle.object_table.specs.declared.table.TheConstants.{GREATEST_OBJECTS}
 
--- the kind of a reference in a node, whether the reference's name is still live or not
+-- the kind of a reference in a node, even if the reference's name is no longer live
 abbrev pub kind_held : List NamedObject → Reference → Option Kind
 kind_held objects cell = option_and_then (slot_kind cell.slot) (object_held objects cell.name)
 
@@ -36,8 +36,9 @@ holds_operand objects graph operand =
 abbrev pub NodesStand : List NamedObject → NamedObject → Type 0
 NodesStand objects o = All (λ n. All (λ operand. IsTrue (holds_operand objects o.name operand)) (operands n)) (nodes_in o.object)
 
--- The invariant of a context: valid objects, distinct names below the next one, each object held, nodes
--- that find their operands, at most 1,024 objects, and a charge within the quota.
+-- The invariant of a context. Objects are valid. Their names are distinct and below the next name,
+-- which is at most 2^32. Each object is held, and nodes find their operands. There are at most
+-- 1,024 objects, and their charge is within the quota.
 pub record KeepsLimits (limits : LimitsValue) (c : Context) : Type 0 where
   pub objects : All (λ o. IsObject o.object) c.objects
   pub names : IsStrictlyIncreasing (map (λ o. o.name) c.objects)
@@ -55,7 +56,7 @@ state_after limits state (request ∷ requests) = state_after limits (answer_to 
 
 -- ---- what requests don't change
 
--- a client's context after these requests of its own, none of which releases it
+-- a client's context after these requests of its own, none of which is ReleaseContext
 pub record IsLater (limits : LimitsValue) (c : Context) (requests : List Request) (later : Context) : Type 0 where
   pub keeps : KeepsLimits limits c
   pub are : All IsRequest requests

@@ -1,6 +1,6 @@
 //! Requests, replies and their meaning.
 //!
-//! A client's objects are named 1, 2, .. in the order in which it creates them. `specs/Answer.antt`
+//! A client's objects are named 1, 2, .. in the order of their creation. `specs/Answer.antt`
 //! defines the reply to a request in any state of the client, and the client's new state. The
 //! crates above are proved against this definition. Nothing in this crate depends on how objects
 //! are stored.

@@ -12,11 +12,18 @@ pub enum Refusal {
     /// An object is of another kind than the request needs. Slots of a delay are images; other
     /// objects have no slots.
     InvalidType,
-    /// The client has a context already, the delay has no such slot, a rectangle goes beyond the
-    /// image, or a PGM text has a sample above its maxval.
+    /// One of these cases:
+    ///
+    /// - the client has a context already
+    /// - a reference names a slot that its delay doesn't have
+    /// - a rectangle goes beyond the image
+    /// - a PGM text has a sample above its maxval
     InvalidValue,
-    /// A picture has another format than the image, an image that is read as a PGM text isn't U8,
-    /// or a text that is written isn't a PGM text.
+    /// One of these cases:
+    ///
+    /// - a picture has another format than the image
+    /// - an image that is read as a PGM text isn't U8
+    /// - a text that is written isn't a PGM text
     InvalidFormat,
     /// A picture has another size than the image, or a side that a PGM text states isn't 1 to 8192.
     InvalidDimension,

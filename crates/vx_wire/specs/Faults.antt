@@ -9,7 +9,7 @@ use Rattle.vx_wire.specs.declared.parse_fault.ParseFault.{ParseFault}
 use Rattle.vx_wire.specs.declared.parse_fault.ParseFault.TheVariants as parsing
 use Rattle.vx_wire.specs.Requests.{HoldsSamples}
 
--- the fault of parsing for a fault of the body
+-- the fault that parsing returns for a fault of the body
 abbrev pub parse_fault : BodyFault → ParseFault
 parse_fault InvalidParameters = parsing.InvalidParameters
 parse_fault InvalidFormat = parsing.InvalidFormat

@@ -28,8 +28,8 @@ write_image_in body = two_fields take_reference take_picture WriteImage body
 abbrev pub write_image_of : Reference → Description → List ℕ → Request
 write_image_of image d bytes = WriteImage image (record { description = d; samples = decoded_samples d.format (sample_count d) bytes })
 
--- the request WriteImagePgm that a body encodes: a reference to an image, then a text of all other
--- bytes, possibly none
+-- the request WriteImagePgm that a body encodes: a reference to an image, then a text, which is all
+-- remaining bytes, possibly none
 abbrev pub write_image_pgm_in : List ℕ → Result Request BodyFault
 write_image_pgm_in body = and_then (take_reference body) (λ image text. Ok (WriteImagePgm image text))
 

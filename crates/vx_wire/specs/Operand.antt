@@ -9,13 +9,14 @@ use Rattle.vx_wire.specs.declared.fields.operand.Presence.TheVariants.{Required,
 use Rattle.vx_wire.specs.Fields.{FieldResult, and_then, allowed_or_fault}
 use Rattle.vx_wire.specs.Reference.{take_reference, reference_bytes}
 
--- the operand that a reference encodes, if the operand is given or absent as its presence requires
+-- the operand that a reference encodes, if it agrees with the presence: a required operand must be
+-- given, and an absent operand must not
 abbrev pub operand : Presence → Reference → Option (Option Reference)
 operand Required cell = if is_nothing cell then None else Some (Some cell)
 operand Absent cell = if is_nothing cell then Some None else None
 operand Free cell = if is_nothing cell then Some None else Some (Some cell)
 
--- reads an operand from the front of a body: a reference, given or absent as its presence requires
+-- reads an operand from the front of a body: a reference that agrees with the operand's presence
 abbrev pub take_operand : Presence → List ℕ → FieldResult (Option Reference)
 take_operand presence body = and_then (take_reference body) (λ cell rest. allowed_or_fault InvalidParameters (operand presence cell) rest)
 
@@ -24,13 +25,13 @@ abbrev pub operand_bytes : Option Reference → List ℕ
 operand_bytes None = reference_bytes (record { name = 0; slot = None })
 operand_bytes (Some cell) = reference_bytes cell
 
--- whether an operand can be encoded, and is given or absent as its presence requires
+-- whether an operand can be encoded, and agrees with its presence
 abbrev pub is_operand : Presence → Option Reference → Bool
 is_operand Required cell = is_some cell && is_named cell
 is_operand Absent cell = is_none cell
 is_operand Free cell = is_named cell
 
--- ---- the operands that the node of a function has
+-- ---- the operands of a node, given the parameters of its function
 
 -- the presence of the second input: required if the function has one, else absent
 abbrev pub second_input : Parameters → Presence
@@ -40,8 +41,8 @@ second_input p = if is_some p.second_input then Required else Absent
 abbrev pub first_output : Parameters → Presence
 first_output p = if p.output_pair then Free else Required
 
--- the presence of the second output: absent without a pair; of a pair of outputs, at least one is
--- required
+-- the presence of the second output: absent if the function has no pair of outputs; of a pair, at
+-- least one output is required
 abbrev pub second_output : Parameters → Option Reference → Presence
 second_output p out1 = if p.output_pair then (if is_none out1 then Required else Free) else Absent
 

@@ -8,8 +8,10 @@ pub enum BodyFault {
     InvalidParameters,
     /// A number isn't a format, or it is a format that a table or a threshold can't have.
     InvalidFormat,
-    /// A width or a height isn't 1 to 8192 (or 0, where it may be open), or the number of columns
-    /// or rows of a convolution isn't 3, 5, 7 or 9.
+    /// A dimension is out of range:
+    ///
+    /// - a width or a height isn't 1 to 8192 (or 0, where it may be open)
+    /// - the number of columns or rows of a convolution isn't 3, 5, 7 or 9
     InvalidDimension,
     /// A number is out of range:
     ///

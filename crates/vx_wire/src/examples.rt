@@ -32,8 +32,7 @@ ghost use Rattle.vx_wire.specs.Described.{described_bytes};
 ghost use Rattle.vx_wire.specs.Counts.{counts_bytes};
 ghost use Rattle.vx_wire.specs.Extremes.{extremes_bytes};
 
-/// OpenContext and ReleaseContext have an empty body. An op that isn't in the table encodes no
-/// request.
+/// OpenContext and ReleaseContext have an empty body. An unknown op number encodes no request.
 pub fn ops()
     ensures open { request_of 1 [] ≡ Ok OpenContext }
     ensures open_with_more { request_of 1 (0 ∷ []) ≡ Err InvalidParameters }
@@ -43,7 +42,7 @@ pub fn ops()
     ensures not_known { request_of 200 [] ≡ Err InvalidParameters }
 {}
 
-/// Creating images of one sample and of 8192 by 2 samples; and descriptions out of range.
+/// Creating images of 1 by 1 and of 8192 by 2 pixels; and descriptions that are out of range.
 pub fn images_made()
     ensures smallest { request_of 3 (1 ∷ 0 ∷ 1 ∷ 0 ∷ 1 ∷ [])
         ≡ Ok (CreateImage (record { width = 1; height = 1; format = U8 })) }
@@ -75,8 +74,8 @@ pub fn images_written_and_read()
         ≡ Ok (ReadImage (record { name = 258; slot = Some 3 })) }
 {}
 
-/// Writing texts to image 7, one of them empty: the text isn't parsed with the body. A reference
-/// that is cut short is a fault.
+/// Writing texts to image 7 and to slot 3 of delay 258. The text is not parsed with the body, and
+/// may be empty. A reference that is cut short is a fault.
 pub fn texts_written()
     ensures written { request_of 6 (0 ∷ 0 ∷ 0 ∷ 7 ∷ 255 ∷ 80 ∷ 53 ∷ 10 ∷ [])
         ≡ Ok (WriteImagePgm (record { name = 7; slot = None }) (80 ∷ 53 ∷ 10 ∷ [])) }
@@ -107,8 +106,8 @@ pub fn images_queried()
     ensures more { request_of 4 (0 ∷ 0 ∷ 0 ∷ 1 ∷ 255 ∷ 0 ∷ []) ≡ Err InvalidParameters }
 {}
 
-/// The description of a U8 image of 4 by 1 samples, of which the second and the third are valid.
-/// The description of an image of 258 by 1 samples with an open format and no valid pixels.
+/// The description of a U8 image of 4 by 1 pixels, of which the second and the third are valid.
+/// The description of an image of 258 by 1 pixels with an open format and no valid pixels.
 pub fn images_described()
     ensures known { described_bytes (record {
       format = Some U8;
@@ -250,7 +249,7 @@ pub fn distributions_read()
     ensures with_a_slot { request_of 15 (0 ∷ 0 ∷ 1 ∷ 2 ∷ 255 ∷ []) ≡ Err InvalidParameters }
 {}
 
-/// Creating extremes by an empty body, and reading extremes 258.
+/// Creating an object for extremes by an empty body, and reading object 258.
 pub fn extremes_made_and_read()
     ensures made { request_of 16 [] ≡ Ok CreateMinMax }
     ensures made_with_more { request_of 16 (0 ∷ []) ≡ Err InvalidParameters }
@@ -259,8 +258,9 @@ pub fn extremes_made_and_read()
     ensures with_a_slot { request_of 17 (0 ∷ 0 ∷ 1 ∷ 2 ∷ 255 ∷ []) ≡ Err InvalidParameters }
 {}
 
-/// The replies for a distribution of 3 bins, and for extremes -2 and 258. Sample -2 occurs once, in
-/// column 3 and row 4. Sample 258 occurs 65,536 times, first in column 5 and row 515.
+/// The replies for a distribution of 3 bins, and for the least sample -2 and the greatest sample
+/// 258. Sample -2 occurs once, in column 3 and row 4. Sample 258 occurs 65,536 times, first in
+/// column 5 and row 515.
 pub fn statistics_told()
     ensures counts { counts_bytes (1 ∷ 0 ∷ 16777216 ∷ [])
         ≡ 0 ∷ 3 ∷ 0 ∷ 0 ∷ 0 ∷ 1 ∷ 0 ∷ 0 ∷ 0 ∷ 0 ∷ 1 ∷ 0 ∷ 0 ∷ 0 ∷ [] }
@@ -281,8 +281,8 @@ pub fn graphs_made()
     ensures more { request_of 18 (0 ∷ []) ≡ Err InvalidParameters }
 {}
 
-/// Virtual images of graph 3 with all fields known, none or some; and fields out of range. The
-/// first invalid field decides the fault, even if the next one is cut short.
+/// Creating virtual images of graph 3 with all, no or some fields known; and fields that are out of
+/// range. The first invalid field decides the fault, even if the next field is cut short.
 pub fn virtual_images_made()
     ensures known { request_of 19 (0 ∷ 0 ∷ 0 ∷ 3 ∷ 1 ∷ 1 ∷ 2 ∷ 32 ∷ 0 ∷ [])
         ≡ Ok (CreateVirtualImage 3 (record {
@@ -315,8 +315,8 @@ pub fn virtual_images_made()
     ensures no_name { request_of 19 (0 ∷ 0 ∷ 0 ∷ []) ≡ Err InvalidParameters }
 {}
 
-/// Adding a Not node from image 1 to image 2 to graph 258; and invalid nodes. The graph's name is
-/// read before the node.
+/// Adding to graph 258 a Not node, which reads image 1 and writes image 2; and invalid nodes. The
+/// graph's name is read before the node.
 pub fn nodes_added()
     ensures added { request_of 20 (0 ∷ 0 ∷ 1 ∷ 2 ∷ 4 ∷ 0 ∷ 0 ∷ 0 ∷ 0 ∷ 0 ∷ 0 ∷ 0 ∷ 1 ∷ 255 ∷ 0 ∷ 0
         ∷ 0 ∷ 0 ∷ 255 ∷ 0 ∷ 0 ∷ 0 ∷ 2 ∷ 255 ∷ 0 ∷ 0 ∷ 0 ∷ 0 ∷ 255 ∷ [])
@@ -408,7 +408,7 @@ pub fn nodes()
         ∷ 0 ∷ 0 ∷ 255 ∷ []) ≡ Err InvalidParameters }
 {}
 
-/// A Multiply node from images 1 and 2 to image 3, saturating, with the scale 1 / 2^15; and amounts
+/// A saturating Multiply node from images 1 and 2 to image 3 with the scale 1 / 2^15; and amounts
 /// above 15.
 pub fn multiply_nodes()
     ensures whole { request_of 24 (7 ∷ 0 ∷ 0 ∷ 1 ∷ 15 ∷ 0 ∷ 0 ∷ 0 ∷ 1 ∷ 255 ∷ 0 ∷ 0 ∷ 0 ∷ 2 ∷ 255
@@ -431,7 +431,8 @@ pub fn multiply_nodes()
     ensures too_much_and_cut { request_of 24 (7 ∷ 0 ∷ 0 ∷ 0 ∷ 16 ∷ []) ≡ Err InvalidValue }
 {}
 
-/// Delays of 3, 1 and 16 images like image 1 or a slot of a delay; and invalid slot counts.
+/// Creating delays of 3, 1 and 16 slots from image 1, and of 3 slots from slot 5 of delay 258; and
+/// invalid slot counts.
 pub fn delays_made()
     ensures made { request_of 25 (0 ∷ 0 ∷ 0 ∷ 1 ∷ 255 ∷ 3 ∷ [])
         ≡ Ok (CreateDelay (record { name = 1; slot = None }) 3) }

@@ -1,18 +1,18 @@
 //! The bodies of requests and replies, as bytes.
 //!
 //! `parse` returns the request that a body encodes. Functions with names like `description_bytes`
-//! return the bytes of a field. Encoding a field that was read gives the same bytes; the laws state
-//! this for whole requests. Streams, frames and clients are outside this crate.
+//! return the bytes of a field. Encoding a field that was read gives the bytes that were read; the
+//! laws state this for whole requests. Streams, frames and clients are outside this crate.
 //!
 //! - `op`: the kinds of requests, and their numbers
 //! - `body_fault`, `parse_fault`: why a body encodes no request, and why parsing failed
 //! - `fields`: reads fields from the front of a body. Its modules read and encode one field each:
 //!   `format`, `description`, `partial_desc` (a partial description), `reference`, `rectangle`,
 //!   `samples`, `threshold`, `convolution`, `bins` (of a distribution), `operand`, `node`, `slots`
-//!   (of a delay). `described` (of an image) and `extremes` encode replies.
+//!   (of a delay). `described` (an image's description) and `extremes` encode replies.
 //! - `requests`: the bodies of requests, by families: `contexts`, `images`, `objects` (of any
-//!   kind), `tables` (and thresholds and convolutions), `statistics` (distributions and extremes),
-//!   `graphs`, `immediate`, `delays`
+//!   kind), `tables` (lookup tables, thresholds and convolutions), `statistics` (distributions and
+//!   extremes), `graphs`, `immediate`, `delays`
 //! - `parsing`: the body of any request
 //! - `take_image_head`: the fields before the samples in the body of WriteImage
 //! - `take_image_pgm_fields`: the image and the text in the body of WriteImagePgm

@@ -38,7 +38,7 @@ pub enum Op {
 }
 
 impl Op {
-    /// Returns the byte of the op in a frame.
+    /// Returns the number of the op, which is its byte in a frame.
     pub fn number(self) -> u8
         ensures { result ≡ op_number self }
     {

@@ -6,10 +6,10 @@ use std::alloc::AllocError;
 use thiserror::Error;
 use vx_base::Code;
 
-/// Why parsing a body failed: it encodes no request, or memory ran out.
+/// Why parsing a body failed: the body encodes no request, or memory ran out.
 #[derive(Clone, Copy, Debug, PartialEq, Eq, Error)]
 pub enum ParseFault {
-    /// No memory could be allocated for the samples of a picture, the entries of a table or a text.
+    /// No memory could be allocated for a picture's samples, a table's entries or a text.
     #[error("no memory")]
     NoMemory,
     /// The op is unknown, a field is cut short or has a value that isn't allowed, or bytes follow
@@ -19,8 +19,7 @@ pub enum ParseFault {
     /// A number isn't a format, or it is a format that a table or a threshold can't have.
     #[error("invalid format")]
     InvalidFormat,
-    /// A width or a height isn't 1 to 8192 (or 0, where it may be open), or the number of columns
-    /// or rows of a convolution isn't 3, 5, 7 or 9.
+    /// A dimension is out of range, as `BodyFault::InvalidDimension` lists.
     #[error("invalid dimension")]
     InvalidDimension,
     /// A number is out of range, as `BodyFault::InvalidValue` lists.

@@ -22,12 +22,12 @@ use crate::requests::tables::{create_convolution, create_lut, create_threshold};
 use client_model::Request;
 use std::alloc::Global;
 
-/// Returns the request that the number of an op and a body encode.
+/// Returns the request that an op's number and a body encode.
 ///
 /// The fault is that of the first field that is cut short or out of range. `InvalidParameters`: no
 /// op has the number, or bytes follow the last field. `NoMemory`: an allocation failed. Memory is
-/// allocated only for the samples of a picture, the entries of a table or a text. The rest of the
-/// body is checked first.
+/// allocated only for a picture's samples, a table's entries or a text. The body is checked before
+/// the allocation.
 pub fn parse(alloc: Global, op: u8, body: &[u8]) -> Result<Request, ParseFault>
     ensures ok { IfOk result (λ request. request_of op body.now ≡ Ok request) }
     ensures err { IfErr result (MayFailWith (request_of op body.now)) }

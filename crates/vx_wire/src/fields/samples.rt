@@ -124,7 +124,7 @@ pub fn decode(
     }
 }
 
-/// Fills `samples` with the samples that big-endian bytes encode.
+/// Fills `samples` with the samples that `bytes` encode, the most significant byte first.
 pub fn decode_wide<S: WideSample>(bytes: &[u8], samples: &mut [S])
     requires { length bytes.now ≡ length samples.old * sample_bytes S.format }
     ensures { map S.value samples.new ≡ decoded_samples S.format (length samples.old) bytes.now }
@@ -136,7 +136,7 @@ pub fn decode_wide<S: WideSample>(bytes: &[u8], samples: &mut [S])
     }
 }
 
-/// Fills `bytes` with the big-endian bytes of samples.
+/// Fills `bytes` with the bytes of `samples`, the most significant byte first.
 pub fn encode<S: WideSample>(samples: &[S], bytes: &mut [u8])
     requires { length bytes.old ≡ length samples.now * sample_bytes S.format }
     ensures { bytes.new ≡ flat_map (λ s. encoded_sample S.format (S.value s)) samples.now }

@@ -11,8 +11,9 @@ pub fn body_is_read_back()
         request_of (op_number (op_of request)) (body_of request) ≡ Ok request }
 {}
 
-/// A parsed request determines the op and the body that encode it, and its fields are in the ranges
-/// of their types. Together with `body_is_read_back`: each request has exactly one encoding.
+/// A parsed request determines the op and the body that encode it. The request's fields are in the
+/// ranges of their types. By this law and `body_is_read_back`, each request has exactly one
+/// encoding.
 pub fn one_spelling()
     ensures op { (op : ℕ) (body : List ℕ) (request : Request) → All (λ b. b < 2 ^ 8) body →
         request_of op body ≡ Ok request → op ≡ op_number (op_of request) }

@@ -34,7 +34,7 @@ pub fn create_min_max(body: &[u8]) -> Result<Request, BodyFault>
     Ok(Request::CreateMinMax)
 }
 
-/// Parses the body of ReadMinMax: the name of extremes.
+/// Parses the body of ReadMinMax: the name of an object for extremes.
 pub fn read_min_max(body: &[u8]) -> Result<Request, BodyFault>
     ensures { result ≡ read_min_max_in body.now }
 {
