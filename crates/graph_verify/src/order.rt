@@ -14,8 +14,8 @@ use std::alloc::{AllocError, Global};
 use std::marker::Model;
 use vx_base::Node;
 
-/// A node that isn't ordered yet, and for each input whether another unordered node has to write
-/// that input first.
+/// A node that isn't ordered yet. The flags tell for which inputs the node waits: those that an
+/// unordered node writes.
 #[derive(Drop)]
 struct Waiting<'a> {
     linked: &'a Linked,
