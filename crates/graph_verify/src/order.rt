@@ -70,7 +70,7 @@ fn all_waiting<'a>(alloc: Global, nodes: &'a [Linked]) -> Result<Vec<Waiting<'a>
         .collect(alloc)
 }
 
-/// Returns the index of the first node that doesn't wait for an input.
+/// Returns the index of the first node that waits for no input, if there is one.
 fn first_ready(rest: &[Waiting<'_>]) -> Option<usize>
     ensures { result ≡ position (λ w. not (w.for_in1 || w.for_in2)) rest.now }
 {
