@@ -74,7 +74,7 @@ abbrev pub resolved_bytes : Operand → ℕ
 resolved_bytes (Image d) = byte_count d
 resolved_bytes other = 0
 
--- the operands of a node, by its references
+-- the operands that a node's references denote
 abbrev pub operands_of : (Reference → Operand) → Node → Operands
 operands_of is n = record { in1 = is n.in1; in2 = option_map is n.in2; out1 = option_map is n.out1; out2 = option_map is n.out2 }
 

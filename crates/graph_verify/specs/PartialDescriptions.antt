@@ -17,8 +17,8 @@ use Rattle.graph_verify.specs.Rounds.{rounds}
 abbrev pub all_unknown : PartialDescription
 all_unknown = record { width = None; height = None; format = None }
 
--- an operand's partial description: an image's full description, a virtual image's declared
--- description, and all parts open for others
+-- an operand's partial description: an image's full description, or a virtual image's declared
+-- description; for any other operand, all parts are open
 abbrev pub operand_partial_desc : Operand → PartialDescription
 operand_partial_desc (Image d) = partial_desc_of d
 operand_partial_desc (Virtual declared) = declared
@@ -39,7 +39,7 @@ written_partial_desc is n known cell = with_defaults (operand_partial_desc (is c
 abbrev pub partial_descs : (Reference → Operand) → List Node → Reference → PartialDescription
 partial_descs is nodes = rounds writes (written_partial_desc is) nodes (length nodes) (λ cell. operand_partial_desc (is cell))
 
--- a virtual image without open parts becomes an image
+-- an image of the full description if there is one, else a virtual image of the partial description
 abbrev pub virtual_or_image : PartialDescription → Option Description → Operand
 virtual_or_image known None = Virtual known
 virtual_or_image known (Some d) = Image d

@@ -37,7 +37,7 @@ writes_twice n = has_twice (outputs n)
 abbrev pub reads_own_output : Node → Bool
 reads_own_output n = list_any (λ a. list_any (same_reference a) (outputs n)) (inputs n)
 
--- whether the function takes the formats of its inputs together with that of each output
+-- whether the function takes these input formats together with each output's format
 abbrev pub takes_first : Function → Option Format → Option Format → List Operand → Bool
 takes_first function None second written = false
 takes_first function (Some first) second written = list_all (λ out. takes_formats function first second (operand_format out)) written
@@ -95,8 +95,8 @@ virtual_outputs is nodes = filter (λ cell. is_virtual (is cell)) (flat_map outp
 abbrev pub work_bytes : (Reference → Operand) → List Node → ℕ
 work_bytes is nodes = sum_by (λ cell. resolved_bytes (resolved_operand is nodes cell)) (virtual_outputs is nodes)
 
--- the verdict on a graph with these operands, whose virtual images may take `work` bytes; None if
--- the graph can run
+-- the verdict on a graph with these operands; its virtual images may take at most `work` bytes.
+-- None if the graph can run
 abbrev pub verdict : ℕ → (Reference → Operand) → List Node → Option Verdict
 verdict work is nodes =
     if two_writers nodes then Some MultipleWriters

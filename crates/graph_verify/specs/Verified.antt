@@ -32,7 +32,7 @@ pub record IsVerified (is : Reference → Operand) (nodes : List Node) (v : Veri
   pub cells : map (λ o. o.cell) v.virtual_outputs ≡ virtual_outputs is v.steps
   pub descriptions : All (λ o. resolved_operand is nodes o.cell ≡ Image o.desc) v.virtual_outputs
 
--- this is the verification of the graph of these nodes
+-- `v` is the verification of the graph of these nodes
 abbrev pub VerifiesNodes : List Linked → VerifiedValue → Type 0
 VerifiesNodes nodes v = (is : Reference → Operand) → AreOperands is nodes → IsVerified is (linked_nodes nodes) v
 
@@ -40,7 +40,7 @@ VerifiesNodes nodes v = (is : Reference → Operand) → AreOperands is nodes �
 abbrev pub ReordersNodes : List Linked → VerifiedValue → Type 0
 ReordersNodes nodes v = IsPermutation (map (λ l. (l.number, l.node)) nodes) (zip v.order v.steps)
 
--- the graph of these nodes can run within this number of work bytes
+-- the graph of these nodes can run if its virtual images may take at most `work` bytes
 abbrev pub CanRunWithin : ℕ → List Linked → Type 0
 CanRunWithin work nodes = (is : Reference → Operand) → AreOperands is nodes → verdict work is (linked_nodes nodes) ≡ None
 
@@ -49,7 +49,7 @@ abbrev pub IfRefused : VerifyFault → (Verdict → Type 0) → Type 0
 IfRefused NoMemory P = ⊤
 IfRefused (Refused v) P = P v
 
--- the graph of these nodes is refused with the verdict on it
+-- if the graph of these nodes was refused, the fault carries the verdict on this graph
 abbrev pub RefusesNodes : ℕ → List Linked → VerifyFault → Type 0
 RefusesNodes work nodes fault = (is : Reference → Operand) → AreOperands is nodes → IfRefused fault (λ v. verdict work is (linked_nodes nodes) ≡ Some v)
 

@@ -116,7 +116,7 @@ fn learn_cell(
     }
 }
 
-/// Resolves an output as `learn_cell` does, if the node has this output.
+/// Adds an output as `learn_cell` does, if the node has this output.
 fn learn_output(
     known: &mut Vec<ResolvedOutput>,
     cell: Option<ObjRef>,
@@ -133,7 +133,7 @@ fn learn_output(
     }
 }
 
-/// Resolves the outputs of a node.
+/// Adds the virtual images that a node writes to the resolved images.
 fn learn(known: &mut Vec<ResolvedOutput>, linked: &Linked) -> Result<(), AllocError>
     ensures resolved { OnOk result (known.new.items
         ≡ known.old.items ++ resolved_by known.old.items linked.now) }
@@ -193,9 +193,9 @@ pub fn known_operands(known: &[ResolvedOutput], linked: &Linked) -> Operands
     }
 }
 
-/// Returns the virtual images that nodes write, resolved along an order of the nodes. The first
-/// input of each node is an image, and no object has two writers. An error means that there is no
-/// memory for the result.
+/// Returns the virtual images that the nodes write, resolved along `steps`, an order of the nodes.
+/// The first input of each node is an image, and no object has two writers. An error means that
+/// there is no memory for the result.
 pub fn known_after(alloc: Global, steps: &[Linked]) -> Result<Vec<ResolvedOutput>, AllocError>
     requires one_writer { two_writers (linked_nodes steps.now) ≡ false }
     requires in_turn { InTurn feeds (linked_nodes steps.now) }

@@ -1,28 +1,28 @@
 //! Graphs and verdicts: whether a graph can run, and if not, why.
 //!
 //! A `Graph` is a list of numbered nodes. Nodes are linked by the objects that they read and write,
-//! whatever the order in which they were added: a node *feeds* another if it writes an object that
-//! the other reads. A verdict depends on the kinds, sizes and formats of these objects, never on
-//! samples. `verdict_on` gives the verdict on a node alone. `verify` gives the verdict on a graph.
-//! For a graph that can run, `verify` also gives an order of the nodes, and the description of each
-//! virtual image that they write.
+//! whatever the order in which the nodes were added. A node *feeds* another node if it writes an
+//! object that the other node reads. A verdict depends on the kinds, sizes and formats of the
+//! objects, never on samples. `verdict_on` gives the verdict on a node alone. `verify` gives the
+//! verdict on a graph. For a graph that can run, `verify` also gives an order of the nodes, and the
+//! description of each virtual image that they write.
 //!
 //! The verdict is the first of these faults that applies:
 //!
 //! - two writers of an object
 //! - a cycle
-//! - a virtual image that is read but not written, or accumulated into
-//! - a faulty node; of several, the one that was added first
+//! - a virtual image that a node accumulates into, or that is read but not written
+//! - a faulty node; if there are several, the one that was added first
 //! - virtual images that take more bytes than the limit
 //!
 //! Modules:
 //!
 //! - `graph`, `fault`: numbered nodes, and the faults of calls on a graph
 //! - `operand`: the properties of objects on which a verdict depends
-//! - `linked`: nodes with their operands, and the links between them
+//! - `linked`: nodes with their operands, and the links between nodes
 //! - `order`: the nodes in an order in which each comes after all nodes that feed it
-//! - `known`: the virtual images that nodes write, with open sizes and formats resolved along an
-//!   order
+//! - `known`: the virtual images that nodes write; open sizes and formats are resolved node by node
+//!   along an order
 //! - `verdict`: verdicts, and the verdict on one node
 //! - `verified`: the verdict on a graph, and an order of its nodes
 //! - `laws`: facts about cycles, orders and rounds

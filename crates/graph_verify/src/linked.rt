@@ -1,4 +1,4 @@
-//! Nodes with their operands, and the links between them.
+//! Nodes with their operands, and the links between nodes.
 ghost use Rattle.std.specs.Prelude.{◌≡◌, ◌||◌};
 ghost use Rattle.std.specs.List.{list_any};
 ghost use Rattle.vx_base.specs.Reference.{Reference};
@@ -59,8 +59,8 @@ pub fn is_given_written(nodes: &[Linked], cell: Option<ObjRef>) -> bool
     cell.is_some_and(|cell| is_written(nodes, cell))
 }
 
-/// Returns whether two outputs are the same object: both of this node, or one of this node and one
-/// of another.
+/// Returns whether both outputs of a node are the same object, or another node also writes one of
+/// the outputs.
 fn shares_output(others: &[Linked], node: &Node) -> bool
     ensures { result ≡ (writes_twice node.now || list_any (is_written (linked_nodes others.now))
         (outputs node.now)) }

@@ -14,8 +14,8 @@ use std::alloc::{AllocError, Global};
 use std::marker::Model;
 use vx_base::Node;
 
-/// A node that isn't ordered yet, and for each input whether another unordered node has to write
-/// that input first.
+/// A node that isn't ordered yet. The flags tell for which inputs the node waits: those that an
+/// unordered node writes.
 #[derive(Drop)]
 struct Waiting<'a> {
     linked: &'a Linked,
@@ -70,7 +70,7 @@ fn all_waiting<'a>(alloc: Global, nodes: &'a [Linked]) -> Result<Vec<Waiting<'a>
         .collect(alloc)
 }
 
-/// Returns the index of the first node that doesn't wait for an input.
+/// Returns the index of the first node that waits for no input, if there is one.
 fn first_ready(rest: &[Waiting<'_>]) -> Option<usize>
     ensures { result ≡ position (λ w. not (w.for_in1 || w.for_in2)) rest.now }
 {

@@ -70,8 +70,8 @@ fn reads_own_output(node: &Node) -> bool
     writes(node, node.in1) || writes_given(node, node.in2)
 }
 
-/// Returns whether the function takes the formats of its inputs with that of an output. An absent
-/// output is accepted.
+/// Returns whether the function takes these input formats together with an output's format. An
+/// absent output is accepted.
 fn takes_output(
     function: Function,
     first: Format,
@@ -94,7 +94,7 @@ fn format_if_there(operand: Option<Operand>) -> Option<Format>
     operand?.format()
 }
 
-/// Returns whether the function takes the formats of its inputs with that of each output.
+/// Returns whether the function takes the input formats together with each output's format.
 fn takes_operands(function: Function, operands: &Operands) -> bool
     ensures { result ≡ takes_operands function operands.now }
 {
@@ -135,8 +135,8 @@ fn fits(first: Operand, other: Option<Operand>) -> bool
     other.is_none_or(|other| are_of_one_size(first, other))
 }
 
-/// Returns a node's fault: `InvalidFormat` if its function doesn't take the formats of the
-/// operands, else `InvalidDimension` if an image doesn't have the size of the first input.
+/// Returns a node's fault. `InvalidFormat`: the function doesn't take the formats of the operands.
+/// Otherwise `InvalidDimension`: an image doesn't have the size of the first input.
 pub fn node_fault(function: Function, operands: &Operands) -> Option<Verdict>
     ensures { result ≡ node_fault function operands.now }
 {

@@ -59,11 +59,11 @@ entry_object e = record { name = e.0; live = e.1.live; object = e.1.object }
 abbrev pub nodes_at : ℕ → List (ℕ × Entry) → List Node
 nodes_at name entries = unwrap_or (option_map (λ e. nodes_in e.object) (lookup (is_at (nat_cmp name)) entries)) []
 
--- the entries with each use count raised by the number of times that its name occurs in a list
+-- the entries, each with its use count raised by the number of occurrences of its name in a list
 abbrev pub used_more : List ℕ → List (ℕ × Entry) → List (ℕ × Entry)
 used_more names entries = map {A = ℕ × Entry} {B = ℕ × Entry} (λ e. let n : Entry = e.1 in (e.0, record n { uses = n.uses + name_count e.0 names })) entries
 
--- the entries with each use count lowered by the number of times that its name occurs in a list
+-- the entries, each with its use count lowered by the number of occurrences of its name in a list
 abbrev pub used_less : List ℕ → List (ℕ × Entry) → List (ℕ × Entry)
 used_less names entries = map {A = ℕ × Entry} {B = ℕ × Entry} (λ e. let n : Entry = e.1 in (e.0, record n { uses = n.uses - name_count e.0 names })) entries
 

@@ -41,7 +41,7 @@ impl Model for Delay {
 }
 
 impl Delay {
-    /// Returns a delay of new images of a description, one for each slot.
+    /// Returns a delay with a new image of this description in each slot.
     pub fn new(
         alloc: Global,
         pool: &mut Pool,

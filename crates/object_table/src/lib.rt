@@ -11,7 +11,8 @@
 //! - `distribution`: bins, and the counts of a histogram
 //! - `object`: an image, a lookup table, a threshold, a delay, a convolution, a distribution,
 //!   extremes, a graph or a virtual image
-//! - `table`: objects by name, with their charge; reads and writes objects by name or reference
+//! - `table`: objects by name, with their charge; calls that read and write objects by name or by
+//!   reference
 //! - `table::ageing`: delays that age with graphs
 //! - `table::graphs`: the graphs of a table, and how often their nodes use each object
 //! - `fault`: why a call fails

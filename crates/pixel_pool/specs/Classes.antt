@@ -1,8 +1,8 @@
 -- Size classes of blocks. A capacity is a number of samples.
 use Rattle.std.specs.Prelude.{ℕ, zero, suc, ◌+◌, ◌-◌, ◌/◌, ◌^◌, ◌≤◌, ◌<◌}
 
--- the capacity of the next class minus the capacity of this class. It is 1 up to 16 samples, and
--- then an eighth of the greatest power of two that isn't above this class's capacity.
+-- the capacity of the next class minus the capacity of this class. It is 1 below a capacity of 16,
+-- and from there an eighth of the greatest power of two that isn't above this class's capacity.
 abbrev pub class_step : ℕ → ℕ
 class_step class = 2 ^ (class / 8 - 1)
 

@@ -1,4 +1,4 @@
--- Free blocks, as numbers of blocks of each class.
+-- Free blocks, given by the number of blocks of each class.
 use Rattle.std.specs.Prelude.{◌≡◌, ◌≤◌, ◌<◌, ◌+◌, ◌-◌, ◌*◌, ℕ, zero, suc, List, slice_index, slice_set, sum_by}
 use Rattle.pixel_pool.specs.Classes.{class_capacity, class_count, IsClassOf}
 
@@ -14,11 +14,11 @@ HasFree free class = 0 < slice_index free class
 abbrev pub HasCapacity : List ℕ → ℕ → Type 0
 HasCapacity free count = (class : ℕ) × HasFree free class × (count ≤ class_capacity class)
 
--- one fewer free block of the class
+-- the numbers of free blocks, with one fewer of this class
 abbrev pub without_one : List ℕ → ℕ → List ℕ
 without_one free class = slice_set free class (slice_index free class - 1)
 
--- one more free block of the class
+-- the numbers of free blocks, with one more of this class
 abbrev pub with_one : List ℕ → ℕ → List ℕ
 with_one free class = slice_set free class (slice_index free class + 1)
 

@@ -1,4 +1,5 @@
--- The view of a `Pool`: the number of lent blocks of each format, and of free blocks of each class.
+-- The view of a `Pool`: for each format, the number of lent blocks, and the number of free blocks
+-- of each class.
 use Rattle.std.specs.Prelude.{◌≡◌, ◌≢◌, ◌≤◌, ℕ, ◌+◌, if◌then◌else◌, List, vec_capacity}
 use Rattle.vx_base.specs.declared.format.Format.{Format}
 use Rattle.vx_base.specs.declared.format.Format.TheVariants.{U8, S16, U32}
@@ -54,14 +55,14 @@ pub record LendsBlock (format : Format) (count : ℕ) (old new : Pool) : Type 0 
   pub none : HasCapacity (free_of old format) count → blocks_of new format ≡ blocks_of old format
   pub other_free : KeepsOtherFree old new format
 
--- one block fewer of this format is lent
+-- one fewer block of this format is lent
 abbrev pub GetsBack : Pool → Pool → Format → Type 0
 GetsBack old new format = (f : Format) → lent_of new f + one_of format f ≡ lent_of old f
 
--- the numbers of lent blocks are unchanged
+-- the number of lent blocks of each format is unchanged
 abbrev pub KeepsLent : Pool → Pool → Type 0
 KeepsLent old new = (f : Format) → lent_of new f ≡ lent_of old f
 
--- the numbers of blocks, lent and free, are unchanged
+-- the total number of blocks of each format, lent and free together, is unchanged
 abbrev pub KeepsBlockCounts : Pool → Pool → Type 0
 KeepsBlockCounts old new = (f : Format) → blocks_of new f ≡ blocks_of old f

@@ -28,7 +28,7 @@ abbrev pub stack_at : List Stack → ℕ → Stack
 stack_at stacks class = slice_index_or stacks class no_stack
 
 module _ {T : Type 0} where
-  -- a block of the class that is on top of a stack of height len
+  -- the block is of this class, and is the top of a stack of `len` blocks
   abbrev pub IsTopOf : ℕ → ℕ → Free T → Type 0
   IsTopOf class len block = (block.class ≡ class) × (block.under.len + 1 ≡ len)
 
@@ -37,16 +37,17 @@ module _ {T : Type 0} where
   abbrev pub IsStack : Slab (Free T) → ℕ → Stack → Type 0
   IsStack free class stack = 0 < stack.len → IsSomeAnd (get free stack.top) (IsTopOf class stack.len)
 
-  -- a block's memory has at least its class's capacity, and the block is linked to the part of its
-  -- class's stack below it
+  -- a block's memory has at least the capacity of its class, and the block holds the part of the
+  -- class's stack that is below the block
   pub record IsStacked (stacks : List Stack) (free : Slab (Free T)) (block : Free T) : Type 0 where
     pub capacity : class_capacity block.class ≤ vec_capacity block.samples
     pub capacity_known : block.capacity ≡ class_capacity block.class
     pub within : block.under.len < (stack_at stacks block.class).len
     pub linked : IsStack free block.class block.under
 
-  -- a stack for each class, linked by the keys of top blocks. No two blocks of a class are at one
-  -- height, and the stacks together have as many blocks as the slab.
+  -- the stacks of free blocks, one for each class. A stack holds the key of its top block, and each
+  -- block holds the stack below it. No two blocks of a class are at one height. The stacks together
+  -- have as many blocks as the slab.
   pub record AreStacks (stacks : List Stack) (free : Slab (Free T)) : Type 0 where
     pub all : length stacks ≡ class_count
     pub tops : (class : ℕ) → IsStack free class (stack_at stacks class)

@@ -25,8 +25,8 @@ pub fn taken_again(pool: &mut Pool, format: Format, count: usize) -> Result<Bloc
     Ok(again)
 }
 
-/// Takes a block and gives it back. As many blocks of each format are lent as before, and a free
-/// block fits `count` samples.
+/// Takes a block and gives it back. The number of lent blocks of each format is unchanged. On
+/// success there is then a free block that fits `count` samples.
 pub fn taken_and_given_back(pool: &mut Pool, format: Format, count: usize) -> Result<(), AllocError>
     requires { count ≤ 67108864 }
     ensures lent { KeepsLent pool.old pool.new }

@@ -12,7 +12,7 @@
 //! - `shelf`: the blocks of one format
 //! - `stacks`: the stacks of free blocks, one for each class
 //! - `classes`: the size classes of blocks
-//! - `laws`: facts that follow from the contracts of these calls together
+//! - `laws`: facts that follow from the contracts of the pool's calls together
 #![tactic(auto)]
 
 mod block;

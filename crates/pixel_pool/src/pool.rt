@@ -36,8 +36,8 @@ impl Pool {
         }
     }
 
-    /// Lends a block of a format with `count` samples of any value. An error means that there is no
-    /// memory for a new block; the pool is then unchanged.
+    /// Lends a block of `count` samples of a format; the samples may have any value. An error means
+    /// that there is no memory for a new block; the pool is then unchanged.
     ///
     /// The smallest free block that fits is used; if none fits, a block is added. A block with a
     /// capacity above 1,024 samples and above twice `count` is shrunk. The capacity of a new block
@@ -91,7 +91,7 @@ impl Pool {
         }
     }
 
-    /// Drops free blocks of each format, the largest first, until at most 16,384 remain, with a
+    /// Drops free blocks, the largest first, until each format has at most 16,384 of them, with a
     /// total capacity of at most 67,108,864 samples.
     pub fn trim(&mut self)
         ensures lent { KeepsLent self.old self.new }

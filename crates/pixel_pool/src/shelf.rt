@@ -236,7 +236,7 @@ fn new_samples<T: Copy + Drop>(alloc: Global, zero: T, count: usize) -> Result<V
 }
 
 /// Returns the same memory with `count` samples, which fit. Memory that is far too large is shrunk
-/// to the capacity of a new block; if the system refuses, it isn't shrunk.
+/// to the capacity that a new block would have, unless the system refuses.
 fn resized<T: Copy + Drop>(mut samples: Vec<T>, zero: T, count: usize) -> Vec<T>
     requires { count ≤ vec_capacity samples }
     ensures count { length result.items ≡ count }
@@ -249,7 +249,7 @@ fn resized<T: Copy + Drop>(mut samples: Vec<T>, zero: T, count: usize) -> Vec<T>
     samples
 }
 
-/// Checks whether a capacity is above `SMALL_ROOM` and more than twice the requested number of
+/// Checks whether a capacity is above `SMALL_CAPACITY` and more than twice the requested number of
 /// samples.
 fn is_far_too_large(capacity: usize, count: usize) -> bool {
     capacity > SMALL_CAPACITY && capacity / 2 > count

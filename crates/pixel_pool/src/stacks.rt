@@ -6,8 +6,8 @@ ghost use Rattle.pixel_pool.specs.Shelf.{lengths};
 
 use crate::classes::{CLASSES, step};
 
-/// The free blocks of a class, linked by their keys: the key of the top block, and the number of
-/// blocks.
+/// A stack of free blocks of one class: the slab key of the top block, and the number of blocks.
+/// Each free block holds the stack below it.
 #[derive(Clone, Copy)]
 pub struct Stack {
     pub top: usize,

@@ -1,4 +1,4 @@
-//! Laws of rounds: the values of a graph's objects after a run.
+//! Laws of rounds. In a round, all nodes of a graph compute their outputs simultaneously.
 ghost use Rattle.std.specs.Prelude.{◌≡◌, ℕ, false, length, List, None};
 ghost use Rattle.vx_base.specs.declared.node.Node.{Node};
 ghost use Rattle.vx_base.specs.Reference.{Reference};
@@ -9,8 +9,8 @@ ghost use Rattle.graph_verify.specs.Rounds.{rounds, one_pass, IsSolution, ReadsA
 ghost use Rattle.graph_verify.specs.Verdict.{two_writers, verdict};
 
 /// Running the nodes one after another, each after all nodes that feed it, gives the same values as
-/// the rounds. This holds if no object has two writers, and a node's values depend only on the
-/// objects that the node reads.
+/// running as many rounds as there are nodes. This holds if no object has two writers, and a node's
+/// values depend only on the objects that the node reads.
 pub fn once_through_an_order<V>()
     ensures { (value : Node → (Reference → V) → Reference → V) (nodes steps : List Node)
         (held : Reference → V) →
@@ -19,8 +19,9 @@ pub fn once_through_an_order<V>()
         one_pass writes value steps held cell ≡ rounds writes value nodes (length nodes) held cell }
 {}
 
-/// The rounds of a graph that can run give the graph's only solution: each written object has the
-/// value of the node that writes it, and every other object is unchanged.
+/// If a graph can run, running as many rounds as there are nodes gives the graph's only solution.
+/// In a solution, each written object has the value that its writer computes, and every other
+/// object is unchanged.
 pub fn only_solution<V>()
     ensures solves { (value : Node → (Reference → V) → Reference → V) (work : ℕ)
         (is : Reference → Operand)

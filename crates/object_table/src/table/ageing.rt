@@ -41,8 +41,8 @@ impl Table {
         Ok(())
     }
 
-    /// Returns the names in the list under which an object is held, followed by one more name.
-    /// `NoMemory`: the allocation failed.
+    /// Returns those of `names` under which an object is held, followed by `name`. `NoMemory`: the
+    /// allocation failed.
     fn held_and(&self, names: &[u32], name: u32) -> Result<Vec<u32>, TableFault>
         ensures value { IfOk result (λ held. held.items
             ≡ filter (is_there self.now.objects) names.now ++ name ∷ []) }
