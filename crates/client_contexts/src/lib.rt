@@ -9,10 +9,11 @@
 //! the cache, VerifyGraph of this graph takes no memory.
 //!
 //! More methods move samples without a copy: `write_from` reads a picture from a source,
-//! `write_text` from a PGM text, and `image` and `text_image` lend an image to a reader. Their
-//! results are those of `apply`.
+//! `write_text` reads one from a PGM text, and `image` and `text_image` lend an image to the
+//! caller. These methods answer WriteImage, WriteImagePgm, ReadImage and ReadImagePgm as `apply`
+//! does.
 //!
-//! Each client names its objects 1, 2, .. in the order in which it created them. It holds at most
+//! A client's objects are named 1, 2, .. in the order of their creation. A client holds at most
 //! 1,024 objects, and its images are charged against its quota. Nodes read their inputs in place.
 //! An object that a node uses stays held after its name is released. A run of a graph allocates all
 //! its memory before it changes anything.
