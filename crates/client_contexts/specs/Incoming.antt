@@ -18,8 +18,8 @@ use Rattle.client_contexts.specs.Lookup.{refusal_for}
 use Rattle.client_contexts.specs.World.{World}
 use Rattle.client_contexts.specs.Applies.{Applies, AppliesToKept, IsAnswered}
 
--- `fills` is the effect of a call of fill, as a relation of the source before and after, the format
--- of the samples, the samples after, and the result
+-- `fills` is the effect of a call of fill. Its arguments are the source before and after, the format
+-- of the samples, the samples after, and the result.
 module _ {S E : Type 0} (fills : S → S → Format → List ℤ → Result ⊤ E → Type 0) (d : Description) (old new : S) where
   -- p has this description, and its samples are those that the source gave, or any samples if the
   -- source failed

@@ -20,7 +20,7 @@
 //!
 //! - `memory`, `fault`: the faults of requests
 //! - `lookup`: finds objects by reference, by name, and by the operands of a node
-//! - `new_objects`: limits on new objects, and their insertion
+//! - `new_objects`: checks the limits on new objects, and inserts the objects
 //! - `images`: creates, queries, writes and reads images, and sets valid rectangles
 //! - `objects`: releases objects of any kind
 //! - `tables`: creates lookup tables, thresholds and convolutions
@@ -33,7 +33,7 @@
 //! - `source`, `incoming`: pictures that are read from a source or a text, into a block of the pool
 //! - `client`: a client's context, which answers all requests except those that open or release a
 //!   context
-//! - `runtime`: all clients, the pool for the samples of their images, and opening and releasing
+//! - `runtime`: all clients, and the pool for the samples of their images; opens and releases
 //!   contexts
 //! - `laws`: VerifyGraph of a graph in the cache never fails for want of memory
 #![tactic(auto)]
