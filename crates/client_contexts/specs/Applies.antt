@@ -25,6 +25,6 @@ pub record AppliesToKept (client : ℕ) (request : Request) (old new : World) (r
   pub own : KeepsVerified old.limits.work request (verified_of client old) (verified_of client new) result
   pub others : (other : ℕ) → other ≢ client → verified_of other new ≡ verified_of other old
 
--- the reply to a client's request that changes nothing
+-- a client's request has this reply, and leaves the client's state unchanged
 abbrev pub IsAnswered : ℕ → Request → World → Reply → Type 0
 IsAnswered client request world reply = answer_to world.limits (state_of client world) request ≡ (reply, state_of client world)

@@ -18,8 +18,8 @@ use Rattle.client_contexts.specs.Lookup.{refusal_for}
 use Rattle.client_contexts.specs.World.{World}
 use Rattle.client_contexts.specs.Applies.{Applies, AppliesToKept, IsAnswered}
 
--- `fills` is the effect of a call of fill, as a relation of the source before and after, the format
--- of the samples, the samples after, and the result
+-- `fills` is the effect of a call of fill. Its arguments are the source before and after, the format
+-- of the samples, the samples after, and the result.
 module _ {S E : Type 0} (fills : S → S → Format → List ℤ → Result ⊤ E → Type 0) (d : Description) (old new : S) where
   -- p has this description, and its samples are those that the source gave, or any samples if the
   -- source failed
@@ -28,19 +28,19 @@ module _ {S E : Type 0} (fills : S → S → Format → List ℤ → Result ⊤ 
     pub size : length p.samples ≡ sample_count d
     pub came : fills old new d.format p.samples result
 
-  -- a picture that the source gave is written to a client's image, as WriteImage does
+  -- a picture that the source gave is written to a client's image, as by a WriteImage
   abbrev pub WritesReadPicture : ℕ → Reference → World → World → Type 0
   WritesReadPicture client cell before after =
       (p : PictureValue) × IsRead p (Ok tt)
       × Applies client (WriteImage cell p) before after (Ok reply.Empty) × AppliesToKept client (WriteImage cell p) before after (Ok reply.Empty)
 
-  -- the reason why a picture isn't written: there is no memory or the picture is refused, and
-  -- nothing was read; or the source failed
+  -- the reason why a picture isn't written: a refusal or no memory, before anything was read; or a
+  -- fault of the source
   abbrev pub SaysWhyUnwritten : (Code → Type 0) → WriteFault E → Type 0
   SaysWhyUnwritten refuses (Refused code) = (new ≡ old) × ((code ≡ NoMemory) ⊎ refuses code)
   SaysWhyUnwritten refuses (Source fault) = (p : PictureValue) × IsRead p (Err fault)
 
--- a picture of this description that is written to a reference is refused with this code
+-- writing a picture of this description to a reference is refused with this code
 abbrev pub IsRefusedFor : Context → Reference → Description → Code → Type 0
 IsRefusedFor c cell d code = (refusal : Refusal) × (code ≡ refusal_code refusal) × (refusal_for (image_of c.objects cell) d ≡ Some refusal)
 

@@ -21,10 +21,10 @@ use Rattle.client_model.specs.States.{changes_nodes}
 use Rattle.client_contexts.specs.declared.kept.KeptGraph.{KeptGraph}
 use Rattle.client_contexts.specs.declared.memory.NoMemory.{NoMemory}
 
--- A valid cache entry of a name. The entry has a verification of the graph that is held under the
--- name, if one is held. No verdict refuses this graph within the entry's quota of work bytes. The
--- plan gives slots to the virtual images along the order of the nodes. The schedule fits a run on
--- the objects that the nodes name.
+-- A valid cache entry under a name. If a graph is held under the name, the entry has the graph's
+-- verification. No verdict refuses this graph within the entry's quota of work bytes. The plan
+-- gives slots to the virtual images, for a run in the order of the verified steps. The schedule
+-- fits a run on the objects that the nodes name.
 pub record IsKept (c : Context) (name : ℕ) (k : KeptGraph) : Type 0 where
   pub below : name < c.next
   pub ready : IfSome (object_held c.objects name) (λ object. IsReady c.objects (nodes_in object) k.verified)

@@ -48,7 +48,7 @@ pub record IsImageFor (objects : List NamedObject) (cell : Reference) (d : Descr
   pub named : IsImageOf objects cell image
   pub same : description_of image ≡ d
 
--- the reason why a picture of this description can't be written to an image, if there is one
+-- the reason, if any, why a picture of this description can't be written to an image
 abbrev pub refusal_for : Result ImageValue Refusal → Description → Option Refusal
 refusal_for (Err refusal) d = Some refusal
 refusal_for (Ok image) d = picture_refusal (description_of image) d

@@ -105,8 +105,8 @@ abbrev pub refusal_in : {A : Type 0} → Result A Refusal → Option Refusal
 refusal_in (Ok value) = None
 refusal_in (Err refusal) = Some refusal
 
--- the reason why a name can't be used, if there is one: no object has the name, or the object is of
--- another kind
+-- the reason, if any, why a name can't be used: no object has the name, or the object is of another
+-- kind
 abbrev pub name_refusal : Kind → Option ObjectValue → Option Refusal
 name_refusal wanted None = Some InvalidReference
 name_refusal wanted (Some object) = if same_kind wanted (object_kind object) then None else Some InvalidType
@@ -116,7 +116,7 @@ abbrev pub is_outside : Option ℕ → Option ObjectValue → Bool
 is_outside None object = false
 is_outside (Some graph) object = is_of_other_graph graph object
 
--- the reason why an object, or the image in one of its slots, can't be used, if there is one
+-- the reason, if any, why an object, or the image in one of its slots, can't be used
 abbrev pub slot_refusal : Kind → Option ℕ → Option ℕ → ObjectValue → Option Refusal
 slot_refusal wanted scope slot object =
     if not (is_kind wanted (slot_kind slot object)) then Some InvalidType

@@ -78,7 +78,7 @@ impl Client {
         }
     }
 
-    /// Returns the cache entry of a verified graph, if there is one: the verification, the slots of
+    /// Returns the cache entry of a graph, or `None`. The entry has the verification, the slots of
     /// the virtual images and the schedule of a run, all for the graph's current nodes.
     pub fn kept(&self, graph: u32) -> Option<&KeptGraph>
         ensures holds { IfSome result (λ kept. IsKept self.now.context graph kept.now) }

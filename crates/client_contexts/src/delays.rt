@@ -60,8 +60,8 @@ pub fn register_auto_aging(table: &mut Table, graph: u32, delay: u32) -> Result<
     Ok(Reply::Empty)
 }
 
-/// Checks that these are the names of a graph and of a delay. A name that isn't live is refused
-/// before an object of another kind.
+/// Checks that these are the names of a graph and of a delay. Names that aren't live are refused
+/// first, then objects of another kind.
 fn find_graph_and_delay(table: &Table, graph: u32, delay: u32) -> Result<(), Refusal>
     ensures ok { OnOk result (NameGraphAndDelay table.now.objects graph delay) }
     ensures err { IfErr result (λ refusal.

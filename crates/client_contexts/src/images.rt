@@ -78,8 +78,7 @@ pub fn query_image(table: &Table, reference: ObjRef) -> Result<Reply, Refusal>
     }))
 }
 
-/// Returns the reason why a picture can't be written to an image of this description, if there is
-/// one.
+/// Returns the reason, if any, why a picture can't be written to an image of this description.
 fn picture_refusal(image: Desc, picture: Desc) -> Option<Refusal>
     ensures { result ≡ picture_refusal image picture }
 {
@@ -161,8 +160,8 @@ pub fn read_text(table: &Table, alloc: Global, reference: ObjRef) -> Result<Repl
     Ok(Reply::Text(Text::new(pgm_images::write(alloc, &image.image())?)))
 }
 
-/// Returns the reason why a rectangle can't be the valid rectangle of an image of this description,
-/// if there is one.
+/// Returns the reason, if any, why a rectangle can't be the valid rectangle of an image of this
+/// description.
 fn valid_refusal(image: Desc, valid: Rect) -> Option<Refusal>
     ensures { result ≡ valid_refusal image valid }
 {

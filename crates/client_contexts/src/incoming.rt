@@ -1,5 +1,5 @@
-//! Writes pictures to images. The samples are read into a block of the pool. If all are read, this
-//! block swaps its memory with the image's block. The block is always given back to the pool.
+//! Writes pictures to images. The samples are read into a block of the pool. If all samples are
+//! read, the image swaps its memory with this block. The block is always given back to the pool.
 ghost use Rattle.std.specs.Prelude.{◌≡◌, length, Some, Ok, OnOk, IfOk, IfErr, OnErr};
 ghost use Rattle.vx_base.specs.Image.{ImageValue};
 ghost use Rattle.vx_base.specs.Picture.{PictureValue, IsPicture, Describes, values, samples_format};

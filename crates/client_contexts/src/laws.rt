@@ -9,8 +9,8 @@ ghost use Rattle.client_contexts.specs.Kept.{ends_verification};
 ghost use Rattle.client_contexts.specs.World.{World};
 
 /// After VerifyGraph of a graph has succeeded, VerifyGraph of the same graph never fails for want
-/// of memory. This holds until the client changes the graph's nodes, or releases the graph or the
-/// context, whatever other clients request.
+/// of memory. Whatever other clients request, this holds until the client changes the graph's
+/// nodes, or releases the graph or the context.
 pub fn verified_once()
     ensures { (client graph : ℕ) (first verified later last : World) (calls : List Call)
         (result : Result Reply NoMemory) →

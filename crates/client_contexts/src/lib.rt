@@ -9,17 +9,18 @@
 //! the cache, VerifyGraph of this graph takes no memory.
 //!
 //! More methods move samples without a copy: `write_from` reads a picture from a source,
-//! `write_text` from a PGM text, and `image` and `text_image` lend an image to a reader. Their
-//! results are those of `apply`.
+//! `write_text` reads one from a PGM text, and `image` and `text_image` lend an image to the
+//! caller. These methods answer WriteImage, WriteImagePgm, ReadImage and ReadImagePgm as `apply`
+//! does.
 //!
-//! Each client names its objects 1, 2, .. in the order in which it created them. It holds at most
+//! A client's objects are named 1, 2, .. in the order of their creation. A client holds at most
 //! 1,024 objects, and its images are charged against its quota. Nodes read their inputs in place.
 //! An object that a node uses stays held after its name is released. A run of a graph allocates all
 //! its memory before it changes anything.
 //!
 //! - `memory`, `fault`: the faults of requests
 //! - `lookup`: finds objects by reference, by name, and by the operands of a node
-//! - `new_objects`: limits on new objects, and their insertion
+//! - `new_objects`: checks the limits on new objects, and inserts the objects
 //! - `images`: creates, queries, writes and reads images, and sets valid rectangles
 //! - `objects`: releases objects of any kind
 //! - `tables`: creates lookup tables, thresholds and convolutions
@@ -32,7 +33,7 @@
 //! - `source`, `incoming`: pictures that are read from a source or a text, into a block of the pool
 //! - `client`: a client's context, which answers all requests except those that open or release a
 //!   context
-//! - `runtime`: all clients, the pool for the samples of their images, and opening and releasing
+//! - `runtime`: all clients, and the pool for the samples of their images; opens and releases
 //!   contexts
 //! - `laws`: VerifyGraph of a graph in the cache never fails for want of memory
 #![tactic(auto)]

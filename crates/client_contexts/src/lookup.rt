@@ -54,8 +54,7 @@ fn is_outside(object: &Object, slot: Option<u8>, scope: Option<u32>) -> bool
     }
 }
 
-/// Returns the reason why an object, or the image in one of its slots, can't be used, if there is
-/// one.
+/// Returns the reason, if any, why an object, or the image in one of its slots, can't be used.
 fn slot_refusal(
     object: &Object,
     slot: Option<u8>,
@@ -143,8 +142,8 @@ fn find_operand(
     }
 }
 
-/// Returns the operand that a reference of a node names, as `find_operand` does, or `None` if the
-/// node has no such reference.
+/// Returns the operand that a reference of a node names, as `find_operand` does, or `None` without
+/// a reference.
 fn find_if_given(
     table: &Table,
     cell: Option<ObjRef>,
@@ -163,8 +162,8 @@ fn find_if_given(
     }
 }
 
-/// Returns that of two refusals whose class comes first. The order of the classes is: names, kinds,
-/// scopes, slots.
+/// Returns the one of two refusals whose class comes first. The order of the classes is: names,
+/// kinds, scopes, slots.
 fn first_class(one: Refusal, other: Refusal) -> Refusal
     ensures { Some result ≡ first_class (Some one) (Some other) }
 {
@@ -178,7 +177,7 @@ fn first_class(one: Refusal, other: Refusal) -> Refusal
     }
 }
 
-/// Returns both values. If both results are refusals, returns the one whose class comes first.
+/// Returns both values, or a refusal. Of two refusals, the one whose class comes first is returned.
 fn both<A: Drop, B: Drop>(
     one: Result<A, Refusal>,
     other: Result<B, Refusal>,

@@ -18,8 +18,8 @@ use client_model::{Limits, Refusal, Reply};
 use object_table::{InsertFault, Object, Table};
 use pixel_pool::Pool;
 
-/// Checks that a client can hold one more object that is charged `bytes`. The caller's `bytes` are
-/// at most those of 16 images of the greatest size. `NoResources`: all names are used, 1,024
+/// Checks that a client can hold one more object that is charged `bytes`. The number `bytes` is at
+/// most the byte count of 16 images of the greatest size. `NoResources`: all names are used, 1,024
 /// objects are held, or the quota would be exceeded.
 pub fn require_capacity(table: &Table, limits: Limits, bytes: usize) -> Result<(), Refusal>
     requires { bytes ≤ GREATEST_SLOTS * GREATEST_BYTES }

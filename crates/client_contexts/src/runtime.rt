@@ -85,8 +85,8 @@ impl Runtime {
         self.pool.blocks(format)
     }
 
-    /// Returns the cache entry of a client's graph, if there is one: the verification, the slots of
-    /// the virtual images and the schedule of a run, all for the graph's current nodes. A
+    /// Returns the cache entry of a client's graph, or `None`. The entry has the verification, the
+    /// slots of the virtual images and the schedule of a run, all for the graph's current nodes. A
     /// VerifyGraph or ProcessGraph that succeeds makes the entry. The entry is dropped when the
     /// graph's nodes change, or its name or context is released.
     pub fn kept(&self, client: u16, graph: u32) -> Option<&KeptGraph>

@@ -15,7 +15,7 @@ pub trait FillsSamples {
     /// The source can be read.
     ghost can_fill: { Self → Type 0 };
 
-    /// The effect of a call of `fill`, as a relation of the source before and after, the format of
+    /// The effect of a call of `fill`. The arguments are the source before and after, the format of
     /// the samples, the samples after, and the result.
     ghost fills: { Self → Self → Format → List ℤ → Result ⊤ Self.Fault → Type 0 };
 

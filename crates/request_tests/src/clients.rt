@@ -9,7 +9,7 @@ use vx_base::{
 };
 
 /// Opens a context, and creates images of this description until one is refused. Returns how many
-/// were created, under the names 1, 2, .. `None`: another reply came, or none of nine was refused.
+/// images were created. `None`: a reply was unexpected, or none of nine images was refused.
 fn images_made(alloc: Global, runtime: &mut Runtime, client: u16, desc: Desc) -> Option<u32> {
     let opened = runtime.apply(alloc, client, &Request::OpenContext).ok()?;
     if !matches!(opened, Reply::Empty) {
@@ -180,8 +180,8 @@ fn a_graph_runs(rt: HostRuntime) -> Result<(), Fail> {
     Ok(())
 }
 
-/// Releases image 1, which a node of graph 3 uses, and returns whether the image is still held: no
-/// new node can use it, it is still charged, and the graph still runs on it.
+/// Releases image 1, which a node of graph 3 uses. Returns whether the image is still held: no new
+/// node can use it, but it is still charged, and the graph still runs on it.
 fn is_held(alloc: Global, runtime: &mut Runtime, making: &Request) -> Result<bool, Fail> {
     succeed(alloc, runtime, &Request::Release(1))?;
     let adding = adding(Function::NotBits, 1, 4)?;

@@ -175,8 +175,8 @@ fn stays(
     Ok(ended && stays && holds(alloc, runtime, first)?)
 }
 
-/// Returns whether the image stays the same after failed writes of the next picture, for parts of
-/// 23 lengths.
+/// Serves 23 parts of the frame that writes the next picture, each as `stays` does. Returns whether
+/// the image still has the first picture each time.
 fn stays_after_parts(
     alloc: Global,
     runtime: &mut Runtime,

@@ -145,7 +145,8 @@ fn a_new_delay_is_cleared_and_uses_the_blocks_of_a_released_one(
     Ok(())
 }
 
-/// Creates an image of four samples, and a delay with this number of such images.
+/// Creates an image of four samples, and a delay whose slots have images of the same size and
+/// format.
 fn create_many(
     alloc: Global,
     runtime: &mut Runtime,
@@ -201,7 +202,7 @@ fn a_chain_runs_through_two_blocks_and_gives_them_back(rt: HostRuntime) -> Resul
     Ok(())
 }
 
-/// Returns the number of U8 slots in the cached plan of graph 3 of client 1, if there is one.
+/// Returns the number of U8 slots in client 1's cached plan of graph 3, or `None` without a plan.
 fn kept_slots(runtime: &Runtime) -> Option<usize> {
     match runtime.kept(1, 3) {
         Some(kept) => Some(kept.plan.slot_count(Format::U8)),

@@ -64,7 +64,7 @@ fn request(alloc: Global, number: u8) -> Option<Request> {
     }
 }
 
-/// Returns the request on graphs with this number, if there is one.
+/// Returns the request with this number, or `None` if no request on graphs has the number.
 fn request_on_graphs(number: u8) -> Option<Request> {
     match number {
         19 => Some(Request::CreateGraph),

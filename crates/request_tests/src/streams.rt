@@ -28,8 +28,8 @@ pub const REPLIES: &[u8] = b"\x00\x00\x00\x04\x00\x01\x01\x00\
 \x00\x00\x00\x0a\x00\x01\x07\x00\x01\x00\x01\x00\x01\x0a\
 \x00\x00\x00\x0a\x00\x02\x07\x00\x01\x00\x01\x00\x01\x14";
 
-/// Client 7 opens a context, creates two images of one U8 sample, writes 10 to the first, runs Not
-/// from the first to the second, and reads the second.
+/// Client 7 opens a context and creates two images of one U8 sample. The client then writes 10 to
+/// the first image, runs Not from the first image to the second, and reads the second.
 const STORED: &[u8] = b"\x00\x00\x00\x03\x00\x07\x01\
 \x00\x00\x00\x08\x00\x07\x03\x01\x00\x01\x00\x01\
 \x00\x00\x00\x08\x00\x07\x03\x01\x00\x01\x00\x01\
@@ -52,7 +52,8 @@ const REPLY_ENDS: [usize; 9] = [0, 8, 16, 28, 40, 48, 56, 70, 84];
 /// 0, and the offsets at which the replies in `STORED_REPLIES` end.
 const STORED_ENDS: [usize; 7] = [0, 8, 20, 32, 40, 48, 62];
 
-/// The devices of a stream: the sizes of their pieces, and the number of calls until one fails.
+/// The devices of a stream: for each, the size of its pieces and the number of good calls before
+/// one fails.
 #[derive(Clone, Copy)]
 pub struct Devices {
     pub source_piece: usize,
@@ -154,9 +155,10 @@ fn ends_well(
     is_ok
 }
 
-/// Serves a stream, with one byte in each call, and each read and each write failing in turn.
-/// Checks that serving succeeds exactly with more than `most_reads` good reads, or more than
-/// `most_writes` good writes.
+/// Serves a stream twice for each number of good calls from 0 to 119. In one stream, a read of one
+/// byte fails after this number of good reads. In the other, a write of one byte or a flush fails
+/// after this number of good writes and flushes. Checks that serving succeeds exactly if the number
+/// is above `most_reads` or `most_writes`, respectively.
 fn fails_at_each_call(
     rt: &impl Abort,
     alloc: Global,

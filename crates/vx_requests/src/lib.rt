@@ -1,13 +1,14 @@
 //! Requests and replies as streams of bytes.
 //!
 //! - `stream`: a `Source` gives bytes and a `Sink` takes them. Both count their failed calls.
-//!   Contracts state which bytes they move, for sources and sinks whose bytes are known. `FromRead`
-//!   and `FromWrite` wrap the readers and writers of std. `fill` and `write_all` move whole
-//!   buffers.
+//!   If the bytes of a source or a sink are known, the contracts state which bytes each call moves.
+//!   `FromRead` and `FromWrite` wrap the readers and writers of std. `fill` and `write_all` move
+//!   whole buffers.
 //! - `frame`: reads the length, the client, the op and the body of a request frame; writes frames
 //!   of requests (`write_request`) and of replies (`write_reply`); reads and writes samples.
 //! - `serving`: `serve` answers a stream of requests frame by frame, and returns a `Summary`.
-//! - `laws::frames`, `laws::streams`: laws about the definitions of `specs/Serving`.
+//! - `laws::frames`, `laws::streams`: laws about the definitions of `specs/Frame` and
+//!   `specs/Serving`.
 //!
 //! The headline theorem is `Session` (`specs/Serving/Session.antt`), the clause `session` of
 //! `serve`.

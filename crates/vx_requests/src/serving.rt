@@ -25,7 +25,8 @@ const MOST_READS: u64 = 1_099_511_627_776;
 
 /// Serves the frames of the source, from the first to the last.
 ///
-/// Each frame gets one reply, which is written and flushed before a byte after the frame is read.
+/// Each frame gets one reply, which is written and flushed before any byte of the next frame is
+/// read.
 /// Reading a frame with a body of at most 64 bytes allocates nothing. If no memory can be allocated
 /// for a longer body, the body is skipped, the reply is NO_MEMORY, and nothing changes.
 ///
@@ -43,7 +44,7 @@ const MOST_READS: u64 = 1_099_511_627_776;
 /// - `WriteFailed`: a write or a flush failed
 /// - `ReaderWouldNotEnd`: 2^40 reads were made
 ///
-/// However the call ends, the runtime is in the state after the frames that were read to their end.
+/// However the call ends, the runtime is in the state after the frames that were read whole.
 pub fn serve<S: Source, K: Sink>(
     alloc: Global,
     source: &mut S,

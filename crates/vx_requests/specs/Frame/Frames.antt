@@ -68,16 +68,16 @@ pub record IsFrame (f : Frame) : Type 0 where
 abbrev pub said_length : List ℕ → ℕ
 said_length bytes = from_be_bytes w32 (take 4 bytes)
 
--- the beginning of a frame, possibly empty: fewer than four bytes, or a length in range and fewer
--- bytes than it counts
+-- the beginning of a frame, possibly empty: fewer than four bytes, or a length in range and an
+-- incomplete payload
 abbrev pub IsBegun : List ℕ → Type 0
 IsBegun rest = 4 ≤ length rest → IsLength (said_length rest) × (length rest < said_length rest + 4)
 
--- the beginning of a frame that was cut short, at least one byte
+-- the beginning of a frame, of at least one byte
 abbrev pub IsTruncated : List ℕ → Type 0
 IsTruncated rest = (0 < length rest) × IsBegun rest
 
--- four bytes of a length out of range, and whatever follows
+-- a length out of range, and any bytes after it
 abbrev pub BeginsBadly : List ℕ → Type 0
 BeginsBadly rest = (4 ≤ length rest) × (IsLength (said_length rest) → ⊥)
 

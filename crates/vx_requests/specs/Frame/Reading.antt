@@ -13,15 +13,15 @@ use Rattle.vx_requests.specs.Frame.Frames.{IsBegun, IsTruncated, IsLength, said_
 
 -- ---- the bytes that were read
 
--- a fault of reading within a frame, and the bytes that are left
+-- reading stopped within a frame with this fault; after Truncated, no bytes are left in the source
 abbrev pub BreaksIn : StreamFault → Option (List ℕ) → Type 0
 BreaksIn Truncated left = IsAtEnd left
 BreaksIn ReadFailed left = Unit {0}
 BreaksIn ReaderWouldNotEnd left = Unit {0}
 BreaksIn e left = ⊥
 
--- a fault of reading after whole frames; `rest` has the bytes read after the last whole frame,
--- `left` the bytes that are left
+-- reading stopped with this fault; `rest` has the bytes read after the last whole frame, `left` the
+-- bytes left in the source
 abbrev pub BreaksOff : StreamFault → (rest : List ℕ) (left : Option (List ℕ)) → Type 0
 BreaksOff Truncated rest left = IsTruncated rest × IsAtEnd left
 BreaksOff BadLength rest left = (length rest ≡ 4) × (IsLength (said_length rest) → ⊥)
@@ -61,8 +61,8 @@ pub record KeepsCount {S T : Type 0} (reads failures : S → ℕ) (old new : Rea
   pub counted : CountsReads (reads old.source.now) (reads new.source.now) old.budget new.budget result
   pub failed : failures new.source.now ≡ failures old.source.now + read_failures result
 
--- samples were replaced with samples of the format that were read; or reading failed before all
--- bytes were read
+-- the samples were read, in this format; or reading failed before all bytes of the samples were
+-- read
 pub record ReadsOver {S : Type 0} (left : S → Option (List ℕ)) (reads failures : S → ℕ) (old new : Reader S) (format : Format) (samples : List ℤ) (result : Result ⊤ StreamFault) : Type 0 where
   pub ok : OnOk result (ReadsSamples (left old.source.now) (left new.source.now) format samples)
   pub err : IfErr result (ReadsPart (left old.source.now) (left new.source.now) (length samples * sample_bytes format))

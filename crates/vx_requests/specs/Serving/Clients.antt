@@ -69,7 +69,7 @@ module _ {S : Type 0} (answer : S → ℕ → List ℕ → Said × S) where
   abbrev pub reply_in : (ℕ → S) → ReceivedFrame → ReplyFrame
   reply_in states m = cond m.lost (no_memory m.frame) (reply_to m.frame (answer_frame (states m.frame.client) m.frame).0)
 
-  -- a client's state after a frame; only the client's own kept frame changes it
+  -- a client's state after a frame; the state changes only if the frame is the client's and was kept
   abbrev pub state_then : (ℕ → S) → ReceivedFrame → ℕ → S
   state_then states m client = cond (is_kept_of client m) (answer_frame (states client) m.frame).1 (states client)
 

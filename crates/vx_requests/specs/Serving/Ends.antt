@@ -12,13 +12,13 @@ abbrev pub AppendsMost : Option (List ℕ) → Option (List ℕ) → List ReplyF
 AppendsMost old new replies = (earlier : List ReplyFrame) × (last : ReplyFrame) × (front : List ℕ) × (back : List ℕ)
     × (replies ≡ earlier ++ last ∷ []) × (reply_bytes last ≡ front ++ back) × Appends old new (joined_replies earlier ++ front)
 
--- the end of `serve` by a fault: the bytes read after the whole frames, the bytes left, and the
--- bytes written
+-- `serve` ended with this fault; `rest` has the bytes read after the last whole frame, `left` the
+-- bytes left in the source
 abbrev pub EndsBy : StreamFault → (rest : List ℕ) (left taken_old taken_new : Option (List ℕ)) (replies : List ReplyFrame) → Type 0
 EndsBy WriteFailed rest left old new replies = (rest ≡ []) × AppendsMost old new replies
 EndsBy e rest left old new replies = BreaksOff e rest left × Appends old new (joined_replies replies)
 
--- `serve` ended at the end of the stream, with each reply written and counted; or it ended by a fault
+-- `serve` ended at the end of the stream, with each reply written and counted; or it ended with a fault
 abbrev pub Ends : Result Summary StreamFault → (rest : List ℕ) (left taken_old taken_new : Option (List ℕ)) (replies : List ReplyFrame) → Type 0
 Ends (Ok s) rest left old new replies = (rest ≡ []) × IsAtEnd left × Appends old new (joined_replies replies)
     × (s.requests ≡ length replies) × (s.refused ≡ count_by (λ r. not (r.code == 0)) replies)

@@ -18,7 +18,7 @@ use Rattle.vx_requests.specs.Serving.Lost.{MayBeLost}
 use Rattle.vx_requests.specs.Frame.Reading.{BreaksOff, ReadsPart}
 use Rattle.vx_wire.specs.Replies.{Said, said_of}
 
--- the reply to a frame that was kept or lost, and the clients' states after it
+-- the reply to a frame that was kept or lost, and the clients' states after the frame
 pub record IsReply (limits : LimitsValue) (f : Frame) (old new : ℕ → State) (reply : ReplyFrame) : Type 0 where
   pub lost : Bool
   pub may : lost ≡ true → MayBeLost f
@@ -51,13 +51,14 @@ module _ (limits : LimitsValue) (left_old left_new : Option (List ℕ)) (old new
   AnswersPayload len (Ok a) = (f : Frame) × IsFrame f × (length f.body + 3 ≡ len) × Consumes left_old left_new (payload f) × IsReply limits f old new (reply_frame limits new a)
   AnswersPayload len (Err e) = ReadsPart left_old left_new len e × SameStates old new
 
--- the reply frame was written; or a write or the flush failed, after a prefix of the frame
+-- the reply frame was written; or a write or the flush failed, and the sink took a prefix of the
+-- frame
 abbrev pub WritesReply : Option (List ℕ) → Option (List ℕ) → ReplyFrame → Result ℕ StreamFault → Type 0
 WritesReply old new r (Ok code) = Appends old new (reply_bytes r) × (code ≡ r.code)
 WritesReply old new r (Err e) = (e ≡ WriteFailed) × AppendsFront old new (reply_bytes r)
 
 module _ (limits : LimitsValue) (left_old left_new taken_old taken_new : Option (List ℕ)) (old new : ℕ → State) where
-  -- a whole frame was read, and its reply was written
+  -- a whole frame was read, and writing its reply had this result
   abbrev pub ServesFrame : Result ℕ StreamFault → Type 0
   ServesFrame result = (f : Frame) × (reply : ReplyFrame) × IsFrame f × Consumes left_old left_new (frame_bytes f) × IsReply limits f old new reply × WritesReply taken_old taken_new reply result
 

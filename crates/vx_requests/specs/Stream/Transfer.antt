@@ -45,8 +45,8 @@ AppendsPart old new bytes = (front : List ℕ) × (rest : List ℕ) × (bytes �
 abbrev pub AppendsFront : Option (List ℕ) → Option (List ℕ) → List ℕ → Type 0
 AppendsFront old new bytes = (front : List ℕ) × (rest : List ℕ) × (bytes ≡ front ++ rest) × Appends old new front
 
--- ---- the bytes that a sink was given; `taken` and `failures` are the sink's bytes and its count
--- of failed calls
+-- ---- writes to a sink; `taken` gives the bytes that the sink took, and `failures` the number of
+-- its failed calls
 
 -- all of the bytes were written; or a write failed, and the sink took a proper prefix of the bytes
 pub record WritesAll {K T : Type 0} (taken : K → Option (List ℕ)) (failures : K → ℕ) (old new : K) (bytes : List ℕ) (result : Result T StreamFault) : Type 0 where

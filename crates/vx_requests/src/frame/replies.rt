@@ -33,9 +33,9 @@ const TEXT_HEAD: usize = 25;
 
 /// Writes the frame of a reply, and flushes the sink.
 ///
-/// `client` and `op` are those of the request. One write passes everything except the samples of a
-/// picture, the bytes of a text and the counts. The only fault is `WriteFailed`: a write or the
-/// flush failed, and part or all of the frame may have been written.
+/// `client` and `op` are those of the request. One write passes the frame up to the samples of a
+/// picture, the bytes of a text or the counts of a distribution. The only fault is `WriteFailed`: a
+/// write or the flush failed, and part or all of the frame may have been written.
 pub fn write_reply<K: Sink>(
     sink: &mut K,
     client: u16,
@@ -227,8 +227,8 @@ fn head_and_description(client: u16, op: u8, desc: Desc) -> [u8; 13]
     [a, b, c, d, e, f, g, h, i, j, k, l, m]
 }
 
-/// Writes the frame of a reply that is the PGM text of a U8 image, up to its samples, to the front
-/// of `bytes`. Returns the number of bytes written.
+/// Writes the reply frame of a U8 image's PGM text, up to the samples, to the front of `bytes`.
+/// Returns the number of bytes written.
 fn put_text_head(bytes: &mut [u8; TEXT_HEAD], client: u16, op: u8, desc: Desc) -> usize
     ensures within { result ≤ 25 }
     ensures head { take result bytes.new

@@ -33,7 +33,7 @@ use vx_wire::{
 ///
 /// The caller has checked that the request fits a frame (`fits_a_frame`). `WriteFailed`, the only
 /// fault: a write failed; part of the frame may have been written. The request's fields are in the
-/// ranges of their types, so the frame is parsed as this request again.
+/// ranges of their types, so parsing the frame gives an equal request.
 pub fn write_request<K: Sink>(
     sink: &mut K,
     client: u16,

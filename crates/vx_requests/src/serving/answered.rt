@@ -24,7 +24,7 @@ pub enum ReplyContent {
     Text(ObjRef),
 }
 
-/// The content of a reply, with the client and the op of the frame that it answers.
+/// The content of a reply, with the client and the op of the request frame.
 #[derive(Drop)]
 pub struct Answered {
     pub client: u16,
