@@ -21,7 +21,7 @@ pub trait Tested: Short {
     /// The format of the samples.
     ghost format: { Format };
 
-    /// Returns the item with this value, which is a sample of the format.
+    /// Returns the item with the value `number`, which is a sample of the format.
     fn from_short(number: i16) -> Self
         requires { IsTrue (is_sample format number) }
         ensures { Self.value result ≡ number };
