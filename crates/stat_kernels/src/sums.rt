@@ -24,7 +24,7 @@ const LONGEST_ROW: usize = GREATEST_SIDE as usize;
 /// The row above the first row of an image: all zeros.
 static ZEROS: [u32; LONGEST_ROW] = [0; LONGEST_ROW];
 
-/// Writes part of a row of an integral image, from column `x` on: the running sums of the row plus
+/// Writes part of a row of an integral image, from column `x` on: the running sums of `row` plus
 /// the sums in the row above. Without a row above, the sums above are 0.
 fn write_part_of_row(row: &[u8], above: Option<&[u32]>, x: usize, out: &mut [u32])
     requires above_len { IfSome above (λ sums. x + length row.now ≤ length sums.now) }
