@@ -38,7 +38,7 @@ pair_at row a b p = slice_index_or row p (pos 0) *ℤ a +ℤ slice_index_or row 
 abbrev pub first_of_pair : List ℤ → ℕ → ℤ
 first_of_pair table j = slice_index_or table (16 * j) (pos 0)
 
--- the second coefficient of pair j
+-- the second coefficient of pair j of a table
 abbrev pub second_of_pair : List ℤ → ℕ → ℤ
 second_of_pair table j = slice_index_or table (16 * j + 1) (pos 0)
 
@@ -46,8 +46,8 @@ second_of_pair table j = slice_index_or table (16 * j + 1) (pos 0)
 abbrev pub IsPairTable : ℕ → List ℤ → Type 0
 IsPairTable n table = (j : ℕ) → j < n → chunk (16 * j) 16 table ≡ alternation 8 (first_of_pair table j) (second_of_pair table j)
 
--- the sum of n pairs of coefficients times the samples of a row, from index p on; each pair is two
--- samples to the right of the pair before
+-- the sum of a row's samples times the coefficients of n pairs, from index p on. Pair j applies to
+-- the samples at p + 2 j and p + 2 j + 1
 abbrev pub row_sum : List ℤ → List ℤ → ℕ → ℕ → ℤ
 row_sum row table n p = sum_of_first n (λ j. pair_at row (first_of_pair table j) (second_of_pair table j) (p + 2 * j))
 
@@ -55,7 +55,7 @@ row_sum row table n p = sum_of_first n (λ j. pair_at row (first_of_pair table j
 abbrev pub line_of : List ℤ → ℕ → ℕ → List ℤ
 line_of items line l = chunk (l * line) line items
 
--- the sum of the first n rows at an index, each row with its own 80 items of the table, enough for
--- five pairs
+-- the sum of `row_sum` over the first n rows, at an index. Each row has its own 80 items of the
+-- table, enough for five pairs
 abbrev pub sum_of_rows : List ℤ → ℕ → List ℤ → ℕ → ℕ → ℕ → ℤ
 sum_of_rows rows line table pairs n p = sum_of_first n (λ l. row_sum (line_of rows line l) (line_of table 80 l) pairs p)

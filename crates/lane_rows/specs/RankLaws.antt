@@ -6,7 +6,7 @@ use Rattle.std.proofs.Common.{arith, ap, ◌∙◌}
 use Rattle.vx_base.specs.Window.{least_of, greatest_of}
 use Rattle.lane_rows.specs.Ranks.{chosen_of_nine}
 
--- for an associative operation `lo` on natural numbers, which is `op` on integers
+-- for an associative operation `lo` on natural numbers that agrees with `op` on integers
 module _ (lo : ℕ → ℕ → ℕ) (op : ℤ → ℤ → ℤ) (as_number : (x y : ℕ) → pos (lo x y) ≡ op (pos x) (pos y)) (assoc : (x y z : ℕ) → lo x (lo y z) ≡ lo (lo x y) z) where
   one_after_another : (r d e f : ℕ) → lo r (lo (lo d e) f) ≡ lo (lo (lo r d) e) f
   one_after_another r d e f = assoc r (lo d e) f ∙ ap (λ z. lo z f) (assoc r d e)
@@ -20,11 +20,11 @@ module _ (lo : ℕ → ℕ → ℕ) (op : ℤ → ℤ → ℤ) (as_number : (x y
       ∙ ap pos (one_after_another (lo (lo (lo (lo (lo a b) c) d) e) f) g h i)
       ∙ numbers a b c d e f g h i
 
--- the smaller of two natural numbers, as an integer
+-- the smaller of two natural numbers is also the smaller of them as integers
 pub lesser_number : (x y : ℕ) → pos (min x y) ≡ int_min (pos x) (pos y)
 lesser_number x y = grind arith
 
--- the greater of two natural numbers, as an integer
+-- the greater of two natural numbers is also the greater of them as integers
 pub greater_number : (x y : ℕ) → pos (max x y) ≡ int_max (pos x) (pos y)
 greater_number x y = grind arith
 

@@ -1,4 +1,4 @@
--- 3 x 3 windows of bytes as rows.
+-- 3 x 3 windows of bytes, held in nine rows.
 use Rattle.std.specs.Prelude.{ℕ, ℤ, pos, ◌+◌, ◌+ℤ◌, ◌-ℤ◌, ◌*ℤ◌, List, [], ◌∷◌, length, slice_index}
 use Rattle.lane_rows.specs.declared.nine_rows.Three.{Three}
 use Rattle.lane_rows.specs.declared.nine_rows.Nine.{Nine}
@@ -7,7 +7,7 @@ use Rattle.lane_rows.specs.declared.nine_rows.Nine.{Nine}
 abbrev pub three_of : Three → ℕ → ℕ × ℕ × ℕ
 three_of rows i = (slice_index rows.left.now i, slice_index rows.middle.now i, slice_index rows.right.now i)
 
--- nine bytes by rows from top to bottom, as numbers
+-- nine bytes in row-major order, as numbers
 abbrev pub nine_of : ℕ × ℕ × ℕ → ℕ × ℕ × ℕ → ℕ × ℕ × ℕ → List ℤ
 nine_of above here below =
     pos above.0 ∷ pos above.1 ∷ pos above.2
@@ -30,6 +30,6 @@ three_from row i = (slice_index row i, slice_index row (i + 1), slice_index row 
 abbrev pub nine_from : List ℕ → List ℕ → List ℕ → ℕ → List ℤ
 nine_from above here below i = nine_of (three_from above i) (three_from here i) (three_from below i)
 
--- the sum of the second three items minus that of the first three, both with weights 1, 2, 1
+-- the weighted sum of `to` minus the weighted sum of `from`, with weights 1, 2, 1
 abbrev pub change : ℕ × ℕ × ℕ → ℕ × ℕ × ℕ → ℤ
 change from to = (pos to.0 -ℤ pos from.0) +ℤ pos 2 *ℤ (pos to.1 -ℤ pos from.1) +ℤ (pos to.2 -ℤ pos from.2)

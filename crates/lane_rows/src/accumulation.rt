@@ -12,9 +12,10 @@ use crate::kernel::OfSum;
 use crate::rows::update_row;
 use std::simd::prelude::*;
 
-/// Adds the numbers to 16 sums, each at most 32,767.
+/// Adds each of 16 numbers to the sum in its lane. A sum above 32,767 becomes 32,767.
 ///
-/// Each number is limited to 32,767 minus the sum. That difference fits 16 bits without a sign.
+/// Each number is first limited to 32,767 minus the old sum. That difference fits 16 bits without a
+/// sign.
 fn add_lanes(numbers: u16x16, sums: &mut [i16])
     requires { length sums.old ≡ 16 }
     ensures { sums.new ≡ zip2 (accumulated_sum S16) (map pos numbers) sums.old }
@@ -48,7 +49,7 @@ fn scaled_square(a: u8, amount: u8) -> u16
     (u16::from(a) * u16::from(a)) >> amount
 }
 
-/// The sum plus (the byte's square / 2^amount, rounded down); at most 32,767.
+/// The sum plus the byte's square over 2^amount, rounded down; at most 32,767.
 #[derive(Drop)]
 pub struct Squared {
     pub amount: u8,

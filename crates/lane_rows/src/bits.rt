@@ -11,7 +11,7 @@ use crate::rows::{map_row, zip_rows};
 use crate::stores::store_32_bytes;
 use std::simd::prelude::*;
 
-/// The bitwise and.
+/// The bitwise AND of two bytes.
 pub struct And;
 
 impl OfPair<u8, u8, u8> for And {
@@ -27,7 +27,7 @@ impl OfPair<u8, u8, u8> for And {
     }
 }
 
-/// The bitwise or.
+/// The bitwise OR of two bytes.
 pub struct Or;
 
 impl OfPair<u8, u8, u8> for Or {
@@ -43,7 +43,7 @@ impl OfPair<u8, u8, u8> for Or {
     }
 }
 
-/// The bitwise exclusive or.
+/// The bitwise XOR of two bytes.
 pub struct Xor;
 
 impl OfPair<u8, u8, u8> for Xor {
@@ -76,7 +76,7 @@ impl LanesOfItem<u8, u8> for Not {
     }
 }
 
-/// Writes the bitwise and of the items.
+/// Writes the bitwise AND of each pair of items.
 pub fn and_u8(first: &[u8], second: &[u8], out: &mut [u8])
     requires first_len { length first.now ≡ length out.old }
     requires second_len { length second.now ≡ length out.old }
@@ -85,7 +85,7 @@ pub fn and_u8(first: &[u8], second: &[u8], out: &mut [u8])
     zip_rows(&And, first, second, out);
 }
 
-/// Writes the bitwise or of the items.
+/// Writes the bitwise OR of each pair of items.
 pub fn or_u8(first: &[u8], second: &[u8], out: &mut [u8])
     requires first_len { length first.now ≡ length out.old }
     requires second_len { length second.now ≡ length out.old }
@@ -94,7 +94,7 @@ pub fn or_u8(first: &[u8], second: &[u8], out: &mut [u8])
     zip_rows(&Or, first, second, out);
 }
 
-/// Writes the bitwise exclusive or of the items.
+/// Writes the bitwise XOR of each pair of items.
 pub fn xor_u8(first: &[u8], second: &[u8], out: &mut [u8])
     requires first_len { length first.now ≡ length out.old }
     requires second_len { length second.now ≡ length out.old }

@@ -1,4 +1,4 @@
-//! Items that are compared, one by one and in lanes.
+//! Comparisons of items, one by one and in lanes.
 ghost use Rattle.std.specs.Prelude.{◌≡◌, map, length};
 ghost use Rattle.std.specs.Int.{int_min, int_max};
 ghost use Rattle.std.specs.Ordering.{int_eq};
@@ -20,7 +20,7 @@ pub trait Compared: Short {
     fn is(self, other: Self) -> bool
         ensures { result ≡ int_eq (Self.value self) (Self.value other) };
 
-    /// Returns the number of items of a block of 32 that equal this one.
+    /// Returns the number of items that equal this one in a block of 32 items.
     fn count_in(self, block: &[Self]) -> u32
         requires { length block.now ≡ 32 }
         ensures { result ≡ count_of (Self.value self) (map Self.value block.now) };

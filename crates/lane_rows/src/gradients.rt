@@ -17,8 +17,7 @@ fn weighted_sum(items: ThreeItems) -> u16
     u16::from(items.0) + 2 * u16::from(items.1) + u16::from(items.2)
 }
 
-/// Returns the sum of the second three samples minus that of the first three, both with weights 1,
-/// 2, 1.
+/// Returns the weighted sum of `to` minus the weighted sum of `from`, with weights 1, 2, 1.
 fn change(from: ThreeItems, to: ThreeItems) -> i16
     ensures { result ≡ change from to }
 {

@@ -1,5 +1,5 @@
-//! Writes rows in blocks of 32 items, of which the last block may overlap the block before. A row
-//! shorter than a block is written item by item.
+//! Writes rows in blocks of 32 items. The last block may overlap the block before. A row shorter
+//! than a block is written item by item.
 ghost use Rattle.std.specs.Prelude.{◌≡◌, ◌+◌, ◌-◌, ◌*◌, ◌<◌, ◌≤◌, ℕ, ℤ, map, take, length};
 ghost use Rattle.vx_base.specs.Image.{run};
 
@@ -37,7 +37,8 @@ fn write_blocks<T: Item, R: Indexed<T>>(row: &R, blocks: usize, out: &mut [T])
     }
 }
 
-/// Writes the last 32 items. The items before them have been written, and so may some of the 32.
+/// Writes the last 32 items. The items before them have already been written, and some of the 32
+/// may have been, too.
 fn write_last<T: Item, R: Indexed<T>>(row: &R, out: &mut [T])
     requires count { R.count row.now ≡ length out.old }
     requires room { 32 ≤ length out.old }

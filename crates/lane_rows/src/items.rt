@@ -1,4 +1,4 @@
-//! Writes or updates rows item by item: the items of a row after its last complete block.
+//! Writes or updates rows item by item, for example the items after the last complete block.
 ghost use Rattle.std.specs.Prelude.{◌≡◌, map, length};
 ghost use Rattle.std.specs.Simd.Lanes.{zip2};
 

@@ -41,7 +41,7 @@ pub trait OfPair<A: Item, B: Item, T: Item> {
             (map B.value second.now) };
 }
 
-/// A kernel that updates a row of sums with another row.
+/// A kernel that updates a row of sums from another row.
 pub trait OfSum<A: Item, T: Item> {
     /// The new sum, from the value of the row's item and the old sum at its index.
     ghost formula: { Self → ℤ → ℤ → ℤ };

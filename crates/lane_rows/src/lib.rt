@@ -1,5 +1,6 @@
-//! Kernels over rows: functions of slices of one length, which may be any length. The inputs come
-//! first, then the parameters, then the output.
+//! Kernels over rows: functions of slices. The input rows and the output row of a call have the
+//! same length, and any length is allowed. The inputs come first, then the parameters, then the
+//! output.
 //!
 //! Each output item is computed from the input items at its index. A kernel that updates a row also
 //! reads the output item that it replaces. A kernel is a small type that computes one item, and a
@@ -25,7 +26,7 @@
 //! - `threes`: sums and means of three rows of non-negative numbers
 //! - `columns`: kernels of three rows, with weighted sums and differences for gradients
 //! - `axpy`: adds a coefficient times a row of bytes to a row of sums
-//! - `matrix_rows`: sums of rows of samples times the coefficients of a matrix, by `pairs` of
+//! - `matrix_rows`: sums of samples times the coefficients of a matrix, computed by `pairs` of
 //!   coefficients
 //! - `scales`: numbers divided by a power of two, rounded toward zero and clamped
 //! - `shorts`: S16 numbers in lanes
@@ -39,7 +40,7 @@
 //!
 //! | Kernel | Formula | Conditions | v2 | v3 |
 //! |---|---|---|---|---|
-//! | `and_u8`, `or_u8`, `xor_u8` | a and b, a or b, a xor b | | 31 | 18 |
+//! | `and_u8`, `or_u8`, `xor_u8` | a AND b, a OR b, a XOR b | | 31 | 18 |
 //! | `not_u8` | 255 - a | | 25 | 13 |
 //! | `add_u8`, `sub_u8` | p(a + b), p(a - b) | | 31 | 18 |
 //! | `add_s16`, `sub_s16` | p(a + b), p(a - b) | U8 or S16 rows | 61 | 39 |

@@ -1,4 +1,4 @@
-//! Sums of rows of samples times the coefficients of a matrix.
+//! Sums of samples times the coefficients of a matrix, over all rows of the matrix.
 ghost use Rattle.std.specs.Prelude.{◌≡◌, ◌+◌, ◌*◌, ◌<◌, ◌≤◌, ◌^◌, ℕ, pos, int_div, map, length};
 ghost use Rattle.std.specs.Prelude.{FitsSigned, All};
 ghost use Rattle.std.specs.Int.{w16};
@@ -20,8 +20,8 @@ pub struct MatrixRows<'a> {
     pub rows: &'a [i16],
     /// The length of a row in items.
     pub line: u16,
-    /// The coefficients: 80 items for each row, which hold each of the row's pairs of coefficients
-    /// eight times.
+    /// The coefficients: 80 items for each row of the matrix. They hold each pair of the row's
+    /// coefficients eight times.
     pub tables: &'a [i16],
     /// The number of rows.
     pub count: u8,

@@ -13,7 +13,7 @@ pub type ThreeItems = (u8, u8, u8);
 
 /// A kernel of the nine samples of a window.
 pub trait OfNine<T: Item> {
-    /// The result, from the nine samples by rows from top to bottom.
+    /// The result, from the nine samples in row-major order.
     ghost formula: { Self → List ℤ → ℤ };
 
     fn item(&self, above: ThreeItems, here: ThreeItems, below: ThreeItems) -> T
@@ -71,7 +71,7 @@ impl<'a> Nine<'a> {
     }
 }
 
-/// A kernel's results for each window of nine rows.
+/// A kernel's result for each window in `nine`.
 #[derive(Drop)]
 struct NineAt<'a, 'b, K> {
     kernel: &'a K,
@@ -94,7 +94,7 @@ impl<T: Item, K: OfNine<T>> Indexed<T> for NineAt<'_, '_, K> {
     }
 }
 
-/// Writes the kernel's result for each window of nine rows.
+/// Writes the kernel's result for each window in `nine`.
 pub fn write_nine<T: Item, K: OfNine<T>>(kernel: &K, nine: &Nine<'_>, out: &mut [T])
     requires { window_count nine.now ≡ length out.old }
     ensures { map T.value out.new ≡ run 0 (length out.old)

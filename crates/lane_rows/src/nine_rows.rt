@@ -15,8 +15,8 @@ pub struct Three<'a> {
 }
 
 /// Nine rows of equal length, with the samples of a window at each index: by rows from top to
-/// bottom, and from left to right. The nine rows may be slices of three rows, shifted by a column
-/// each.
+/// bottom, and from left to right. The nine rows may be slices of three rows: three slices of each
+/// row, one column apart.
 #[derive(Clone, Copy)]
 pub struct Nine<'a> {
     pub above: Three<'a>,

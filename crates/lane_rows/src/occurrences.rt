@@ -8,7 +8,7 @@ ghost use Rattle.vx_base.specs.Statistics.{count_of};
 
 use crate::compared::Compared;
 
-/// Returns the number of items of a row that equal this one.
+/// Returns the number of items of a row that equal `item`.
 pub fn count_of<T: Compared>(row: &[T], item: T) -> u32
     requires { length row.now < 2 ^ 32 }
     ensures { result ≡ count_of (T.value item) (map T.value row.now) }
@@ -26,7 +26,8 @@ pub fn count_of<T: Compared>(row: &[T], item: T) -> u32
     count
 }
 
-/// Returns an index from which a search for the item may start: the item doesn't occur before it.
+/// Returns an index from which a search for the item may start. The item doesn't occur before that
+/// index.
 fn without<T: Compared>(row: &[T], item: T) -> usize
     ensures room { result ≤ length row.now }
     ensures none { count_of (T.value item) (slice_range (map T.value row.now) 0 result) ≡ 0 }

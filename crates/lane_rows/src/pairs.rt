@@ -13,7 +13,8 @@ ghost use Rattle.lane_rows.specs.Pairs.{pair_at, row_sum};
 
 use std::simd::prelude::*;
 
-/// Returns the sum of the two products of each pair of neighbours.
+/// Multiplies the samples by the coefficients, and adds the two products of each pair of
+/// neighbours.
 fn pair_products(samples: i16x16, coefficients: i16x16) -> i32x8
     requires samples_len { length samples ≡ 16 }
     requires coefficients_len { length coefficients ≡ 16 }
@@ -36,8 +37,8 @@ fn pair_products(samples: i16x16, coefficients: i16x16) -> i32x8
 /// Returns a sum for each of eight indices: every second index from `place` on. The sum is the
 /// sample at the index times one coefficient, plus the next sample times another.
 ///
-/// The coefficients are read from a table here. If a caller put them in vectors before its loop,
-/// the compiler would widen the vectors there, and then need a multiplication for each product.
+/// The coefficients are read from a table here. If a caller loaded them into vectors before its
+/// loop, the compiler would widen those vectors, and then need a multiplication for each product.
 fn eight_places(row: &[i16], place: usize, table: &[i16], at: usize) -> i32x8
     requires room { place + 16 ≤ length row.now }
     requires limit { Each1 (IsNear 255) row.now }
@@ -53,10 +54,11 @@ fn eight_places(row: &[i16], place: usize, table: &[i16], at: usize) -> i32x8
     pair_products(samples, coefficients)
 }
 
-/// Returns such sums as `eight_places` does, for 16 indices: every second index from `place` on.
+/// Returns the sums that `eight_places` returns, but for 16 indices: every second index from
+/// `place` on.
 ///
-/// The halves are joined before they are added to the sums. Otherwise the compiler adds the
-/// products one by one, which takes twice as many multiplications.
+/// The two halves are joined before the caller adds them to its sums. Otherwise the compiler adds
+/// the products one by one, which takes twice as many multiplications.
 fn sixteen_places(row: &[i16], place: usize, table: &[i16], at: usize) -> i32x16
     requires room { place + 32 ≤ length row.now }
     requires limit { Each1 (IsNear 255) row.now }
@@ -77,8 +79,8 @@ fn sixteen_places(row: &[i16], place: usize, table: &[i16], at: usize) -> i32x16
     )
 }
 
-/// Adds the sums of one matrix row to the sums at the 32 indices from `place` on. Returns the new
-/// sums at an even distance from `place`, and the new sums at an odd distance.
+/// Adds the products of one matrix row to the sums at the 32 indices from `place` on. Returns the
+/// new sums at an even distance from `place`, and the new sums at an odd distance.
 pub fn add_row(
     row: &[i16],
     place: usize,

@@ -19,12 +19,12 @@ use crate::stores::store_32_bytes;
 use std::marker::PhantomData;
 use std::simd::prelude::*;
 
-/// A choice between two samples, of the smaller or of the greater; three and nine samples are
-/// chosen from two at a time.
+/// A choice of the smaller or of the greater of two samples. The choice from three or nine samples
+/// compares two at a time.
 trait Choice {
     ghost choice: { ℕ → ℕ → ℕ };
 
-    /// The same choice on values.
+    /// The same choice between the samples' values.
     ghost of_numbers: { ℤ → ℤ → ℤ };
 
     /// The choice from nine values.
@@ -189,8 +189,9 @@ fn middle_lanes(items: ThreeLanes) -> u8x32
 
 /// The median of the nine samples of a window.
 ///
-/// Each column has a least, a middle and a greatest sample. The median is that of three samples:
-/// the greatest of the least, the middle of the middle and the least of the greatest samples.
+/// Each column has a least, a middle and a greatest sample. The window's median is the median of
+/// three samples: the greatest of the least samples, the middle of the middle samples and the least
+/// of the greatest samples.
 pub struct Median;
 
 impl OfNine<u8> for Median {

@@ -1,9 +1,9 @@
-//! Stores of lanes, in halves, the half at the lower address first; and stores of bytes that are
-//! computed one by one.
+//! Stores of lanes in two halves, and stores of bytes that are computed one by one. The half at the
+//! lower address is stored first.
 //!
-//! On processors with registers of 16 bytes, the compiler stores the second half of 32 bytes before
-//! the first. If a row doesn't begin at a cache line, such stores alternate between two lines,
-//! which is slower when the row isn't in the first-level cache.
+//! On processors with registers of 16 bytes, the compiler would otherwise store the second half of
+//! 32 bytes before the first. If a row doesn't begin at a cache line, stores in that order
+//! alternate between two lines, which is slower when the row isn't in the first-level cache.
 ghost use Rattle.std.specs.Prelude.{◌≡◌, pos, map, length};
 
 use crate::items::map_items;
@@ -22,8 +22,8 @@ fn store_sixteen<K: OfItem<u8, u8>>(kernel: &K, row: &[u8], out: &mut [u8])
     u8x16::from_array(items).copy_to_slice(out);
 }
 
-/// Writes the kernel's results for 32 bytes: a block of a kernel for which the processor has no
-/// vector instruction. It is faster to store 16 bytes together than one by one.
+/// Writes the kernel's results for a block of 32 bytes. The processor has no vector instruction for
+/// the kernel, but storing 16 bytes together is faster than storing them one by one.
 pub fn store_bytes<K: OfItem<u8, u8>>(kernel: &K, row: &[u8], out: &mut [u8])
     requires row_len { length row.now ≡ 32 }
     requires out_len { length out.old ≡ 32 }

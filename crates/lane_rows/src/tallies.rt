@@ -13,9 +13,9 @@ fn count_one(counts: &mut [u32; 256], value: u8)
     counts[usize::from(value)] += 1;
 }
 
-/// Adds the histogram of a row to the counts, each of which is the sum of its entries in four
-/// tables. Successive items go to different tables, so that equal neighbours don't wait for each
-/// other.
+/// Adds the histogram of a row to the counts. The count of a value is the sum of its entries in
+/// four tables. Successive items go to different tables, so that equal neighbours don't wait for
+/// each other.
 pub fn tally_row(
     row: &[u8],
     first: &mut [u32; 256],

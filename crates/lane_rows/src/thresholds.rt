@@ -21,20 +21,21 @@ pub trait Tested: Short {
     /// The format of the samples.
     ghost format: { Format };
 
-    /// Returns the item with this value, which is a sample of the format.
+    /// Returns the item with the value `number`, which is a sample of the format.
     fn from_short(number: i16) -> Self
         requires { IsTrue (is_sample format number) }
         ensures { Self.value result ≡ number };
 
-    /// Returns, for each of 32 items, `true_value` if it is above the limit, else `false_value`.
+    /// Returns, for each of 32 items, `true_value` if the item is above the limit, else
+    /// `false_value`.
     fn above(row: &[Self], limit: Self, true_value: u8, false_value: u8) -> u8x32
         requires { length row.now ≡ 32 }
         ensures { map pos result
             ≡ map (threshold_choice (Binary (Self.value limit)) true_value false_value)
             (map Self.value row.now) };
 
-    /// Returns, for each of 32 items, `true_value` if it is between the limits or equal to one of
-    /// them, else `false_value`.
+    /// Returns, for each of 32 items, `true_value` if the item is between the limits or equal to
+    /// one of them, else `false_value`.
     fn between(row: &[Self], lower: Self, upper: Self, true_value: u8, false_value: u8) -> u8x32
         requires { length row.now ≡ 32 }
         ensures { map pos result ≡ map

@@ -14,8 +14,8 @@ use image_core::{Image, ImageMut, RowUpdate};
 use lane_rows::{Accumulated, OfSum, Squared, update_row};
 use vx_base::Rect;
 
-/// Updates sums by a lane kernel from an image of the same size, in an area where the image is
-/// valid.
+/// An update of sums by a lane kernel, from an image of the sums' size. It is limited to an area
+/// where the image is valid.
 #[derive(Drop)]
 struct Added<'a, 'b, K> {
     kernel: &'a K,
@@ -40,8 +40,8 @@ impl<K: OfSum<u8, i16>> RowUpdate<i16> for Added<'_, '_, K> {
     }
 }
 
-/// Updates sums with an image of the same size, where both are valid: `kernel` computes each new
-/// sum. All other sums become 0.
+/// Updates an image of sums from an image of its size, where both are valid. `kernel` computes each
+/// new sum. All other sums become 0.
 fn add_to_sums<K: OfSum<u8, i16>>(kernel: &K, image: &Image<'_>, sums: &mut ImageMut<'_>)
     requires target { IsTarget sums.old }
     requires size { HaveSameSize (target_image sums.old) image.now }
@@ -63,7 +63,7 @@ fn add_to_sums<K: OfSum<u8, i16>>(kernel: &K, image: &Image<'_>, sums: &mut Imag
 
 /// Adds the samples of a U8 image to the samples of an S16 image where both are valid (OpenVX 1.3,
 /// "Accumulate"). Sums above 32,767 become 32,767. In the contract `old` is any image that has the
-/// earlier sums in the band's rows.
+/// earlier sums in the rows of the output's band.
 pub fn accumulate(image: &Image<'_>, sums: &mut ImageMut<'_>)
     requires fits { Fits Accumulate image.now None sums.old }
     requires room { IsWithin (target_image sums.old).valid (target_image sums.old).width
@@ -76,7 +76,8 @@ pub fn accumulate(image: &Image<'_>, sums: &mut ImageMut<'_>)
 
 /// Adds the squares of a U8 image's samples, divided by 2^amount and rounded down, to the samples
 /// of an S16 image where both are valid (OpenVX 1.3, "Accumulate Squared"). Sums above 32,767
-/// become 32,767. In the contract `old` is any image that has the earlier sums in the band's rows.
+/// become 32,767. In the contract `old` is any image that has the earlier sums in the rows of the
+/// output's band.
 pub fn accumulate_square(image: &Image<'_>, sums: &mut ImageMut<'_>, amount: u8)
     requires fits { Fits AccumulateSquare image.now None sums.old }
     requires room { IsWithin (target_image sums.old).valid (target_image sums.old).width

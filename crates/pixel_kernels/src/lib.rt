@@ -4,9 +4,9 @@
 //! elsewhere. The output's valid rectangle is the intersection of the inputs' valid rectangles. A
 //! function chooses a kernel of lane_rows by formats and policy, so the loop over a row tests
 //! neither formats nor policy. `write_one` and `write_two` prove once that any such kernel writes a
-//! whole image. The accumulating functions also read their output and update it in place. Where
-//! both the input and the earlier output are valid they apply their formula; elsewhere they write
-//! 0.
+//! whole image. The accumulating functions also read their output and update it in place. These
+//! functions apply their formula where both the input and the earlier output are valid, and write 0
+//! elsewhere.
 #![tactic(auto)]
 
 mod accumulation;

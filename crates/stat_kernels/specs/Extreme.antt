@@ -7,8 +7,8 @@ use Rattle.vx_base.specs.Statistics.{best_of, count_of, first_of, row_pixels}
 use Rattle.stat_kernels.specs.declared.extreme.Extreme.{Extreme}
 use Rattle.stat_kernels.specs.declared.extreme.Found.{Found}
 
--- the sample that `choose` picks from f at these pixels, the number of pixels with this sample, and
--- the first such pixel
+-- the sample that `choose` picks from the values of f at some pixels, the number of pixels with
+-- this sample, and the first pixel with it
 abbrev pub extreme_among : (ℤ → ℤ → ℤ) → (ℕ → ℕ → ℤ) → List (ℕ × ℕ) → Extreme
 extreme_among choose f ps =
     let zs = map (λ p. f p.0 p.1) ps in
@@ -18,7 +18,7 @@ extreme_among choose f ps =
 abbrev pub row_extreme : (ℕ → ℕ → ℤ) → ℤ → List ℤ → ℕ → ℕ → Extreme
 row_extreme f z zs x y = record { value = z; count = count_of z zs; at = first_of f z (row_pixels x (length zs) y) }
 
--- the least and the greatest value of f at these pixels
+-- the least and the greatest value of f at some pixels
 abbrev pub found_in : (ℕ → ℕ → ℤ) → List (ℕ × ℕ) → Found
 found_in f ps = record { least = extreme_among int_min f ps; greatest = extreme_among int_max f ps }
 
@@ -35,7 +35,7 @@ merge beyond a b =
 abbrev pub merge_found : Found → Found → Found
 merge_found a b = record { least = merge int_lt a.least b.least; greatest = merge (λ z v. int_lt v z) a.greatest b.greatest }
 
--- the two parts of extremes: the least and the greatest
+-- the least and the greatest of an `Extremes` record, as two parts
 abbrev pub found_of : Extremes → Found
 found_of e =
     record {
@@ -43,7 +43,7 @@ found_of e =
       greatest = record { value = e.max; count = e.max_count; at = e.max_at };
     }
 
--- the extremes with these two parts
+-- the `Extremes` record whose least and greatest are the two parts of f
 abbrev pub extremes_of : Found → Extremes
 extremes_of f =
     record {

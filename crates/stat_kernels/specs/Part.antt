@@ -22,7 +22,7 @@ pub record IsValidPart (image : ImageValue) (part : Part) : Type 0 where
 abbrev pub part_has_row : Part → ℕ → Bool
 part_has_row part y = nat_lt 0 part.count && (nat_le part.top y && nat_lt y part.bottom)
 
--- the part of a rectangle in the rows of a band
+-- the part of a rectangle that lies in the rows of a band
 abbrev pub band_of : Band → Rectangle → Rectangle
 band_of rows r =
     let top = max r.y0 rows.start in

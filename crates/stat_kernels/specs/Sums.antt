@@ -6,7 +6,7 @@ use Rattle.vx_base.specs.Image.{ImageValue, IsImage, pixel_at, run, zero_outside
 use Rattle.vx_base.specs.Statistics.{samples_in, sum_to}
 use Rattle.image_core.specs.declared.band.Band.{Band}
 
--- the last row in the list, if there is one
+-- the last row of a list of rows, each `width` items long; None if the list is empty
 abbrev pub last_row : ℕ → (before : List ℕ) → Option (List ℕ)
 last_row width before = if length before == 0 then None else Some (drop (length before - width) before)
 

@@ -13,8 +13,8 @@ use image_core::{Band, Image};
 use lane_rows::tally_row;
 use vx_base::Bins;
 
-/// Counts the valid samples of a band of a U8 image by value. The counts are in four tables
-/// together.
+/// Counts the valid samples of a band of a U8 image by value. The count of a value is the sum of
+/// its entries in four tables.
 fn count_values(
     image: &Image<'_>,
     rows: Band,

@@ -52,8 +52,8 @@ fn found_in(image: &Image<'_>, rows: Band) -> Found
     found
 }
 
-/// Returns the least and the greatest valid sample of a U8 or S16 image, the number of pixels that
-/// have each, and the first such pixel (OpenVX 1.3, "Min, Max Location").
+/// Returns the least and the greatest valid sample of a U8 or S16 image (OpenVX 1.3, "Min, Max
+/// Location"). Each comes with the number of pixels that have it and the first of these pixels.
 pub fn min_max(image: &Image<'_>) -> Extremes
     requires { image.now.format ≢ U32 }
     ensures { result ≡ extremes image.now }

@@ -22,7 +22,8 @@ pub fn extremes_bound()
         Contains (valid_samples image) (extremes image).max }
 {}
 
-/// The histogram of two adjacent bands together is the sum of the histograms of each, bin by bin.
+/// The histogram of two adjacent bands together is the sum of the two bands' histograms, bin by
+/// bin.
 pub fn histograms_of_bands()
     ensures { (bins : BinsValue) (image : ImageValue) (start first second : ℕ) →
         histogram bins (valid_in (record { start = start; count = first + second }) image)
@@ -40,8 +41,8 @@ pub fn extremes_of_bands()
         ≡ extremes (valid_in (record { start = start; count = first + second }) image) }
 {}
 
-/// Merging is also correct if the second band belongs to another image, `part`, whose rows are
-/// `down` rows lower in `whole`.
+/// Merging the extremes of two bands is also correct if the second band belongs to another image,
+/// `part`, whose rows are `down` rows lower in `whole`.
 pub fn extremes_of_parts()
     ensures { (part whole : ImageValue) (rows : Rows) (start first down : ℕ) →
         rows.start + down ≡ start + first → AreRowsOf part rows whole (start + first) →

@@ -24,7 +24,7 @@ const LONGEST_ROW: usize = GREATEST_SIDE as usize;
 /// The row above the first row of an image: all zeros.
 static ZEROS: [u32; LONGEST_ROW] = [0; LONGEST_ROW];
 
-/// Writes part of a row of an integral image, from column `x` on: the running sums of the row plus
+/// Writes part of a row of an integral image, from column `x` on: the running sums of `row` plus
 /// the sums in the row above. Without a row above, the sums above are 0.
 fn write_part_of_row(row: &[u8], above: Option<&[u32]>, x: usize, out: &mut [u32])
     requires above_len { IfSome above (λ sums. x + length row.now ≤ length sums.now) }
@@ -40,7 +40,8 @@ fn write_part_of_row(row: &[u8], above: Option<&[u32]>, x: usize, out: &mut [u32
     }
 }
 
-/// Writes row `y` of the integral image as `write_integral_row` does; the row has valid pixels.
+/// Writes row `y` of the integral image as `write_integral_row` does, for a row that has valid
+/// pixels.
 fn write_row_across_part(
     image: &Image<'_>,
     part: Part,
@@ -98,9 +99,9 @@ pub fn row_above(before: &[u32], width: usize) -> Option<&[u32]>
     }
 }
 
-/// Writes a band of an integral image, continuing from `above`, the row above the band; `None` at
-/// the top of an image. Reads only the band's rows of `image`. In the contract `whole` is any image
-/// whose rows from `line` on are the band's rows.
+/// Writes a band of an integral image, continuing from `above`: the row above the band, or `None`
+/// at the top of an image. Reads only the band's rows of `image`. In the contract `whole` is any
+/// image whose rows from `line` on are the band's rows.
 pub fn integral_on(image: &Image<'_>, rows: Band, above: Option<&[u32]>, samples: &mut [u32])
     requires format { image.now.format ≡ U8 }
     requires rows { IsInRows image.now.height rows }
@@ -122,7 +123,7 @@ pub fn integral_on(image: &Image<'_>, rows: Band, above: Option<&[u32]>, samples
     }
 }
 
-/// Writes row `y` of the integral image, after each of the rows above it in turn.
+/// Writes row `y` of the integral image. Computes the rows above it first, one by one from the top.
 fn write_row_from_top(image: &Image<'_>, y: u16, out: &mut [u32])
     requires format { image.now.format ≡ U8 }
     requires row { y < image.now.height }
@@ -143,8 +144,8 @@ fn write_row_from_top(image: &Image<'_>, y: u16, out: &mut [u32])
     }
 }
 
-/// Writes a band of the integral image, from the row above the band, which is the sum of all rows
-/// up to it.
+/// Writes a band of the integral image. Computes the row above the band first, from the top of the
+/// image.
 fn write_integral_rows(image: &Image<'_>, rows: Band, samples: &mut [u32])
     requires format { image.now.format ≡ U8 }
     requires rows { IsInRows image.now.height rows }

@@ -1,5 +1,5 @@
--- Window functions by columns: down each column of the window, then across the three results. Samples are named by rows; a, d, g is the
--- left column.
+-- Window functions by columns: down each column of the window, then across the three results. The
+-- samples are named a to i in row-major order, so a, d, g is the left column.
 use Rattle.std.specs.Prelude.{ℕ, ℤ, ◌≡◌, ◌<◌, [], ◌∷◌, pos, ◌+ℤ◌, ◌-ℤ◌, ◌*ℤ◌}
 use Rattle.std.specs.Int.{int_min, int_max, int_div_euclid}
 use Rattle.std.proofs.Common.{arith, ap, ◌∙◌}
@@ -52,34 +52,35 @@ x_is_x a b c d e f g h i = omega (arith, ints)
 pub y_is_y : (a b c d e f g h i : ℤ) → ((g -ℤ a) +ℤ pos 2 *ℤ (h -ℤ b)) +ℤ (i -ℤ c) ≡ gradient_y (a ∷ b ∷ c ∷ d ∷ e ∷ f ∷ g ∷ h ∷ i ∷ [])
 y_is_y a b c d e f g h i = omega (arith, ints)
 
--- the mean of nine samples, computed from the sums of three columns
+-- the mean of nine samples can be computed from the sums of three columns
 pub box_is_box : (a b c d e f g h i : ℤ) → int_div_euclid ((a +ℤ d +ℤ g) +ℤ (b +ℤ e +ℤ h) +ℤ (c +ℤ f +ℤ i)) (pos 9) ≡ box_mean (a ∷ b ∷ c ∷ d ∷ e ∷ f ∷ g ∷ h ∷ i ∷ [])
 box_is_box a b c d e f g h i = ap (λ z. int_div_euclid z (pos 9)) (omega (arith, ints))
 
--- the Gaussian mean, computed from the weighted sums of three columns
+-- the Gaussian mean can be computed from the weighted sums of three columns
 pub gaussian_is_gaussian : (a b c d e f g h i : ℤ) → int_div_euclid ((a +ℤ pos 2 *ℤ d +ℤ g) +ℤ pos 2 *ℤ (b +ℤ pos 2 *ℤ e +ℤ h) +ℤ (c +ℤ pos 2 *ℤ f +ℤ i)) (pos 16) ≡ gaussian_mean (a ∷ b ∷ c ∷ d ∷ e ∷ f ∷ g ∷ h ∷ i ∷ [])
 gaussian_is_gaussian a b c d e f g h i = ap (λ z. int_div_euclid z (pos 16)) (omega (arith, ints))
 
 -- ---- the ranges of the intermediate numbers
 
--- the function down a column takes all bytes, and the function across takes the results of three columns
+-- the function down a column accepts all bytes, and the function across accepts 0 and the result of
+-- any column of bytes
 pub record AreBytesTaken (down across : ℤ → Type 0) (formula : ℤ → ℤ → ℤ → ℤ) : Type 0 where
   pub bytes : (n : ℕ) → n < 256 → down (pos n)
   pub columns : (a b c : ℕ) → a < 256 → b < 256 → c < 256 → across (formula (pos a) (pos b) (pos c))
   pub zero : across (pos 0)
 
--- functions that take all numbers
+-- functions that accept all numbers meet `AreBytesTaken`
 pub all_taken : {f : ℤ → ℤ → ℤ → ℤ} → AreBytesTaken (λ _. Unit {0}) (λ _. Unit {0}) f
 all_taken = record { bytes = λ _ _. tt; columns = λ _ _ _ _ _ _. tt; zero = tt }
 
--- bytes are in the range of the sum down a column, and such sums are in the range of the mean
--- across
+-- the sum down a column accepts all bytes, and the mean across accepts the sum of any column of
+-- bytes
 pub sums_taken : AreBytesTaken (IsUpTo 8191) (IsUpTo 765) (λ a b c. a +ℤ b +ℤ c)
 sums_taken =
     record { bytes = λ n p. (omega (arith, ints), omega (arith, ints, p)); columns = λ a b c p q r. (omega (arith, ints), omega (arith, ints, p, q, r)); zero = (omega (arith, ints), omega (arith, ints)) }
 
--- bytes are in the range of the weighted sum down a column, and such sums are in the range of the
--- weighted mean across
+-- the weighted sum down a column accepts all bytes, and the weighted mean across accepts the
+-- weighted sum of any column of bytes
 pub weighted_sums_taken : AreBytesTaken (IsUpTo 8191) (IsUpTo 1020) (λ a b c. a +ℤ pos 2 *ℤ b +ℤ c)
 weighted_sums_taken =
     record { bytes = λ n p. (omega (arith, ints), omega (arith, ints, p)); columns = λ a b c p q r. (omega (arith, ints), omega (arith, ints, p, q, r)); zero = (omega (arith, ints), omega (arith, ints)) }

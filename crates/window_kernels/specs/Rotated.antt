@@ -8,7 +8,7 @@ use Rattle.lane_rows.specs.Pairs.{alternation}
 abbrev pub rotated_coefficient : ConvolutionValue → ℕ → ℕ → ℤ
 rotated_coefficient m l c = if nat_lt c m.columns then coefficient m l (m.columns - 1 - c) else pos 0
 
--- pair k of the coefficients, of which each row has five, eight times
+-- pair k of the coefficients, repeated eight times; each row has five pairs
 abbrev pub rotated_pair : ConvolutionValue → ℕ → List ℤ
 rotated_pair m k = alternation 8 (rotated_coefficient m (k / 5) (k % 5 * 2)) (rotated_coefficient m (k / 5) (k % 5 * 2 + 1))
 

@@ -5,7 +5,7 @@ ghost use Rattle.window_kernels.specs.ByColumns.{AreBytesTaken};
 use crate::windows::{OfWindow, SampleItem};
 use lane_rows::{Item, OfColumn, ThreeItems};
 
-/// A function across the three results that `D` gives down the columns.
+/// A function across the results of `D` for three neighbouring columns.
 pub trait Across<S: Item, T: Item, D: OfColumn<u8, S>>: OfColumn<S, T> {
     /// The combined function of the nine samples, in row-major order.
     ghost of_nine: { List ℤ → ℤ };

@@ -101,7 +101,7 @@ struct FromMatrix<'a, 'b> {
 }
 
 impl FromMatrix<'_, '_> {
-    /// Loads the samples of a row that the windows read, from the window of column `x` on.
+    /// Loads the samples of one row that the windows from column `x` on read.
     fn load_line(&self, x: u16, row: i32, line: &mut [i16])
         requires columns { self.now.image.now.valid.x0 < self.now.image.now.valid.x1 }
         requires rows { self.now.image.now.valid.y0 < self.now.image.now.valid.y1 }
@@ -116,8 +116,8 @@ impl FromMatrix<'_, '_> {
         load_row(self.image, x, radius, row, self.border, line);
     }
 
-    /// Loads the rows that the windows of row `y` read, from the window of column `x` on. The
-    /// bottom row comes first, which turns the matrix vertically.
+    /// Loads the rows that the windows of row `y` read, for the windows from column `x` on. The
+    /// bottom row comes first, which has the effect of reversing the rows of the matrix.
     fn load_rows(&self, x: u16, y: u16, line: u16, rows: &mut [i16])
         requires columns { self.now.image.now.valid.x0 < self.now.image.now.valid.x1 }
         requires rows { self.now.image.now.valid.y0 < self.now.image.now.valid.y1 }
@@ -207,9 +207,9 @@ fn write_convolved<T: Convolved>(
     output.write_by_rows::<T, i16, _>(&formula, scratch);
 }
 
-/// `with_rows!(width, rows => call)` makes the call with `rows`, scratch memory on the stack: nine
-/// rows of a piece, halo included, for an image of this width. The memory is zeroed once; a narrow
-/// image gets less memory.
+/// `with_rows!(width, rows => call)` makes the call with `rows`, scratch memory on the stack. It
+/// has the size of nine rows of a piece, halo included, for an image of this width. The memory is
+/// zeroed once; a narrow image gets less memory.
 macro_rules! with_rows {
     ($width:expr, $rows:ident => $call:expr) => {
         if $width <= 64 {

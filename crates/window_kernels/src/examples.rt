@@ -20,7 +20,7 @@ pub fn places()
     ensures constant { sample_or_border row_of_four (Constant 7) (pos 3) (pos 0) ≡ pos 7 }
 {}
 
-/// The formulas for the window 1 2 9, 3 4 8, 5 6 7.
+/// The results of the formulas for the window 1 2 9, 3 4 8, 5 6 7.
 pub fn formulas()
     ensures mean { box_mean (pos 1 ∷ pos 2 ∷ pos 9 ∷ pos 3 ∷ pos 4 ∷ pos 8 ∷ pos 5 ∷ pos 6
         ∷ pos 7 ∷ []) ≡ pos 5 }
@@ -79,8 +79,8 @@ pub fn rotated_matrix()
     ensures { from_matrix U8 upper_left Undefined three_by_three ≡ at_centre U8 (pos 9) }
 {}
 
-/// A matrix with -3 at its centre, on an image of one sample, 1. -3 / 2 is rounded toward zero and
-/// clamped to each format, and -3 / 2^31 is 0.
+/// A matrix with -3 at its centre, on an image whose only sample is 1. The quotient -3 / 2 is
+/// rounded toward zero and clamped to each format. The quotient -3 / 2^31 becomes 0.
 pub fn scaled_sums()
     ensures to_zero { (from_matrix S16 (minus_three 1) Replicate single).samples ≡ negsuc 0 ∷ [] }
     ensures clamped { (from_matrix U8 (minus_three 1) Replicate single).samples ≡ pos 0 ∷ [] }

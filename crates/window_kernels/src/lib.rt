@@ -10,9 +10,9 @@
 //! the last sample of a row, whose windows may reach beyond the valid columns, are computed one by
 //! one.
 //!
-//! `convolve` loads what the windows of a piece of a row read, border included, for the lane kernel
-//! `MatrixRows`. Pieces have a greatest width (`pieces`), so the scratch memory doesn't grow with
-//! the image's width.
+//! `convolve` works on pieces of rows. It loads the samples that a piece's windows read, border
+//! included, for the lane kernel `MatrixRows`. Pieces have a greatest width (`pieces`), so the
+//! scratch memory doesn't grow with the image's width.
 //!
 //! No function allocates memory. `examples` evaluates the definitions on numbers, and `laws` states
 //! facts about them.

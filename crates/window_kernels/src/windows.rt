@@ -54,7 +54,7 @@ pub trait OfWindow<T: Sample, S> {
 struct Window<'a, 'b> {
     image: &'a Image<'b>,
     border: Border,
-    /// The border's samples, for rows that the border doesn't take from the image.
+    /// A row of the border's samples. Windows read it where the border takes no row of the image.
     off_rows: &'a [u8],
     area: Rect,
     ghost format: { image.now.format ≡ U8 },
