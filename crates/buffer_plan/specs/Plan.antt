@@ -18,9 +18,9 @@ pub record PlanView : Type 0 where
   pub slot_samples : Format → ℕ → ℕ
   pub peak_step : Format → Option ℕ
 
--- a valid plan with a slot for each image and for nothing else. Each format has as many slots as
--- images that are live at its peak. The sample count of a slot is the greatest of the images that
--- share the slot.
+-- a valid plan with a slot for each image and for nothing else. The number of slots of a format is
+-- the number of its images that are live at the format's peak. The sample count of a slot is the
+-- greatest sample count of the images that share the slot.
 pub record IsPlan (steps : List Node) (images : List VirtualOutput) (p : PlanView) : Type 0 where
   pub once : has_twice (map (λ o. o.cell) images) ≡ false
   pub given : (cell : Reference) →

@@ -63,8 +63,8 @@ impl Plan {
         u8s.or(s16s).or(self.u32s.slot_of(cell))
     }
 
-    /// Returns the number of slots of a format. No plan for this order of the nodes has fewer slots
-    /// of the format.
+    /// Returns the number of slots of a format. No plan for the verified graph's order of nodes has
+    /// fewer slots of the format.
     pub fn slot_count(&self, format: Format) -> usize
         ensures value { result ≡ (plan_view self.now).slot_count format }
         ensures least { (steps : List NodeFields) (images : List Image) →
@@ -84,8 +84,8 @@ impl Plan {
         samples.get(slot).copied().unwrap_or(0)
     }
 
-    /// Returns the first step, counted from 1, at which as many images of the format are live as
-    /// the format has slots. `None`: the format has no slot.
+    /// Returns the first step, counted from 1, at which each slot of the format has a live image.
+    /// Returns `None` if the format has no slot.
     pub fn peak_step(&self, format: Format) -> Option<usize>
         ensures { result ≡ (plan_view self.now).peak_step format }
     {
@@ -93,7 +93,7 @@ impl Plan {
     }
 }
 
-/// Assigns slots to the images of a format that a verified graph writes.
+/// Assigns slots to a verified graph's virtual outputs of one format.
 fn places_of(alloc: Global, verified: &Verified, format: Format) -> Result<Places, AllocError>
     ensures places { IfOk result (λ places.
         IsPlacedFor verified.now.steps verified.now.virtual_outputs format places) }

@@ -1,4 +1,4 @@
--- The program of a graph: its tasks over planes, with the tables that its nodes read, halos, blocks and tallies.
+-- The program of a graph: its tasks over planes, with halos, blocks, tallies, and the tables that its nodes read.
 use Rattle.std.specs.Prelude.{ℕ, ◌≡◌, ◌<◌, ◌≤◌, ◌⊎◌, true, List, [], ◌∷◌, ◌++◌, length, map, drop, slice_index_or, All, Option, None, unwrap_or}
 use Rattle.std.specs.List.{flat_map, range_with_len}
 use Rattle.std.specs.Option.{option_and_then}

@@ -49,7 +49,7 @@ abbrev pub tally_cell : Kind → Node → List Reference
 tally_cell kind.Image n = []
 tally_cell other n = unwrap_or n.out1 n.in1 ∷ []
 
--- the references of the tallies of nodes, in the order of the nodes
+-- the references to which the tallies of nodes are written, in the order of the nodes
 abbrev pub tally_cells : List Node → List Reference
 tally_cells nodes = flat_map (λ n. tally_cell (parameters n.function).output n) nodes
 

@@ -44,7 +44,7 @@ pub fn rounds_solve()
         Solves nodes before after → after ≡ rounds_of_nodes nodes (length nodes) before }
 {}
 
-/// A run of a graph with one node writes the same as the node run by itself.
+/// A run of a graph with one node writes the same values as a run of the node alone.
 pub fn run_of_one_node()
     ensures { (is : Reference → Operand) (n : Node) (objects : List NamedObject) →
         AllPairs (λ a b. a.name < b.name) objects →
