@@ -10,8 +10,8 @@ use Rattle.graph_verify.specs.Links.{has_twice}
 use Rattle.graph_verify.specs.Members.{In}
 use Rattle.buffer_plan.specs.Slots.{of_format, is_slot, maximum_of, IsValid, IsPeak}
 
--- a plan's view: the slot of each image; for each format the number of slots, the sample count of
--- each slot, and the first step that needs all slots
+-- a plan's view: the slot of each image, and for each format the number of slots, the sample count
+-- of each slot, and the first step that needs all slots
 pub record PlanView : Type 0 where
   pub slot_of : Reference → Option ℕ
   pub slot_count : Format → ℕ

@@ -26,8 +26,8 @@ pub struct Plan {
 }
 
 impl Plan {
-    /// Plans the slots of the virtual images that a verified graph writes, for its order of nodes.
-    /// An error means that there is no memory for the plan.
+    /// Plans the slots of the virtual images that a verified graph writes, for the graph's order of
+    /// nodes. An error means that there is no memory for the plan.
     pub fn new(alloc: Global, verified: &Verified) -> Result<Plan, AllocError>
         ensures plan { IfOk result (λ p.
             IsPlan verified.now.steps verified.now.virtual_outputs (plan_view p)) }
@@ -76,7 +76,7 @@ impl Plan {
     }
 
     /// Returns the size of a slot in samples: the greatest sample count of the images that share
-    /// it, or 0 if there is no such slot.
+    /// the slot. Returns 0 if the slot doesn't exist.
     pub fn slot_samples(&self, format: Format, slot: usize) -> usize
         ensures { result ≡ (plan_view self.now).slot_samples format slot }
     {

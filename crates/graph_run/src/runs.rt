@@ -258,8 +258,8 @@ fn take(
     take_out(table, clients_of(&schedule.cells, images.len()), planes);
 }
 
-/// Moves the samples of a graph's images back to the table, writes its tallies there, and returns
-/// blocks to their slots.
+/// Returns the blocks of the virtual images to their slots. Moves the samples of the clients'
+/// images back to the table, and writes the tallies to objects of the table.
 fn give(
     verified: &Verified,
     schedule: &Schedule,

@@ -1,4 +1,4 @@
-//! The schedule of a verified graph: its tasks over planes, and the blocks that they need.
+//! The schedule of a verified graph: its tasks over planes, and the blocks that the planes need.
 ghost use Rattle.std.specs.Prelude.{◌≡◌, ◌≤◌, List, length, drop, IfOk};
 ghost use Rattle.vx_base.specs.declared.node.Node.{Node as NodeFields};
 ghost use Rattle.buffer_plan.specs.Places.{plan_view};
@@ -31,7 +31,7 @@ pub struct Schedule {
     pub(crate) tasks: Vec<Task>,
     /// The halo of each plane.
     pub(crate) halos: Vec<u16>,
-    /// The greatest height of an image.
+    /// The height of the tallest image.
     pub(crate) high: u16,
     /// The number of rows of a band.
     pub(crate) size: u16,

@@ -1,4 +1,5 @@
-//! The greatest height of a graph's images, its halos, and the number of rows of its bands.
+//! The height of a graph's tallest image, the halos of its planes, and the number of rows of a
+//! band.
 ghost use Rattle.std.specs.Prelude.{◌≡◌, ◌≤◌, ◌<◌, ℕ, All, true, length, None, IfOk, IfSome};
 ghost use Rattle.object_table.specs.Table.{image_held};
 ghost use Rattle.graph_steps.specs.declared.step.Step.{Step as StepValue};

@@ -99,7 +99,8 @@ AreFree kept (Write s ∷ later) = ((t : ℕ) → s.takes ≡ Some t → t ≢ s
 abbrev pub HoldsRows : ℕ → ℕ → Description → Format × ℕ → Type 0
 HoldsRows size more d block = (block.0 ≡ d.format) × (min d.height (size + more + more) * d.width ≤ block.1)
 
--- each block that a step takes is large enough for a band of the output with its halo
+-- each block that a step takes is large enough for a band of the step's output, with the output's
+-- halo
 abbrev pub HaveCapacity : ℕ → List ℕ → (ℕ → Description) → List Task → List (Format × ℕ) → Type 0
 HaveCapacity size halos descs [] blocks = Unit {0}
 HaveCapacity size halos descs (Reduce r ∷ later) blocks = HaveCapacity size halos descs later blocks
