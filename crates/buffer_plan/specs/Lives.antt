@@ -29,7 +29,7 @@ pub record IsLife (steps : List Node) (l : Life) : Type 0 where
   pub first : l.first ≡ position_or_len (λ n. writes n l.image.cell) steps + 1
   pub live : (step : ℕ) → is_live steps l.image.cell step ≡ is_in step l
 
--- the lives of these images, in the same order
+-- the lives of these images, in the order of the images
 pub record AreLives (steps : List Node) (images : List VirtualOutput)
     (lives : List Life) : Type 0 where
   pub each : map (λ l. l.image) lives ≡ images

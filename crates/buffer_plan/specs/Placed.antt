@@ -30,8 +30,8 @@ abbrev pub slot_capacity : List Placed → ℕ → ℕ
 slot_capacity placed k =
     maximum_of (map (λ p. sample_count p.life.image.desc) (filter (λ p. p.slot == k) placed))
 
--- an image takes a slot that is free again, or a new slot if none is free; `ends` and `ends'` have
--- the last live step of each slot, before and after
+-- an image takes a slot that is free again, or a new slot if none is free. `ends` has the last live
+-- step of each slot before the image takes its slot; `ends'` has these steps afterwards.
 abbrev pub TakesSlot : Life → List ℕ → List ℕ → ℕ → Type 0
 TakesSlot l ends ends' slot =
     ((slot < length ends) × (slice_index_or ends slot 0 < l.first)
@@ -56,8 +56,8 @@ pub record IsReached (lives : List Life) (count step : ℕ) : Type 0 where
   pub fewer_before : (earlier : ℕ) → earlier < step → count_in earlier lives < count
 
 -- lives with their slots, and the size of each slot. If the lives are in the order of their first
--- steps, overlapping lives have different slots. As many images are then live at the peak step as
--- there are slots.
+-- steps, overlapping lives have different slots. In that case the number of images that are live at
+-- the peak step reaches the number of slots.
 pub record ArePlaced (lives : List Life) (p : Places) : Type 0 where
   pub each : map (λ q. q.life) p.placed.items ≡ lives
   pub below : (q : Placed) → In q p.placed.items → q.slot < length p.samples.items

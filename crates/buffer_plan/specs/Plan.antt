@@ -10,17 +10,17 @@ use Rattle.graph_verify.specs.Links.{has_twice}
 use Rattle.graph_verify.specs.Members.{In}
 use Rattle.buffer_plan.specs.Slots.{of_format, is_slot, maximum_of, IsValid, IsPeak}
 
--- a plan's view: the slot of each image; for each format the number of slots, the sample count of
--- each slot, and the first step that needs all slots
+-- a plan's view: the slot of each image, and for each format the number of slots, the sample count
+-- of each slot, and the first step that needs all slots
 pub record PlanView : Type 0 where
   pub slot_of : Reference → Option ℕ
   pub slot_count : Format → ℕ
   pub slot_samples : Format → ℕ → ℕ
   pub peak_step : Format → Option ℕ
 
--- a valid plan with a slot for each image and for nothing else. Each format has as many slots as
--- images that are live at its peak. The sample count of a slot is the greatest of the images that
--- share the slot.
+-- a valid plan with a slot for each image and for nothing else. The number of slots of a format is
+-- the number of its images that are live at the format's peak. The sample count of a slot is the
+-- greatest sample count of the images that share the slot.
 pub record IsPlan (steps : List Node) (images : List VirtualOutput) (p : PlanView) : Type 0 where
   pub once : has_twice (map (λ o. o.cell) images) ≡ false
   pub given : (cell : Reference) →

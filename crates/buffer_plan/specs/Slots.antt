@@ -18,7 +18,7 @@ abbrev pub live_images : List Node → List VirtualOutput → Format → ℕ →
 live_images steps images format step =
     filter (λ o. is_live steps o.cell step) (of_format format images)
 
--- a valid assignment: no two images of one format that are live at one step share a slot
+-- a valid assignment: no two images of one format share a slot if both are live at the same step
 abbrev pub IsValid : {S : Type 0} → List Node → List VirtualOutput → (Reference → S) → Type 0
 IsValid steps images slot = (format : Format) (step : ℕ) (a b : VirtualOutput) →
     In a (live_images steps images format step) → In b (live_images steps images format step) →
@@ -38,7 +38,7 @@ pub record IsFirstWith (steps : List Node) (images : List VirtualOutput) (format
       length (live_images steps images format earlier) < count
 
 -- the peak of a format: the greatest number of its images that are live at one step, and the first
--- such step; None if the number is 0
+-- step with this number of live images. The step is None if the number is 0.
 pub record IsPeak (steps : List Node) (images : List VirtualOutput) (format : Format) (count : ℕ)
     (first : Option ℕ) : Type 0 where
   pub most : (step : ℕ) → length (live_images steps images format step) ≤ count
@@ -50,7 +50,7 @@ abbrev pub maximum_of : List ℕ → ℕ
 maximum_of [] = 0
 maximum_of (n ∷ ns) = if nat_le n (maximum_of ns) then maximum_of ns else n
 
--- whether there is a slot, and it is k
+-- whether the slot is k; false if there is no slot
 abbrev pub is_slot : ℕ → Option ℕ → Bool
 is_slot k None = false
 is_slot k (Some slot) = slot == k

@@ -26,8 +26,8 @@ pub struct Plan {
 }
 
 impl Plan {
-    /// Plans the slots of the virtual images that a verified graph writes, for its order of nodes.
-    /// An error means that there is no memory for the plan.
+    /// Plans the slots of the virtual images that a verified graph writes, for the graph's order of
+    /// nodes. An error means that there is no memory for the plan.
     pub fn new(alloc: Global, verified: &Verified) -> Result<Plan, AllocError>
         ensures plan { IfOk result (λ p.
             IsPlan verified.now.steps verified.now.virtual_outputs (plan_view p)) }
@@ -63,8 +63,8 @@ impl Plan {
         u8s.or(s16s).or(self.u32s.slot_of(cell))
     }
 
-    /// Returns the number of slots of a format. No plan for this order of the nodes has fewer slots
-    /// of the format.
+    /// Returns the number of slots of a format. No plan for the verified graph's order of nodes has
+    /// fewer slots of the format.
     pub fn slot_count(&self, format: Format) -> usize
         ensures value { result ≡ (plan_view self.now).slot_count format }
         ensures least { (steps : List NodeFields) (images : List Image) →
@@ -76,7 +76,7 @@ impl Plan {
     }
 
     /// Returns the size of a slot in samples: the greatest sample count of the images that share
-    /// it, or 0 if there is no such slot.
+    /// the slot. Returns 0 if the slot doesn't exist.
     pub fn slot_samples(&self, format: Format, slot: usize) -> usize
         ensures { result ≡ (plan_view self.now).slot_samples format slot }
     {
@@ -84,8 +84,8 @@ impl Plan {
         samples.get(slot).copied().unwrap_or(0)
     }
 
-    /// Returns the first step, counted from 1, at which as many images of the format are live as
-    /// the format has slots. `None`: the format has no slot.
+    /// Returns the first step, counted from 1, at which each slot of the format has a live image.
+    /// Returns `None` if the format has no slot.
     pub fn peak_step(&self, format: Format) -> Option<usize>
         ensures { result ≡ (plan_view self.now).peak_step format }
     {
@@ -93,7 +93,7 @@ impl Plan {
     }
 }
 
-/// Assigns slots to the images of a format that a verified graph writes.
+/// Assigns slots to a verified graph's virtual outputs of one format.
 fn places_of(alloc: Global, verified: &Verified, format: Format) -> Result<Places, AllocError>
     ensures places { IfOk result (λ places.
         IsPlacedFor verified.now.steps verified.now.virtual_outputs format places) }

@@ -42,8 +42,8 @@ impl Places {
     }
 }
 
-/// Returns the first slot that is free at step `first`. `ends` has the last step at which each slot
-/// is in use.
+/// Returns the first slot that is free at step `first`. For each slot, `ends` has the last step at
+/// which the slot is in use.
 fn free_slot(ends: &[usize], first: usize) -> Option<usize>
     ensures { result ≡ position (λ end. nat_lt end first) ends.now }
 {

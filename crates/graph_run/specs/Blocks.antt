@@ -34,8 +34,8 @@ room_count rooms format = sum_by (λ r. one_of r.0 format) rooms
 abbrev pub band_samples : ℕ → ℕ → Description → ℕ
 band_samples size rows desc = min desc.height (size + rows + rows) * desc.width
 
--- the greatest number of samples that any image of the list in a slot needs; the first image of the
--- list has index k
+-- the number of samples that a slot needs for the images of the list: the most that any of these
+-- images in the slot needs. The first image of the list has index k.
 abbrev pub samples_from : ℕ → List ℕ → ℕ → List VirtualOutput → List ℕ → ℕ → ℕ
 samples_from size halos k [] slots place = 0
 samples_from size halos k (o ∷ outs) [] place = 0

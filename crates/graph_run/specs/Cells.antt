@@ -1,4 +1,4 @@
--- References to the images of a graph: first the virtual images that its nodes write, then the clients' images that they read or write.
+-- References to the images of a graph: first the virtual images that its nodes write, then the clients' images that the nodes read or write.
 use Rattle.std.specs.Prelude.{ℕ, ◌+◌, List, [], ◌∷◌, ◌++◌, map, Option, if◌then◌else◌}
 use Rattle.std.specs.List.{list_any, flat_map}
 use Rattle.vx_base.specs.declared.kind.Kind.{Kind}

@@ -21,7 +21,7 @@ abbrev pub rounds_of_nodes : List Node → ℕ → List NamedObject → List Nam
 rounds_of_nodes nodes zero objects = objects
 rounds_of_nodes nodes (suc k) objects = round_of_nodes nodes objects (rounds_of_nodes nodes k objects)
 
--- the value of a virtual image while a graph that writes it runs: an image of its resolved description, wholly valid and 0 everywhere
+-- the value of a virtual image at the start of a run that writes it: an image of its resolved description, wholly valid and 0 everywhere
 abbrev pub object_at_start : ObjectValue → Operand → ObjectValue
 object_at_start (VirtualObject image) (Image d) = ImageObject (new_image d.width d.height d.format)
 object_at_start object operand = object

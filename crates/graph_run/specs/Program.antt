@@ -1,4 +1,4 @@
--- The program of a graph: its tasks over planes, with the tables that its nodes read, halos, blocks and tallies.
+-- The program of a graph: its tasks over planes, with halos, blocks, tallies, and the tables that its nodes read.
 use Rattle.std.specs.Prelude.{ℕ, ◌≡◌, ◌<◌, ◌≤◌, ◌⊎◌, true, List, [], ◌∷◌, ◌++◌, length, map, drop, slice_index_or, All, Option, None, unwrap_or}
 use Rattle.std.specs.List.{flat_map, range_with_len}
 use Rattle.std.specs.Option.{option_and_then}
@@ -78,7 +78,7 @@ abbrev pub virtual_description : List VirtualOutput → ℕ → Description
 virtual_description outs k = slice_index_or (map (λ o. o.desc) outs) k no_plane.desc
 
 -- the blocks of the virtual images before a run: the last image in each slot has the slot's block,
--- the others have empty blocks
+-- and the other images have empty blocks
 abbrev pub first_blocks : List ℕ → (ℕ → Format × ℕ) → List (Format × ℕ)
 first_blocks slots rooms = map (block_at slots rooms 0) (range_with_len 0 (length slots))
 
@@ -100,8 +100,8 @@ tallies_of objects nodes = flat_map (node_tallies objects) nodes
 
 -- ---- programs
 
--- a step that reads its output writes each row once, to a block of all rows: either its output has
--- no halo and takes no block, or there is only one band
+-- a step that reads its output writes each row once, to a block of all rows. Either the output has
+-- no halo and takes no block, or there is only one band.
 abbrev pub AddOnce : ℕ → ℕ → List ℕ → List Task → Type 0
 AddOnce high size halos tasks =
     (s : Step) → IsStepOf s tasks → reads_output s.node.function ≡ true → ((halo halos s.output ≡ 0) × (s.takes ≡ None)) ⊎ (high ≤ size)

@@ -49,7 +49,7 @@ abbrev pub tally_cell : Kind → Node → List Reference
 tally_cell kind.Image n = []
 tally_cell other n = unwrap_or n.out1 n.in1 ∷ []
 
--- the references of the tallies of nodes, in the order of the nodes
+-- the references to which the tallies of nodes are written, in the order of the nodes
 abbrev pub tally_cells : List Node → List Reference
 tally_cells nodes = flat_map (λ n. tally_cell (parameters n.function).output n) nodes
 
@@ -61,8 +61,8 @@ tally_objects (c ∷ cells) (t ∷ tallies) = (c, tally_object t) ∷ tally_obje
 
 -- ---- runs
 
--- the results of a run of tasks, compared with any solution: each plane that keeps its block has
--- the solution's image, and each tally is the tally of the solution's image
+-- the results of a run of tasks, compared with any solution. Each plane that keeps its block has
+-- the solution's image. Each tally is the tally of the solution's image.
 pub record Leaves (tables : ℕ → Option ObjectValue) (tasks : List Task) (planes : List PlaneValue) (tallies : List Tally) (after : List PlaneValue) (counted : List Tally) : Type 0 where
   pub images : (whole : ℕ → ImageValue) → SolvesSteps tables (length planes) tasks (block_images planes) whole
       → (c : ℕ) → KeepsBlock (length planes) tasks c → block_image (plane after c) ≡ whole c

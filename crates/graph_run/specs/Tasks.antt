@@ -28,16 +28,16 @@ use Rattle.buffer_plan.specs.Plan.{IsPlan, PlanView}
 use Rattle.graph_run.specs.Cells.{images_named, index_of, node_images, with_cells}
 use Rattle.graph_run.specs.Slots.{place_of}
 
--- ---- blocks of virtual images, by slots in the order of writing
+-- ---- blocks of virtual images; `slots` has the slots of these images in the order of writing
 
 -- the index of the last image in a slot
 abbrev pub last_in : ℕ → List ℕ → Option ℕ
 last_in slot [] = None
 last_in slot (s ∷ slots) = option_or (option_map suc (last_in slot slots)) (if s == slot then Some 0 else None)
 
--- the image that has a slot's block after `count` images of a band are written: the last of them in
--- the slot. If none of them is in the slot, the slot's last image still has the block, from the
--- band before.
+-- the image that has a slot's block after the first `count` images of a band are written: the last
+-- of these images that is in the slot. If none of these images is in the slot, the slot's last image
+-- still has the block, from the band before.
 abbrev pub holder : List ℕ → ℕ → ℕ → Option ℕ
 holder slots slot count = option_or (last_in slot (take count slots)) (last_in slot slots)
 
@@ -46,7 +46,7 @@ holder slots slot count = option_or (last_in slot (take count slots)) (last_in s
 abbrev pub previous_holder : List ℕ → ℕ → Option ℕ
 previous_holder slots at = if nat_lt at (length slots) then holder slots (slice_index_or slots at 0) at else None
 
--- whether there is an index and it is k
+-- whether the index is k; false if there is no index
 abbrev pub is_at : ℕ → Option ℕ → Bool
 is_at k None = false
 is_at k (Some j) = j == k
@@ -114,7 +114,7 @@ tasks_of cells slots radius nodes = tasks_from cells slots radius 0 0 nodes
 -- ---- blocks that tasks take
 
 -- the tasks write the virtual images in order, from image k on. Each of these images takes its
--- block from the slot's previous holder; a step that writes a client's image takes no block.
+-- block from the previous holder of its slot; a step that writes a client's image takes no block.
 abbrev pub TakeTurns : List ℕ → ℕ → List Task → Type 0
 TakeTurns slots k [] = k ≡ length slots
 TakeTurns slots k (Reduce r ∷ later) = TakeTurns slots k later
@@ -158,7 +158,8 @@ AreUntaken (Reduce r ∷ later) = AreUntaken later
 
 -- ---- graphs that have tasks
 
--- a verified order of nodes, the virtual images that they write in this order, and a plan of their slots
+-- a verified order of nodes, the virtual images that the nodes write, in the order of writing, and a
+-- plan with slots for these images
 pub record HaveTasks (steps : List Node) (outs : List VirtualOutput) (p : PlanView) (is_virtual : Reference → Bool) : Type 0 where
   pub plan : IsPlan steps outs p
   pub order : map (λ o. o.cell) outs ≡ filter is_virtual (flat_map outputs steps)
@@ -168,7 +169,7 @@ pub record HaveTasks (steps : List Node) (outs : List VirtualOutput) (p : PlanVi
   -- a node that accumulates writes a client's image
   pub adds : (n : Node) → In n steps → accumulates n.function ≡ true → (c : Reference) → In c (outputs n) → is_virtual c ≡ false
 
--- references to the images of the graph, by its nodes in order and its virtual images
+-- references to the images of a graph with these nodes, in order, and these virtual images
 abbrev pub graph_cells : List Node → List VirtualOutput → List Reference
 graph_cells steps outs = with_cells (map (λ o. o.cell) outs) (images_named steps)
 

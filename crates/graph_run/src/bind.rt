@@ -44,7 +44,8 @@ pub fn take_image(table: &mut Table, cell: ObjRef) -> Plane
     Plane::of_image(desc, valid, samples)
 }
 
-/// Moves the images of the first planes back to the table, one for each of `cells`.
+/// Moves images back to the table: for each reference of `cells`, the image of the plane at the
+/// same index.
 pub fn put_back(table: &mut Table, cells: &[ObjRef], planes: &mut [Plane])
     requires images { HoldImages table.old.objects cells.now }
     requires apart { AreAllApart cells.now }

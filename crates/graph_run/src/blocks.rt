@@ -1,4 +1,4 @@
-//! Blocks of the pool that the virtual images of a graph share, by the slots of its plan.
+//! Pool blocks that the virtual images of a graph share, by the slots of the graph's plan.
 ghost use Rattle.std.specs.Prelude.{◌≡◌, ◌≤◌, ◌<◌, ◌+◌, ◌++◌, ◌^◌, [], length, map};
 ghost use Rattle.std.specs.Prelude.{IfOk, OnOk, OnErr, if◌then◌else◌, max, vec_capacity};
 ghost use Rattle.vx_base.specs.declared.format.Format.{Format as SampleFormat};
@@ -56,8 +56,8 @@ fn slot_of(plan: &Plan, image: &VirtualOutput) -> usize
 
 // ---- rooms
 
-/// Returns the format and the number of samples of the block of each slot: enough for a band, with
-/// halo, of each image in the slot.
+/// Returns, for each slot, the format and the number of samples of its block: enough for a band,
+/// with halo, of any image in the slot.
 pub fn rooms_of(
     alloc: Global,
     plan: &Plan,

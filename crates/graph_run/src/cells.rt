@@ -1,5 +1,5 @@
 //! References to the images of a graph: first the virtual images that its nodes write, then the
-//! clients' images that they read or write.
+//! clients' images that the nodes read or write.
 ghost use Rattle.std.specs.Prelude.{◌≡◌, position, IfOk, OnOk};
 ghost use Rattle.std.specs.List.{list_any};
 ghost use Rattle.vx_base.specs.Reference.{same_reference};
@@ -80,7 +80,7 @@ fn position_of(cells: &[ObjRef], cell: ObjRef) -> Option<usize>
     cells.iter().position(|other| *other == cell)
 }
 
-/// Returns the first index of a reference, or the length of the list if it isn't there.
+/// Returns the first index of a reference, or the length of the list if the reference isn't in it.
 pub fn index_of(cells: &[ObjRef], cell: ObjRef) -> usize
     ensures { result ≡ index_of cells.now cell }
 {

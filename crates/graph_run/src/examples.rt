@@ -19,7 +19,8 @@ pub fn two_nodes()
 {}
 
 /// One node accumulates 10 into an image that holds 5, and another node converts the sum: both
-/// outputs hold 15. A second run, with the nodes added in the other order, gives 25.
+/// outputs hold 15. After a second run, with the nodes added in the opposite order, both outputs
+/// hold 25.
 pub fn sums()
     ensures in_order { run_of_graph (λ _. Image (record { width = 1; height = 1; format = U8 }))
         (accumulate_to 1 2 ∷ convert_to 2 3 ∷ [])

@@ -44,7 +44,7 @@ pub fn rounds_solve()
         Solves nodes before after → after ≡ rounds_of_nodes nodes (length nodes) before }
 {}
 
-/// A run of a graph with one node writes the same as the node run by itself.
+/// A run of a graph with one node writes the same values as a run of the node alone.
 pub fn run_of_one_node()
     ensures { (is : Reference → Operand) (n : Node) (objects : List NamedObject) →
         AllPairs (λ a b. a.name < b.name) objects →
@@ -75,8 +75,8 @@ pub fn each_at_its_turn()
         (one_by_one before (map (named_at_start (resolved_operand is nodes) nodes) objects)) }
 {}
 
-/// A run of a graph whose verdict is `None` gives the same as running each node once, in an order
-/// in which the nodes can run. Virtual images are restored at the end.
+/// If a graph's verdict is `None`, a run gives the same result as running each node once, in an
+/// order in which the nodes can run. Virtual images are restored at the end.
 pub fn runs_in_order()
     ensures { (work : ℕ) (is : Reference → Operand) (nodes steps : List Node)
         (objects : List NamedObject) →

@@ -3,8 +3,8 @@
 //! - `run_once` runs a single node.
 //! - `verify_in` verifies a graph.
 //! - `run` runs a verified graph.
-//! - `schedule_of` makes the schedule of a verified graph. `run_scheduled` runs it any number of
-//!   times, with the lists of a `Workspace`.
+//! - `schedule_of` makes the schedule of a verified graph. `run_scheduled` runs the graph by its
+//!   schedule, any number of times, with the lists of a `Workspace`.
 //!
 //! The definition of a run has rounds, in each of which all nodes write at the same time. The code
 //! runs a graph as tasks over planes (`graph_steps`).
@@ -18,7 +18,7 @@
 //! - `cells`: references to the images behind the planes, and their indices
 //! - `task_list`: the tasks of a graph
 //! - `sizes`: the halos of the planes, and the number of rows of a band
-//! - `blocks`: blocks of the pool that virtual images share
+//! - `blocks`: pool blocks that virtual images share
 //! - `virtual_planes`: planes of virtual images, over these blocks
 //! - `bind`: moves clients' images to planes and back
 //! - `tables`: the tables, thresholds and matrices that nodes read

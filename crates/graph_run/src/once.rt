@@ -23,7 +23,7 @@ use image_core::{Band, SecondInput};
 use object_table::Table;
 use vx_base::{Kind, Node, ObjRef, Output};
 
-/// Runs a node whose verdict is `None` on the objects that the node names. Allocates nothing.
+/// Runs a node on the objects that it names. The node's verdict must be `None`. Allocates nothing.
 pub fn run_once(table: &mut Table, node: &Node)
     requires objects { All (λ o. IsObject o.object) table.old.objects }
     requires names { IsStrictlyIncreasing (map (λ o. o.name) table.old.objects) }

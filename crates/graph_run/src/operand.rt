@@ -24,8 +24,8 @@ pub fn operand_of(object: &Object) -> Operand
     }
 }
 
-/// Returns the image in a slot of an object as an operand, or the object itself if `slot` is
-/// `None`. Returns `None` if the object has no such slot.
+/// Returns the image in a delay's slot as an operand, or the object itself if `slot` is `None`.
+/// Returns `None` if the object has no such slot.
 pub fn operand_in(object: &Object, slot: Option<u8>) -> Option<Operand>
     ensures { result ≡ option_map operand_of (in_slot slot object.now) }
 {

@@ -140,7 +140,7 @@ pub fn run_scheduled(
     Ok(())
 }
 
-/// Runs a schedule of a verified graph over blocks.
+/// Runs a verified graph by its schedule. `blocks` has the block of each slot.
 fn run_over(
     alloc: Global,
     verified: &Verified,
@@ -179,8 +179,8 @@ fn run_over(
     give(verified, schedule, table, blocks, planes, tallies);
 }
 
-/// Proves that the sides of all descriptions are in range. The prover learns that only by reading
-/// each description; the compiler removes the loop.
+/// Proves that the sides of all descriptions are in range. The prover learns the ranges only by
+/// reading each description, so a loop reads them all; the compiler removes the loop.
 fn prove_descriptions(verified: &Verified)
     ensures { All (λ o. IsDescription o.desc) verified.now.virtual_outputs }
 {
@@ -189,7 +189,8 @@ fn prove_descriptions(verified: &Verified)
     }
 }
 
-/// Runs the tasks of a schedule over planes. Tables are read in the table of objects.
+/// Runs the tasks of a schedule over planes. The lookup tables, thresholds and matrices that nodes
+/// read are in the table of objects.
 fn run_tasks(
     table: &Table,
     verified: &Verified,
@@ -257,8 +258,8 @@ fn take(
     take_out(table, clients_of(&schedule.cells, images.len()), planes);
 }
 
-/// Moves the samples of a graph's images back to the table, writes its tallies there, and returns
-/// blocks to their slots.
+/// Returns the blocks of the virtual images to their slots. Moves the samples of the clients'
+/// images back to the table, and writes the tallies to objects of the table.
 fn give(
     verified: &Verified,
     schedule: &Schedule,

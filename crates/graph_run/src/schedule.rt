@@ -1,4 +1,4 @@
-//! The schedule of a verified graph: its tasks over planes, and the blocks that they need.
+//! The schedule of a verified graph: its tasks over planes, and the blocks that the planes need.
 ghost use Rattle.std.specs.Prelude.{◌≡◌, ◌≤◌, List, length, drop, IfOk};
 ghost use Rattle.vx_base.specs.declared.node.Node.{Node as NodeFields};
 ghost use Rattle.buffer_plan.specs.Places.{plan_view};
@@ -31,18 +31,18 @@ pub struct Schedule {
     pub(crate) tasks: Vec<Task>,
     /// The halo of each plane.
     pub(crate) halos: Vec<u16>,
-    /// The greatest height of an image.
+    /// The height of the tallest image.
     pub(crate) high: u16,
     /// The number of rows of a band.
     pub(crate) size: u16,
-    /// The format and the number of samples of the block of each slot.
+    /// For each slot, the format and the number of samples of its block.
     pub(crate) rooms: Vec<(Format, usize)>,
     /// References to the distributions and extremes that the tallies are written to.
     pub(crate) tally_cells: Vec<ObjRef>,
 }
 
 /// Returns the schedule of a verified graph, with the slots of a plan. An error means that there is
-/// no memory for it.
+/// no memory for the schedule.
 pub fn schedule_of(
     alloc: Global,
     table: &Table,
@@ -90,7 +90,7 @@ pub fn clients_of(cells: &[ObjRef], virtuals: usize) -> &[ObjRef]
     &cells[virtuals..]
 }
 
-/// Returns the tasks of a verified graph over planes with these references.
+/// Returns the tasks of a verified graph, over the planes of the images that `cells` refers to.
 fn tasks_for(
     alloc: Global,
     table: &Table,

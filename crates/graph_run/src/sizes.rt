@@ -1,4 +1,5 @@
-//! The greatest height of a graph's images, its halos, and the number of rows of its bands.
+//! The height of a graph's tallest image, the halos of its planes, and the number of rows of a
+//! band.
 ghost use Rattle.std.specs.Prelude.{◌≡◌, ◌≤◌, ◌<◌, ℕ, All, true, length, None, IfOk, IfSome};
 ghost use Rattle.object_table.specs.Table.{image_held};
 ghost use Rattle.graph_steps.specs.declared.step.Step.{Step as StepValue};
@@ -33,7 +34,7 @@ const GREATEST_BAND_SAMPLES: u32 = 2_097_152;
 /// The least number of rows of a band. With fewer rows, the calls of the steps cost too much time.
 const LEAST_ROWS: u32 = 16;
 
-/// The greatest number of rows of a band that its halo doesn't ask for. More rows gain nothing.
+/// The greatest number of rows of a band, unless its halo asks for more. Further rows gain nothing.
 const GREATEST_ROWS: u32 = 64;
 
 /// The greatest number of rows of a band, whatever the halo.

@@ -75,8 +75,8 @@ fn add_tally(tallies: &mut Vec<Tally>, table: &Table, node: &Node) -> Result<(),
     }
 }
 
-/// Returns an empty tally for the object of a reference: a histogram with the bins of a
-/// distribution, or extremes.
+/// Returns an empty tally for the object that a reference names: a histogram with the object's
+/// bins if the object is a distribution, else extremes.
 pub fn tally_for(table: &Table, wanted: Kind, cell: ObjRef) -> Tally
     requires keeps { KeepsTally table.now.objects wanted cell }
     requires other { wanted ≢ kind.Image }
@@ -124,7 +124,8 @@ fn no_extremes() -> Extremes
     }
 }
 
-/// Writes tallies to objects of the table, one to each of `cells`.
+/// Writes tallies to objects of the table: for each reference of `cells`, the tally at the same
+/// index.
 pub fn set_tallies(table: &mut Table, cells: &[ObjRef], tallies: &[Tally])
     requires { AreTalliesFor table.old.objects cells.now tallies.now }
     ensures { table.new ≡ with_objects table.old

@@ -1,4 +1,4 @@
-//! The tasks of a graph, whose operands are the indices of planes.
+//! The tasks of a graph. The operands of a task are indices of planes.
 ghost use Rattle.std.specs.Prelude.{◌≡◌, ◌+◌, ◌++◌, ◌≤◌, ◌<◌, ◌^◌, length, IfOk, OnOk};
 ghost use Rattle.std.specs.Option.{option_and_then, option_copied};
 ghost use Rattle.vx_base.specs.Function.{parameters};

@@ -18,10 +18,11 @@ use std::alloc::{AllocError, Global};
 use vx_base::{Node, Numbered, ObjRef};
 
 /// Verifies a graph of a table: returns its nodes in an order in which they can run. The first
-/// input of each node is an image.
+/// input of each node must be an image.
 ///
-/// `work` is the quota of the virtual images that the graph writes, in bytes. An error means that
-/// there is no memory, or that the graph can't run; the error then holds the verdict.
+/// `work` is the quota in bytes for the virtual images that the graph writes. An error means that
+/// there is no memory, or that the graph can't run. If the graph can't run, the error holds the
+/// verdict.
 pub fn verify_in(
     alloc: Global,
     table: &Table,
@@ -88,8 +89,8 @@ fn operand_held_if(table: &Table, cell: Option<ObjRef>) -> Option<Operand>
     }
 }
 
-/// Returns the operand that a reference in a node names. The object's name may have been released.
-/// `Missing` if no object is held under it.
+/// Returns the operand that a reference in a node names, even if the object's name has been
+/// released. Returns `Missing` if the table holds no object for the reference.
 pub fn operand_held(table: &Table, cell: ObjRef) -> Operand
     ensures { result ≡ operand_held table.now.objects cell }
 {

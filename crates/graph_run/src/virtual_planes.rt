@@ -14,7 +14,8 @@ use pixel_pool::Block;
 use std::alloc::Global;
 use vx_base::{Format, Samples};
 
-/// Adds planes for virtual images. In each slot, the last image has the block.
+/// Adds planes for virtual images. The last image in a slot gets the slot's block; each other image
+/// gets an empty block.
 pub fn add_virtual(
     alloc: Global,
     images: &[VirtualOutput],

@@ -1,4 +1,4 @@
--- A program of three tasks, and one with an integral image.
+-- Two programs: one of three tasks, and one that writes an integral image.
 use Rattle.std.specs.Prelude.{ℕ, List, [], ◌∷◌, Some, None, Option}
 use Rattle.vx_base.specs.declared.border.Border.TheVariants.{Replicate}
 use Rattle.vx_base.specs.declared.format.Format.TheVariants.{U8, U32}
@@ -65,7 +65,7 @@ boxes = Write (box_step 0 1 (Some 1)) ∷ Write (box_step 1 2 None) ∷ Reduce (
 abbrev pub box_planes : List PlaneValue
 box_planes = client_plane ∷ block_plane ∷ client_plane ∷ []
 
--- the halos of these planes: each filter needs one more row of its input above and below
+-- the halos of these planes: each filter needs one more row of its input than of its output, above and below
 abbrev pub box_halos : List ℕ
 box_halos = 2 ∷ 1 ∷ 0 ∷ []
 
@@ -75,7 +75,7 @@ box_tallies = Extremes no_extremes ∷ []
 
 -- ---- an integral image
 
--- the client's image for the integral image
+-- the plane of the client's image to which the integral image is written
 abbrev pub sums_plane : PlaneValue
 sums_plane =
     record { desc = record { width = 1; height = 4; format = U32 }; valid = whole_rectangle 1 4; top = 0; rows = all_rows 4; format = U32; samples = (new_image 1 4 U32).samples }

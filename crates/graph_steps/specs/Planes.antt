@@ -1,4 +1,4 @@
--- Planes: images while a graph runs. A block of samples holds some or all rows.
+-- Planes: images while a graph runs. A plane's block of samples holds some or all rows of the image.
 use Rattle.std.specs.Prelude.{ℕ, ℤ, ◌+◌, ◌-◌, ◌*◌, ◌≤◌, ◌≡◌, min, List, [], ◌++◌, take, drop, length, slice_index_or}
 use Rattle.vx_base.specs.declared.format.Format.{Format}
 use Rattle.vx_base.specs.declared.format.Format.TheVariants.{U8}
@@ -28,7 +28,7 @@ rows_of_block width top rows samples = take (rows.count * width) (drop ((rows.st
 abbrev pub plane_image : PlaneValue → ImageValue
 plane_image p = image_over_rows p.desc p.valid p.rows (rows_of_block p.desc.width p.top p.rows p.samples)
 
--- the image of all samples of the block; a client's image has all its rows
+-- the image over all samples of the plane's block; the block of a client's image has all rows
 abbrev pub block_image : PlaneValue → ImageValue
 block_image p = image_over p.desc p.valid p.samples
 

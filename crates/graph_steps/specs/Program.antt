@@ -60,7 +60,7 @@ IsUnread tasks c = (s : Step) → IsStepOf s tasks → ReadsPlane s c → ⊥
 
 -- ---- a band
 
--- the rows of a plane that a band needs: the band and the plane's halo
+-- the rows of a plane that a step writes for a band: the rows of the band and of the plane's halo
 abbrev pub band_rows : List PlaneValue → List ℕ → Band → ℕ → Band
 band_rows planes halos rows c = with_halo (halo halos c) (plane planes c).desc.height rows
 
@@ -99,7 +99,8 @@ AreFree kept (Write s ∷ later) = ((t : ℕ) → s.takes ≡ Some t → t ≢ s
 abbrev pub HoldsRows : ℕ → ℕ → Description → Format × ℕ → Type 0
 HoldsRows size more d block = (block.0 ≡ d.format) × (min d.height (size + more + more) * d.width ≤ block.1)
 
--- each block that a step takes is large enough for a band of the output with its halo
+-- each block that a step takes is large enough for a band of the step's output, with the output's
+-- halo
 abbrev pub HaveCapacity : ℕ → List ℕ → (ℕ → Description) → List Task → List (Format × ℕ) → Type 0
 HaveCapacity size halos descs [] blocks = Unit {0}
 HaveCapacity size halos descs (Reduce r ∷ later) blocks = HaveCapacity size halos descs later blocks
@@ -165,7 +166,7 @@ pub record SolvesSteps (tables : ℕ → Option ObjectValue) (count : ℕ) (task
 abbrev pub with_image : ℕ → ImageValue → (ℕ → ImageValue) → ℕ → ImageValue
 with_image c image images k = if k == c then image else images k
 
--- the images after all steps, each run on whole images in order
+-- the images after all steps have run in order, each on whole images
 abbrev pub steps_in_turn : (ℕ → Option ObjectValue) → List Task → (ℕ → ImageValue) → ℕ → ImageValue
 steps_in_turn tables [] images = images
 steps_in_turn tables (Write s ∷ later) images = steps_in_turn tables later (with_image s.output (step_image tables s images (images s.output)) images)

@@ -58,7 +58,8 @@ held_image out = image_over_rows out.desc out.valid out.rows (target_image out).
 abbrev pub step_image : (ℕ → Option ObjectValue) → Step → (ℕ → ImageValue) → ImageValue → ImageValue
 step_image tables s images own = image_from_inputs s (images s.first) (second_in tables images s.second) own
 
--- the step of a node whose inputs are passed to its kernel; the step's plane indices aren't used
+-- the step of a node whose inputs are passed to the kernel directly, not as planes; the step's
+-- plane indices aren't used
 abbrev pub lent_step : Node → Output → Step
 lent_step n which = record { node = n; which = which; first = 0; second = Nothing; output = 0; takes = None; radius = 0 }
 
@@ -153,7 +154,7 @@ with_moved_block t c top planes =
     slice_set (slice_set planes t (without_block (plane planes t))) c
     (with_block (plane planes t).format (plane planes t).samples top (plane (slice_set planes t (without_block (plane planes t))) c))
 
--- the planes after the output has taken its block, if it takes one
+-- the planes after plane c has taken over a block, if it takes one
 abbrev pub with_output_block : Option ℕ → ℕ → ℕ → List PlaneValue → List PlaneValue
 with_output_block None c top planes = planes
 with_output_block (Some t) c top planes = with_moved_block t c top planes

@@ -20,7 +20,8 @@ use crate::tables::Tables;
 use crate::tally::Tally;
 use image_core::Band;
 
-/// Returns the rows of the step's output that a band needs: the band and the output's halo.
+/// Returns the output rows that a step writes for a band: the rows of the band and of the output's
+/// halo.
 fn rows_for(step: &Step, halos: &[u16], band: Band, planes: &[Plane]) -> Band
     requires fits { band.start + band.count < 2 ^ 16 }
     requires halo { step.now.output < length halos.now }
@@ -30,7 +31,7 @@ fn rows_for(step: &Step, halos: &[u16], band: Band, planes: &[Plane]) -> Band
     planes[step.output].with_halo(band, halos[step.output])
 }
 
-/// Adds the band's rows of a plane to a tally.
+/// Runs a reduction on a band: adds the input plane's rows in the band to the tally.
 fn reduce(reduction: &Reduction, band: Band, planes: &[Plane], tallies: &mut [Tally])
     requires fits { band.start + band.count < 2 ^ 16 }
     requires reads { IsReadable (plane planes.now reduction.now.input) }
@@ -67,7 +68,7 @@ fn do_task<T: Tables>(
     }
 }
 
-/// Runs all tasks on a band. Each step writes the rows of the band and its output's halo, and each
+/// Runs all tasks on a band. Each step writes the rows of the band and of its output's halo. Each
 /// reduction adds the rows of the band to its tally.
 fn run_band<T: Tables>(
     tables: &T,

@@ -5,7 +5,7 @@ ghost use Rattle.graph_steps.specs.Program.{IsProgram};
 ghost use Rattle.graph_steps.specs.Runs.{CanReduceBand};
 
 /// Two box filters in sequence over images of four rows can run in bands of two rows. The virtual
-/// image between them is also reduced to its extremes.
+/// image between the filters is also reduced to its extremes.
 pub fn two_boxes()
     ensures program { IsProgram no_tables 4 2 box_halos boxes box_planes }
     ensures reduces { CanReduceBand 0 boxes box_planes box_tallies }

@@ -33,7 +33,8 @@ fn raise_inputs(step: &Step, high: u16, halos: &mut [u16])
     }
 }
 
-/// Raises the halos of a task's inputs. A reduction reads only the rows of the band.
+/// Raises the halos of a task's inputs. A reduction needs no halo: it reads only the rows of the
+/// band.
 fn raise_for(task: &Task, high: u16, halos: &mut [u16])
     requires reads { (s : StepValue) → task.now ≡ Write s → (c : ℕ) → ReadsPlane s c →
         c < length halos.old }

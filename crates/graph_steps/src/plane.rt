@@ -104,8 +104,8 @@ impl Plane {
         self.valid = Rect::empty();
     }
 
-    /// Returns a copy of the plane that has its block, so that this copy can be written while the
-    /// list of planes is read. The plane in the list then has no samples.
+    /// Returns a copy of the plane, and moves the block to the copy. The copy can then be written
+    /// while the list of planes is read. The plane in the list has no samples left.
     pub fn take_out(&mut self) -> Plane
         ensures { result ≡ self.old }
     {
@@ -145,8 +145,8 @@ impl Plane {
         }
     }
 
-    /// Writes these rows of a kernel's image, and its valid rectangle. Afterwards a step may read
-    /// these rows, and no others.
+    /// Writes these rows of the image that a kernel computes, and sets the plane's valid rectangle
+    /// to the image's. Afterwards a step may read these rows, and no others.
     pub fn write(&mut self, kernel: &Kernel<'_, '_, '_>, rows: Band)
         requires format { self.old.format ≡ self.old.desc.format }
         requires can { CanMake kernel.now.step.now kernel.now.first.now
@@ -174,8 +174,8 @@ impl Plane {
         };
     }
 
-    /// Writes these rows of an integral image, and its valid rectangle. The first row continues
-    /// from the row above it, if the block has that row.
+    /// Writes these rows of the integral image of `image`, and sets the plane's valid rectangle to
+    /// that of `image`. The first row continues from the row above it, if the block has that row.
     pub fn write_sums(&mut self, image: &Image<'_>, band: Band)
         requires input { image.now.format ≡ U8 }
         requires format { self.old.format ≡ U32 }

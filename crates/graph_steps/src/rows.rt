@@ -38,8 +38,9 @@ pub fn read_rows<T: Sample>(
     Image::of_rows(desc, valid, rows, &samples[start..start + count])
 }
 
-/// Writes a kernel's rows to the samples of these rows, and returns the valid rectangle. The prover
-/// follows an output's samples only at a known type, so each impl of `RowSample` has this body.
+/// Writes the rows that a kernel computes to `$samples`, and returns the output's valid rectangle.
+/// The prover follows an output's samples only at a known type, so each impl of `RowSample` has
+/// this body.
 macro_rules! make_rows {
     ($desc:expr, $rows:expr, $valid:expr, $samples:expr, $kernel:expr) => {{
         let mut output = ImageMut::of_rows($desc, $rows, $samples);
@@ -51,8 +52,8 @@ macro_rules! make_rows {
 
 /// A sample type in which kernels write rows.
 pub trait RowSample: Sample {
-    /// Writes a kernel's rows to the samples of these rows, and returns the valid rectangle.
-    /// `valid` is the output's previous rectangle.
+    /// Writes the rows that a kernel computes to `samples`, and returns the output's valid
+    /// rectangle. `valid` is the output's previous valid rectangle.
     fn make_rows(
         desc: Desc,
         rows: Band,
@@ -108,7 +109,8 @@ impl RowSample for u32 {
     }
 }
 
-/// Writes a kernel's rows to a block that begins with row `top`, and returns the valid rectangle.
+/// Writes the rows that a kernel computes to a block that begins with row `top`. Returns the
+/// output's valid rectangle; `valid` is the previous one.
 pub fn write_rows<T: RowSample>(
     desc: Desc,
     top: u16,

@@ -17,7 +17,7 @@ pub enum SecondSource {
     Table(usize),
 }
 
-/// A node over planes, for one of its output images.
+/// The computation of one output image of a node, with planes as the node's images.
 #[derive(Clone, Copy, Debug)]
 pub struct Step {
     /// The function and its parameters. The node's references aren't used.
@@ -55,8 +55,8 @@ fn is_integral(function: Function) -> bool
 }
 
 impl Step {
-    /// Returns the step of a node whose inputs are passed to its kernel. The step's plane indices
-    /// aren't used.
+    /// Returns the step of a node whose inputs are passed to the kernel directly, not as planes.
+    /// The step's plane indices aren't used.
     pub fn of_lent(node: Node, which: Output) -> Step
         ensures { result ≡ lent_step node which }
     {
