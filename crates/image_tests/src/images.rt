@@ -1,5 +1,5 @@
 //! Images that are only partly valid: clearing outside the valid rectangle, and functions of two
-//! such images.
+//! images.
 ghost use Rattle.std.specs.Prelude.{◌≡◌, ◌<◌, ℕ, map, pos, length, get_or};
 ghost use Rattle.vx_base.specs.declared.format.Format.TheVariants.{U8};
 ghost use Rattle.vx_base.specs.Description.{sample_count};

@@ -37,7 +37,7 @@ fn pieces_meet_in_a_row(rt: HostRuntime) {
     assert!(rt; smoothed() == Some((means, medians)));
 }
 
-/// Returns the horizontal gradient of the same row in the same columns: by Sobel, and by a matrix
+/// Returns the horizontal gradient of the row and columns of `smoothed`: by Sobel, and by a matrix
 /// that subtracts the left neighbour from the right.
 fn changes() -> Option<([i16; 7], [i16; 7])> {
     let desc = Desc::new(1030, 1, Format::U8)?;

@@ -11,7 +11,7 @@ use Rattle.pgm_images.specs.declared.header.Encoding.TheVariants.{Plain, Raw}
 use Rattle.pgm_images.specs.declared.header.Header.{Header}
 use Rattle.pgm_images.specs.Marks.{BeginsWith, then_take, is_space, take_next}
 
--- the fields of a header, with the numbers that the text has, however great
+-- the fields of a header; each number is the one in the text, however great
 pub record HeaderValue : Type 0 where
   pub encoding : Encoding
   pub width : ℕ

@@ -22,7 +22,7 @@ fault_line ReadFailed = codes "read failed"
 fault_line WriteFailed = codes "write failed"
 fault_line ReaderWouldNotEnd = codes "reader would not end"
 
--- the exit status: 2 for the command line, the fault's status for the stream, 5 for a status code
+-- the exit status: 2 for a refused command line, `fault_status` for a fault of the stream, 5 for a status code
 abbrev pub ended_status : Ended → ℕ
 ended_status (CommandLine text) = 2
 ended_status (Stream fault) = fault_status fault
