@@ -14,8 +14,8 @@ use window_kernels::{box3, convolve, dilate3, erode3, gaussian3, median3, sobel3
 /// The samples of a 3 by 3 image.
 const SAMPLES: [u8; 9] = [1, 2, 9, 3, 4, 8, 5, 6, 7];
 
-/// Returns the medians and the means of the image of `SAMPLES` that is valid in `valid`, and the
-/// medians' valid rectangle.
+/// Returns the medians and the means of `SAMPLES` with this valid rectangle, and the medians' own
+/// valid rectangle.
 fn smoothed(valid: Rect, border: Border) -> ([u8; 9], [u8; 9], Rect)
     requires { IsWithin valid 3 3 }
 {
@@ -217,8 +217,8 @@ fn text_of_an_image(rt: HostRuntime) -> Result<(), Fail> {
     Ok(())
 }
 
-/// Returns the statistics of the valid samples of a 6 by 1 image: counts in 4 bins from 10 to 19,
-/// the integral image, and the extremes.
+/// Returns the histogram, the integral image and the extremes of the valid samples of a 6 by 1
+/// image. The histogram's 4 bins cover the values 10 to 19.
 fn counted(valid: Rect) -> Option<([u32; 4], [u32; 6], Extremes)>
     requires { IsWithin valid 6 1 }
 {

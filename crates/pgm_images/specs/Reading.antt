@@ -14,8 +14,8 @@ abbrev pub picture_with : Description → Result (List ℤ) PgmFault → Result 
 picture_with d (Ok samples) = Ok (record { description = d; samples = samples })
 picture_with d (Err fault) = Err fault
 
--- the picture with this header and the samples in the text after it, or the first fault: the
--- header's fault if it has one, else the fault of the samples
+-- The picture with this header and the samples in the text after it, or the first fault. The
+-- header's fault comes before a fault of the samples.
 abbrev pub picture_under : HeaderValue → Result Description PgmFault → List ℕ → Result PictureValue PgmFault
 picture_under header (Err fault) text = Err fault
 picture_under header (Ok d) text = picture_with d (samples_up_to header.maxval (numbers_in header.encoding header.maxval (sample_count d) text))

@@ -82,7 +82,7 @@ impl ShortNumbers {
     }
 
     /// Writes the block's numbers over the samples from `index` on. Returns the offset in the text
-    /// at which the last of these numbers ends, and the index of the next sample.
+    /// at which the last written number ends, and the index of the next sample.
     pub fn fill<T: TextSample>(
         &self,
         maxval: u16,

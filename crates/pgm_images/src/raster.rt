@@ -87,7 +87,7 @@ fn read_plain<T: TextSample>(maxval: u16, text: &[u8], samples: &mut [T]) -> Res
     }
 }
 
-/// Returns the greatest of the bytes, or 0 without bytes.
+/// Returns the greatest of the bytes, or 0 if there are none.
 fn greatest_byte(bytes: &[u8]) -> u8
     ensures { (n : ℕ) → nat_le result n ≡ all_up_to n bytes.now }
 {

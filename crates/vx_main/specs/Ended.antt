@@ -28,7 +28,7 @@ ended_status (CommandLine text) = 2
 ended_status (Stream fault) = fault_status fault
 ended_status (Refused code) = 5
 
--- the line on standard error: the command line's fault, the stream's fault, or the name of the code
+-- the line on standard error: the text for a refused command line, `fault_line` for a fault of the stream, the name for a status code
 abbrev pub ended_line : Ended → List ℕ
 ended_line (CommandLine text) = string_bytes text
 ended_line (Stream fault) = fault_line fault
