@@ -150,7 +150,7 @@ fn a_distribution_has_the_last_counts(rt: HostRuntime) -> Result<(), Fail> {
     Ok(())
 }
 
-/// Returns the value of the object of this name, if the object is extremes.
+/// Returns the value of the object of this name, if the object's kind is Extremes.
 fn extremes_of(table: &Table, name: u32) -> Option<Extremes> {
     match table.get(name).ok()?.content() {
         Content::Extremes(extremes) => Some(*extremes),
@@ -158,8 +158,8 @@ fn extremes_of(table: &Table, name: u32) -> Option<Extremes> {
     }
 }
 
-/// Sets the value of the object of this name, if the object is extremes. Returns whether the value
-/// was set.
+/// Sets the value of the object of this name, if the object's kind is Extremes. Returns whether the
+/// value was set.
 fn set_extremes(table: &mut Table, name: u32, extremes: Extremes) -> bool {
     match table.get_held(name) {
         Some(object) if object.kind() == Kind::Extremes => {}
