@@ -15,7 +15,7 @@ use Rattle.graph_run.specs.Lasting.{Lasts}
 abbrev pub box_to : ℕ → ℕ → Node
 box_to input output = node_to Box Wrap input None output
 
--- a graph with more Box nodes, each between a pair of images
+-- the graph with one more Box node for each pair of images, from the first image to the second
 abbrev pub with_boxes : GraphValue → List (ℕ × ℕ) → GraphValue
 with_boxes g [] = g
 with_boxes g (l ∷ links) = with_boxes (with_node g (box_to l.0 l.1)) links

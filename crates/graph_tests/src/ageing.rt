@@ -22,7 +22,7 @@ fn a_graph_has_delays(rt: HostRuntime) -> Result<(), Fail> {
     Ok(())
 }
 
-/// Registers the delay of a name with the graph of another name.
+/// Registers the delay named `delay` with the graph named `graph`.
 fn register(table: &mut Table, graph: u32, delay: u32) -> Result<(), Fail> {
     if !is_graph(table, graph) {
         return Err("no graph".into());
@@ -30,7 +30,7 @@ fn register(table: &mut Table, graph: u32, delay: u32) -> Result<(), Fail> {
     Ok(table.register(graph, delay).or(Err("no memory"))?)
 }
 
-/// Ages the delays that are registered with the graph of a name.
+/// Ages the delays that are registered with the graph named `graph`.
 fn age(table: &mut Table, graph: u32) -> Result<(), Fail> {
     if !is_graph(table, graph) {
         return Err("no graph".into());

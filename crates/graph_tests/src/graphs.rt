@@ -14,7 +14,7 @@ use vx_base::{
     Border, Desc, Format, Function, Kind, Node, NodeSpec, ObjRef, PartialDesc, Policy, VirtualImage,
 };
 
-/// Returns the node Not, from the image of one name to the image of another.
+/// Returns the node Not, from the image named `input` to the image named `output`.
 pub fn not(input: u32, output: u32) -> Result<NodeSpec, Fail>
     ensures { IfOk result (λ n. n ≡ not_to input output) }
 {
@@ -140,8 +140,8 @@ pub fn is_graph(table: &Table, name: u32) -> bool
     }
 }
 
-/// Adds the node Not, from the image `input` to the image `output`, to a graph. Returns the node's
-/// number.
+/// Adds the node Not to the graph named `graph`, from the image named `input` to the image named
+/// `output`. Returns the node's number.
 fn add_not(holdings: &mut Holdings, graph: u32, input: u32, output: u32) -> Result<u32, Fail> {
     let node = not(input, output)?;
     let table = &mut holdings.table;
@@ -154,7 +154,7 @@ fn add_not(holdings: &mut Holdings, graph: u32, input: u32, output: u32) -> Resu
     Ok(table.add_node(graph, node).ok().ok_or("no room")?)
 }
 
-/// Removes a node of the graph of a name.
+/// Removes the node with this number from the graph named `graph`.
 fn remove_node(holdings: &mut Holdings, graph: u32, number: u32) -> Result<(), Fail> {
     if !is_graph(&holdings.table, graph) {
         return Err("not there".into());
@@ -165,7 +165,7 @@ fn remove_node(holdings: &mut Holdings, graph: u32, number: u32) -> Result<(), F
     Ok(removed.or(Err("no such node"))?)
 }
 
-/// Returns the number of nodes of the graph of this name, or 0 if there is no such graph.
+/// Returns the number of nodes of the graph of this name, or 0 if no graph has this name.
 fn count_of_nodes(table: &Table, name: u32) -> usize {
     if is_graph(table, name) {
         table.graph(name).nodes().len()

@@ -1,4 +1,4 @@
-//! A table, together with the pool of its images' blocks.
+//! A table, and the pool that lends the blocks of its images.
 ghost use Rattle.object_table.specs.Blocks.{blocks_in, LendsAtLeast};
 
 use object_table::{Content, InsertFault, Object, Stored, Table, TableFault};
@@ -7,7 +7,7 @@ use std::alloc::Global;
 use std::test::Fail;
 use vx_base::Desc;
 
-/// A table, and a pool that lends a block for each of its images.
+/// A table, and a pool that lends a block for each image of the table.
 #[derive(Drop)]
 pub struct Holdings {
     pub table: Table,
@@ -24,13 +24,14 @@ impl Holdings {
         }
     }
 
-    /// Inserts a new image of a description, and returns its name; a fault hands the image back.
+    /// Inserts a new image with this description, and returns the image's name. A fault hands the
+    /// image back.
     pub fn offer(&mut self, desc: Desc) -> Result<Result<u32, InsertFault>, Fail> {
         let image = Stored::new(&mut self.pool, desc)?;
         Ok(self.table.insert(Object::new(Content::Image(image))))
     }
 
-    /// Inserts a new image of a description, and returns its name.
+    /// Inserts a new image with this description, and returns the image's name.
     pub fn insert(&mut self, desc: Desc) -> Result<u32, Fail> {
         Ok(self.offer(desc)?.ok().ok_or("not held")?)
     }

@@ -3,7 +3,7 @@
 //! tests all other cases on the program.
 //!
 //! - `holdings`: a table and its pool, for these tests
-//! - `tables`: the names and the charge of a table, and objects that are set
+//! - `tables`: the names of a table, the bytes that it charges, and objects whose values are set
 //! - `cells`: images and slots of delays in a table, read and written
 //! - `graphs`: graphs, the numbers of their nodes, and the objects that the nodes use in a table
 //! - `ageing`: delays that age with a graph

@@ -1,6 +1,6 @@
-//! Plans of slots for the virtual images of graphs. The names stand for objects: below 10 for U8
-//! images of 2 by 2 samples, from 10 to 19 for U8 images of 3 by 3 samples. Greater names stand for
-//! virtual images with everything open.
+//! Plans of slots for the virtual images of graphs. A name below 10 stands for a U8 image of 2 by 2
+//! samples. A name from 10 to 19 stands for a U8 image of 3 by 3 samples. A greater name stands for
+//! a virtual image whose width, height and format are open.
 ghost use Rattle.std.specs.Prelude.{IsTrue};
 ghost use Rattle.graph_verify.specs.Operand.{is_image};
 
@@ -27,7 +27,7 @@ fn operand(name: u32) -> Operand
     }
 }
 
-/// Returns a partial description with everything open.
+/// Returns a partial description whose width, height and format are open.
 fn open() -> PartialDesc {
     PartialDesc::new(None, None, None).unwrap()
 }

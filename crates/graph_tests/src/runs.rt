@@ -157,7 +157,7 @@ fn hold_through(table: &mut Table, declared: PartialDesc) -> Result<(), Fail>
     Ok(())
 }
 
-/// Returns the node Box, from the image of one name to the image of another.
+/// Returns the node Box, from the image named `input` to the image named `output`.
 fn mean(input: u32, output: u32) -> Result<NodeSpec, Fail>
     ensures { IfOk result (λ n. n ≡ box_to input output) }
 {
@@ -174,7 +174,7 @@ fn mean(input: u32, output: u32) -> Result<NodeSpec, Fail>
     Ok(NodeSpec::new(node).ok_or("it has what its function has")?)
 }
 
-/// Adds the node Box, from the image of one name to the image of another, to graph 3.
+/// Adds the node Box to graph 3, from the image named `input` to the image named `output`.
 fn add_box(table: &mut Table, input: u32, output: u32) -> Result<(), Fail>
     ensures { OnOk result (table.new ≡ with_objects table.old (with_graph table.old.objects 3
         (with_node (graph_under table.old.objects 3) (box_to input output)))) }

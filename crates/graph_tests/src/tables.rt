@@ -1,4 +1,5 @@
-//! Names and the charge of a table, the slots of a delay, and objects that are set.
+//! The names of a table, the bytes that it charges, the slots of a delay, and objects whose values
+//! are set.
 ghost use Rattle.std.specs.Prelude.{◌≡◌, [], IfOk, OnOk};
 ghost use Rattle.object_table.specs.Context.{with_new};
 ghost use Rattle.object_table.specs.Object.{value_of};
@@ -115,8 +116,8 @@ fn counts_of(table: &Table, name: u32) -> Option<&[u32]> {
     }
 }
 
-/// Sets the counts of the distribution of this name, if there is one with as many bins. Returns
-/// whether the counts were set.
+/// Sets the counts of the distribution of this name, if it exists and has one bin for each count.
+/// Returns whether the counts were set.
 fn set_counts(table: &mut Table, name: u32, counts: &[u32]) -> bool {
     match table.get_held(name).map(|object| object.content()) {
         Some(Content::Distribution(held)) if held.counts().len() == counts.len() => {}
@@ -149,7 +150,7 @@ fn a_distribution_has_the_last_counts(rt: HostRuntime) -> Result<(), Fail> {
     Ok(())
 }
 
-/// Returns the extremes that are the object of this name.
+/// Returns the value of the object of this name, if the object's kind is Extremes.
 fn extremes_of(table: &Table, name: u32) -> Option<Extremes> {
     match table.get(name).ok()?.content() {
         Content::Extremes(extremes) => Some(*extremes),
@@ -157,7 +158,8 @@ fn extremes_of(table: &Table, name: u32) -> Option<Extremes> {
     }
 }
 
-/// Sets the extremes of this name, if its object is extremes. Returns whether they were set.
+/// Sets the value of the object of this name, if the object's kind is Extremes. Returns whether the
+/// value was set.
 fn set_extremes(table: &mut Table, name: u32, extremes: Extremes) -> bool {
     match table.get_held(name) {
         Some(object) if object.kind() == Kind::Extremes => {}

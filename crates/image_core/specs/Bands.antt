@@ -17,11 +17,11 @@ IsInRows height rows = rows.start + rows.count ≤ height
 abbrev pub has_row : Band → ℕ → Bool
 has_row rows y = nat_le rows.start y && nat_lt (y - rows.start) rows.count
 
--- the samples of count rows of this width, all 0
+-- the samples of `count` rows of this width; each sample is 0
 abbrev pub zero_rows : ℕ → ℕ → List ℤ
 zero_rows width count = replicate (count * width) (pos 0)
 
--- the image with this description, valid rectangle, and samples in the band's rows; all other samples are 0
+-- the image with this description and valid rectangle, and with these samples in the band's rows; all other samples are 0
 abbrev pub image_over_rows : Description → Rectangle → Band → List ℤ → ImageValue
 image_over_rows d valid rows samples =
     image_over d valid (zero_rows d.width rows.start ++ (samples ++ zero_rows d.width (d.height - (rows.start + rows.count))))
@@ -30,7 +30,7 @@ image_over_rows d valid rows samples =
 abbrev pub zero_outside_rows : Band → ImageValue → ImageValue
 zero_outside_rows rows image = image_over_rows (description_of image) image.valid rows (band image.width rows.start rows.count (pixel_at image))
 
--- the image with the list of its samples cut to the band's rows
+-- the image, with only the band's rows in its list of samples
 abbrev pub rows_in : Band → ImageValue → ImageValue
 rows_in rows image =
     record { width = image.width; height = image.height; format = image.format; valid = image.valid; samples = band image.width rows.start rows.count (pixel_at image) }

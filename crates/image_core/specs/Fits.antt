@@ -18,7 +18,7 @@ abbrev pub SecondHasSize : ImageValue → Option ObjectValue → Type 0
 SecondHasSize a (Some (ImageObject b)) = HaveSameSize b a
 SecondHasSize a other = ⊤
 
--- the function takes the operands' formats, and the output and a second input image have the first input's size
+-- The function takes the operands' formats. The output has the first input's size, and so does a second input that is an image.
 pub record Fits (function : Function) (a : ImageValue) (second : Option ObjectValue) (out : ImageMut) : Type 0 where
   pub target : IsTarget out
   pub size : HaveSameSize (target_image out) a

@@ -10,8 +10,8 @@ use crate::slice::Slice;
 use std::marker::Model;
 use vx_base::{Desc, Rect};
 
-/// An input image: the borrowed samples of an image or of a band of its rows, with the description
-/// and valid rectangle of the whole image. All samples outside the band count as 0.
+/// An input image: the borrowed samples of an image or of a band of its rows. The description and
+/// the valid rectangle are those of the whole image. All samples outside the band count as 0.
 #[derive(Drop)]
 pub struct Image<'a> {
     desc: Desc,

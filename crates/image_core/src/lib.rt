@@ -3,13 +3,14 @@
 //!
 //! - An `Image` borrows the samples of an input image, or of a `Band` of its rows. Its samples are
 //!   0 outside the valid rectangle, and outside the band.
-//! - An `ImageMut` borrows the samples of an output image, or of a band of its rows. A kernel that
-//!   writes a whole image to it writes only the band's rows, so every kernel can also compute
-//!   bands.
-//! - A `Sample` is the number type of a format; images are read and written as such numbers.
-//! - A `Formula` gives each sample of an image by its pixel. A `RowFormula` gives the samples of
-//!   one piece of a row at a time, with scratch memory. `ImageMut::write` and `write_by_rows` write
-//!   an image from such a formula, with 0 outside the valid rectangle.
+//! - An `ImageMut` borrows the samples of an output image, or of a band of its rows. A kernel
+//!   describes the whole image, and only the band's rows are written. So every kernel can also
+//!   compute bands.
+//! - A `Sample` is the number type of a format's samples. Images are read and written in this type.
+//! - A `Formula` gives the sample at each pixel of an image; `ImageMut::write` writes an image from
+//!   a `Formula`. A `RowFormula` gives the samples of one piece of a row at a time, with scratch
+//!   memory; `ImageMut::write_by_rows` writes an image from a `RowFormula`. Samples outside the
+//!   valid rectangle become 0.
 //! - A `RowUpdate` gives each sample's new value from its old one; `ImageMut::update` applies it in
 //!   place.
 //! - A `SecondInput` is a kernel's second operand.

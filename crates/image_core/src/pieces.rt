@@ -5,7 +5,8 @@ ghost use Rattle.vx_base.specs.Image.{run};
 use crate::number::Number;
 use crate::row_formula::RowFormula;
 
-/// Writes the formula's samples of row `y` from column `x` on, in pieces of at most `most` columns.
+/// Writes the formula's samples of row `y` from column `x` on, in pieces that are at most as wide
+/// as the formula allows.
 pub fn write_pieces<T: Number, S, F: RowFormula<T, S>>(
     formula: &F,
     x: u16,

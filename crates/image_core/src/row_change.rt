@@ -9,10 +9,10 @@ use crate::row_formula::RowFormula;
 use crate::row_update::RowUpdate;
 use vx_base::Rect;
 
-/// An update in place: computes each sample of a rectangle from its old value. It gets scratch
-/// memory for one row.
+/// An update in place, which computes each sample of a rectangle from the sample's old value. The
+/// update gets scratch memory for one row.
 pub trait RowChange<T: Number, S> {
-    /// The new sample in a column of a row, from the old one.
+    /// The new sample in a column of a row, given the old sample.
     ghost next: { Self → ℕ → ℕ → ℤ → ℤ };
 
     /// The rectangle whose samples can be changed.

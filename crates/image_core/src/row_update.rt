@@ -6,9 +6,9 @@ ghost use Rattle.vx_base.specs.Image.{run};
 use crate::number::Number;
 use vx_base::Rect;
 
-/// A new value for each sample of a rectangle, computed from the old one.
+/// A new value for each sample of a rectangle, computed from the sample's old value.
 pub trait RowUpdate<T: Number> {
-    /// The new sample in a column of a row, from the old one.
+    /// The new sample in a column of a row, given the old sample.
     ghost next: { Self → ℕ → ℕ → ℤ → ℤ };
 
     /// The rectangle whose samples can be updated.

@@ -18,8 +18,8 @@ pub fn set_all<T: Number>(out: &mut [T], sample: T)
     }
 }
 
-/// Changes the columns from `x0` to `x1 - 1` of a row, which are the change's area, and sets the
-/// other columns to 0.
+/// Changes the columns of a row in the change's area, from `x0` to `x1 - 1`, and sets the other
+/// columns to 0.
 fn change_across<T: Number, S, C: RowChange<T, S>>(
     change: &C,
     y: u16,
@@ -44,7 +44,7 @@ fn change_across<T: Number, S, C: RowChange<T, S>>(
     set_all(tail, T::zero());
 }
 
-/// Changes row `y` within the change's area, and sets its other samples to 0.
+/// Changes row `y` within the change's area, and sets the row's other samples to 0.
 fn change_row<T: Number, S, C: RowChange<T, S>>(
     change: &C,
     y: u16,

@@ -22,7 +22,7 @@ pub trait Sample: Number {
     ghost use Rattle.image_core.specs.declared.image_mut.ImageMut.{ImageMut};
     ghost use Rattle.image_core.specs.Target.{target_image, IsTarget, SameSlices};
 
-    /// The format of images with such samples.
+    /// The format of images whose samples have this type.
     ghost format: { Format };
 
     /// Wraps the samples of an image in the slice of their format.

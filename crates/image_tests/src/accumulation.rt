@@ -8,8 +8,8 @@ use pixel_kernels::{accumulate, accumulate_square};
 use std::test::Fail;
 use vx_base::{Desc, Format, Rect};
 
-/// Returns the sums of a 4 by 1 image after samples were added, and the valid rectangle of these
-/// sums. The samples are valid in `valid`, the earlier sums in `sums_valid`.
+/// Adds the samples of a 4 by 1 image to `sums`. Returns the new sums and their valid rectangle.
+/// `samples` is valid in `valid`, and `sums` is valid in `sums_valid`.
 fn add(
     mut samples: [u8; 4],
     valid: Rect,
@@ -59,8 +59,8 @@ fn sums_where_both_are_valid(rt: HostRuntime) -> Result<(), Fail> {
     Ok(())
 }
 
-/// Returns sums after the squares of samples, divided by 2^amount, were added. All samples and sums
-/// are valid.
+/// Adds the squares of four samples, divided by 2^amount, to `sums`, and returns the new sums. All
+/// samples and sums are valid.
 fn add_squares(amount: u8, mut sums: [i16; 4]) -> Option<[i16; 4]>
     requires { amount ≤ 15 }
 {

@@ -1,5 +1,5 @@
-//! Bands of rows. Band by band, in any order, each function gives the same result as on the whole
-//! image in one call.
+//! Bands of rows. Calls of a function on the bands of an image, in any order, give the same result
+//! as one call on the whole image.
 ghost use Rattle.std.specs.Prelude.{◌+◌, ◌^◌, ◌<◌, ◌≤◌};
 
 use crate::images::lend;
@@ -40,7 +40,7 @@ fn rows_of_windows_and_sums(rt: HostRuntime) {
     assert!(rt; two_rows(1) == Some((below, [-1, 0, 5, -3, -2, 0], [4, 10, 27, 9, 21, 45])));
 }
 
-/// Returns the second row of the integral image of two rows of eleven samples, all of them 255.
+/// Returns the second row of an integral image. Each sample of the 11 by 2 input is 255.
 fn second_sums() -> Option<[u32; 11]> {
     let desc = Desc::new(11, 2, Format::U8)?;
     let mut samples = [255; 22];
@@ -77,8 +77,9 @@ fn sums_go_on(rt: HostRuntime) {
     assert!(rt; sums_below(&[1, 3, 12]) == Some([4, 10, 27, 9, 21, 45]));
 }
 
-/// Adds the two lower rows of `SAMPLES` to a histogram of three bins, and merges the extremes of
-/// these rows, moved 4 rows lower, into `above`. Returns the histogram and the extremes.
+/// Adds the two lower rows of `SAMPLES` to a histogram of three bins. Merges the extremes of these
+/// rows into `above`, as if the rows were 4 rows further down. Returns the histogram and the
+/// extremes.
 fn merge_others(above: Extremes) -> Option<([u32; 3], Extremes)>
     requires least { above.min_count < 2 ^ 16 }
     requires greatest { above.max_count < 2 ^ 16 }

@@ -1,5 +1,5 @@
 //! Images that are only partly valid: clearing outside the valid rectangle, and functions of two
-//! such images.
+//! images.
 ghost use Rattle.std.specs.Prelude.{◌≡◌, ◌<◌, ℕ, map, pos, length, get_or};
 ghost use Rattle.vx_base.specs.declared.format.Format.TheVariants.{U8};
 ghost use Rattle.vx_base.specs.Description.{sample_count};
@@ -27,7 +27,7 @@ fn clear(desc: Desc, valid: Rect, samples: &mut [u8])
     clear_to(&mut image, valid);
 }
 
-/// Sets the valid rectangle of an image, and the samples outside it to 0.
+/// Sets an image's valid rectangle, and sets the samples outside the rectangle to 0.
 fn clear_to(image: &mut ImageMut<'_>, valid: Rect)
     requires target { IsTarget image.old }
     requires rows { image.old.rows ≡ all_rows image.old.desc.height }

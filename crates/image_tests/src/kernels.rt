@@ -14,8 +14,8 @@ use window_kernels::{box3, convolve, dilate3, erode3, gaussian3, median3, sobel3
 /// The samples of a 3 by 3 image.
 const SAMPLES: [u8; 9] = [1, 2, 9, 3, 4, 8, 5, 6, 7];
 
-/// Returns the medians and the means of the image with this valid rectangle, and the valid
-/// rectangle of the medians.
+/// Returns the medians and the means of `SAMPLES` with this valid rectangle, and the medians' own
+/// valid rectangle.
 fn smoothed(valid: Rect, border: Border) -> ([u8; 9], [u8; 9], Rect)
     requires { IsWithin valid 3 3 }
 {
@@ -178,7 +178,7 @@ fn greatest_sums(rt: HostRuntime) -> Result<(), Fail> {
     Ok(())
 }
 
-/// Returns the samples of a `RowWindow` of radius 2, before row `y` is loaded into it and after.
+/// Returns the samples of a `RowWindow` of radius 2, before and after row `y` is loaded into it.
 fn seen(alloc: Global, y: i32, border: Border) -> Result<[Vec<u8>; 2], Fail> {
     let desc = Desc::new(3, 3, Format::U8).ok_or("a description")?;
     let whole = Rect::new(0, 0, 3, 3).ok_or("a rectangle")?;
@@ -217,8 +217,8 @@ fn text_of_an_image(rt: HostRuntime) -> Result<(), Fail> {
     Ok(())
 }
 
-/// Returns the statistics of the valid samples of a 6 by 1 image: counts in 4 bins from 10 to 19,
-/// the integral image, and the extremes.
+/// Returns the histogram, the integral image and the extremes of the valid samples of a 6 by 1
+/// image. The histogram's 4 bins cover the values 10 to 19.
 fn counted(valid: Rect) -> Option<([u32; 4], [u32; 6], Extremes)>
     requires { IsWithin valid 6 1 }
 {

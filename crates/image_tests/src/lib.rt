@@ -1,16 +1,17 @@
 //! Tests of the public functions on images, for cases that no stream of requests reaches. The cases
 //! are images that are only partly valid, bands of rows, and kernels at lengths around that of a
-//! block. `tools/check_functions` tests all other cases on the program.
+//! block of SIMD lanes. `tools/check_functions` tests all other cases on the program.
 //!
 //! - `values`: rectangles, codes and tables
 //! - `images`: images that are only partly valid
 //! - `accumulation`: functions that add to their output
 //! - `bands`: bands of rows
 //! - `rows`: the kernels of lane_rows, at lengths around that of a block
-//! - `kernels`, `texts`: windows, statistics and PGM texts, by the functions of their crates
+//! - `kernels`: windows and statistics of whole images, and the text of an image
+//! - `texts`: PGM texts
 //! - `statistics`: extremes, counts and running sums of rows, at lengths around that of a block
 //! - `wide`: rows that are wider than the pieces in which convolution computes them
-//! - `windows`: kernels of windows, at lengths and sizes around that of a block
+//! - `windows`: kernels of windows, at lengths and widths around the length of a block
 #![tactic(auto)]
 
 #[cfg(test)]

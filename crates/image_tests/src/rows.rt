@@ -1,5 +1,5 @@
-//! The kernels of lane_rows, at lengths around that of a block. Each written item is the formula's
-//! value for the items at its index, and no other item changes.
+//! The kernels of lane_rows, at lengths around that of a block. Each written item is the value of
+//! the kernel's formula for the items at the same index, and no other item changes.
 ghost use Rattle.std.specs.Prelude.{◌≤◌};
 ghost use Rattle.vx_base.specs.Pixelwise.{not_bits};
 
@@ -32,7 +32,8 @@ fn in_turn<T: Copy>(numbers: &[T; 8]) -> [T; 65] {
     items
 }
 
-/// Returns 65 items: each of eight numbers eight times. Paired with `in_turn`, every pair occurs.
+/// Returns 65 items: each of eight numbers eight times, and the first number once more. Every pair
+/// of the numbers occurs at some index of `in_turn` and `in_runs`.
 fn in_runs<T: Copy>(numbers: &[T; 8]) -> [T; 65] {
     let mut items = [numbers[0]; 65];
     for (i, item) in items.iter_mut().enumerate() {
@@ -114,8 +115,8 @@ macro_rules! assert_sums {
     };
 }
 
-/// Calls a kernel of two rows that narrows the formula, under each policy at each length. `wrapped`
-/// and `nearest` give the narrowed number.
+/// Calls a kernel of two rows that narrows the formula's value, under each policy at each length.
+/// `wrapped` narrows the value under Wrap, and `nearest` under Saturate.
 macro_rules! assert_narrowed {
     ($rt:expr, $numbers:expr, $blank:expr, $wrapped:ident, $nearest:ident;
         |$first:ident, $second:ident, $policy:ident, $out:ident| $call:expr;
@@ -131,14 +132,14 @@ macro_rules! assert_narrowed {
     }};
 }
 
-/// `assert_narrowed!` for a kernel that writes U8 items.
+/// Calls `assert_narrowed!` for a kernel that writes U8 items.
 macro_rules! assert_bytes {
     ($rt:expr; $($kernel:tt)*) => {
         assert_narrowed!($rt, &BYTES, 77u8, wrapped_byte, nearest_byte; $($kernel)*)
     };
 }
 
-/// `assert_narrowed!` for a kernel that writes S16 items.
+/// Calls `assert_narrowed!` for a kernel that writes S16 items.
 macro_rules! assert_shorts {
     ($rt:expr; $($kernel:tt)*) => {
         assert_narrowed!($rt, &SHORTS, 77i16, wrapped, nearest; $($kernel)*)

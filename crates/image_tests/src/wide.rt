@@ -5,8 +5,8 @@ use image_core::ImageMut;
 use vx_base::{Border, Convolution, Desc, Format, Rect};
 use window_kernels::{box3, convolve, median3, sobel3};
 
-/// Returns the means and the medians in columns 1021 to 1027 of a row of 1,030 samples. All samples
-/// are 0 but for 90 and 180 on either side of the boundary between the pieces.
+/// Returns the means and the medians in columns 1021 to 1027 of a row of 1,030 samples. The last
+/// sample of the first piece is 90, the next sample is 180, and all others are 0.
 fn smoothed() -> Option<([u8; 7], [u8; 7])> {
     let desc = Desc::new(1030, 1, Format::U8)?;
     let mut samples = [0; 1030];
@@ -37,7 +37,7 @@ fn pieces_meet_in_a_row(rt: HostRuntime) {
     assert!(rt; smoothed() == Some((means, medians)));
 }
 
-/// Returns the horizontal gradient of the same row in the same columns: by Sobel, and by a matrix
+/// Returns the horizontal gradient of the row and columns of `smoothed`: by Sobel, and by a matrix
 /// that subtracts the left neighbour from the right.
 fn changes() -> Option<([i16; 7], [i16; 7])> {
     let desc = Desc::new(1030, 1, Format::U8)?;

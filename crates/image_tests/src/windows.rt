@@ -1,5 +1,5 @@
-//! Kernels of windows. Kernels of nine rows in lane_rows are tested at lengths around that of a
-//! block; functions of whole images at such widths, under each border.
+//! Kernels of windows. The kernels of nine rows in lane_rows are tested at lengths around that of a
+//! block. The functions of whole images are tested at widths around that length, under each border.
 ghost use Rattle.std.specs.Prelude.{◌≡◌, ◌<◌, ◌≤◌, length};
 ghost use Rattle.vx_base.specs.declared.format.Format.TheVariants.{U8, S16};
 ghost use Rattle.lane_rows.specs.Windows.{window_count};
@@ -13,7 +13,7 @@ use window_kernels::{box3, dilate3, erode3, gaussian3, median3, sobel3};
 
 const LENGTHS: [usize; 9] = [0, 1, 15, 16, 17, 31, 33, 64, 65];
 
-/// The greatest length and width.
+/// The greatest length of a row, and the greatest width of an image.
 const LONGEST: usize = 65;
 
 const WIDTHS: [u16; 7] = [1, 2, 15, 16, 17, 33, 65];
@@ -151,7 +151,8 @@ fn are_of_nine<T: Copy + Into<i32>>(
     true
 }
 
-/// Returns whether a kernel of nine rows agrees with its function, and writes nothing more.
+/// Returns whether a kernel of nine rows writes the function's first `count` results, and nothing
+/// more.
 fn bytes_of_nine(function: Function, count: usize) -> bool
     requires { count ≤ 65 }
 {
@@ -198,7 +199,7 @@ struct Case {
     border: Border,
 }
 
-/// Returns the sample at a pixel of the case's image, under its border.
+/// Returns the sample that a window reads at a pixel of the case's image, under the case's border.
 fn seen(case: &Case, x: i32, y: i32) -> u8 {
     let (first, last) = (i32::from(case.first), i32::from(case.width) - 1);
     let (column, row) = (

@@ -11,7 +11,7 @@ use Rattle.pgm_images.specs.declared.header.Encoding.TheVariants.{Plain, Raw}
 use Rattle.pgm_images.specs.declared.header.Header.{Header}
 use Rattle.pgm_images.specs.Marks.{BeginsWith, then_take, is_space, take_next}
 
--- the fields of a header, with the numbers that the text has, however great
+-- the fields of a header; each number is the one in the text, however great
 pub record HeaderValue : Type 0 where
   pub encoding : Encoding
   pub width : ℕ
@@ -42,7 +42,7 @@ take_numbers encoding text =
 abbrev pub take_header : List ℕ → BeginsWith HeaderValue
 take_header text = then_take (take_magic text) take_numbers
 
--- whether a PGM text of this project may have this maxval
+-- whether a PGM text with this maxval is accepted
 abbrev pub is_maxval : ℕ → Bool
 is_maxval n = nat_le 1 n && nat_le n 32767
 

@@ -4,11 +4,11 @@ use Rattle.std.specs.Option.{option_and_then}
 use Rattle.std.specs.Char.{is_ascii_digit}
 use Rattle.std.specs.Int.{bit_at}
 
--- a token's value and the text after the token, or None if the text doesn't begin with such a token
+-- the value of the token at the front of a text, and the text after the token; None if the token isn't there
 abbrev pub BeginsWith : Type 0 → Type 0
 BeginsWith A = Option (A × List ℕ)
 
--- what `next` gives for a token and the text after it, or None if there is no such token
+-- what `next` gives for a token's value and the text after the token, or None if there is no token
 abbrev pub then_take : {A B : Type 0} → BeginsWith A → (A → List ℕ → Option B) → Option B
 then_take None next = None
 then_take (Some taken) next = next taken.0 taken.1
@@ -68,7 +68,7 @@ ends text = nothing (past_blanks false text)
     nothing (Some (b ∷ text)) = false
 
 -- The code read a number from the front of a text, and `rest` is the text after it. A number above
--- 65535 is read as 65535, which is above all limits of a PGM text too.
+-- 65535 is read as 65535, which is still above every limit of a PGM text.
 pub record TakesNumber (taken : BeginsWith ℕ) (kept : ℕ) (rest : List ℕ) : Type 0 where
   pub number : ℕ
   pub is : taken ≡ Some (number, rest)
@@ -79,9 +79,9 @@ abbrev pub begins_space : List ℕ → Bool
 begins_space [] = false
 begins_space (b ∷ text) = is_space b
 
--- The code examined the front of the text, which begins with whitespace or a digit. If `bytes`
--- isn't 0, the text begins with one whitespace byte and a number up to the maxval, which have
--- `bytes` bytes together. If `bytes` is 0, the text doesn't begin with whitespace and a digit.
+-- The code examined the front of the text, and found whitespace or a digit there. If `bytes` isn't
+-- 0, the first `bytes` bytes are one whitespace byte and a number up to the maxval. If `bytes` is 0,
+-- the text doesn't begin with a whitespace byte and a digit.
 pub record FindsNumber (maxval number bytes : ℕ) (text : List ℕ) : Type 0 where
   pub few : bytes ≤ length text
   pub is : 0 < bytes → TakesNumber (take_next text) number (drop bytes text)

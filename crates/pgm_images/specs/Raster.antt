@@ -31,9 +31,9 @@ abbrev pub take_count : (take : List ℕ → BeginsWith ℕ) (is_end : List ℕ 
 take_count take is_end zero text = if is_end text then Some [] else None
 take_count take is_end (suc count) text = then_take (take text) (λ number rest. option_map (λ numbers. number ∷ numbers) (take_count take is_end count rest))
 
--- The `count` numbers in the text after a header, or None if the text has fewer numbers, or
--- anything else after them. In a plain text each number comes after a gap, and whitespace and
--- comments may follow the last number.
+-- The `count` numbers in the text after a header, or None if the text has fewer numbers or doesn't
+-- end after the last one. In a plain text each number comes after a gap, and whitespace and comments
+-- may follow the last number.
 abbrev pub numbers_in : Encoding → (maxval count : ℕ) → List ℕ → Option (List ℕ)
 numbers_in Plain maxval count text = take_count take_next ends count text
 numbers_in Raw maxval count text = take_count (take_raw maxval) nothing_left count text
@@ -42,8 +42,8 @@ numbers_in Raw maxval count text = take_count (take_raw maxval) nothing_left cou
 abbrev pub all_up_to : ℕ → List ℕ → Bool
 all_up_to maxval numbers = list_all (λ n. nat_le n maxval) numbers
 
--- the numbers as samples; InvalidValue if one is above the maxval, InvalidFormat if there are no
--- numbers to convert
+-- the numbers as samples; InvalidValue if a number is above the maxval, InvalidFormat if None is
+-- given instead of numbers
 abbrev pub samples_up_to : ℕ → Option (List ℕ) → Result (List ℤ) PgmFault
 samples_up_to maxval None = Err InvalidFormat
 samples_up_to maxval (Some numbers) = if all_up_to maxval numbers then Ok (map pos numbers) else Err InvalidValue
@@ -63,7 +63,7 @@ pub record HoldsNumbers (maxval : ℕ) (high : Bool) (written : List ℤ) (numbe
 abbrev pub prepend : List ℕ → Option (List ℕ) → Option (List ℕ)
 prepend done o = option_map (λ others. done ++ others) o
 
--- the samples hold the first numbers of the whole text; `left` more are to be written, and are read
+-- the samples hold the first numbers of the whole text; the remaining `left` numbers are to be read
 -- from `rest`
 abbrev pub LeftToFill : (take : List ℕ → BeginsWith ℕ) (is_end : List ℕ → Bool) (maxval : ℕ) (above : Bool) (samples : List ℤ) (left : ℕ) (rest : List ℕ) (whole : Option (List ℕ)) → Type 0
 LeftToFill take is_end maxval above samples left rest whole = (numbers : List ℕ) × HoldsNumbers maxval above samples numbers × (whole ≡ prepend numbers (take_count take is_end left rest))

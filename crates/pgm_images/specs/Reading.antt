@@ -9,13 +9,13 @@ use Rattle.pgm_images.specs.Marks.{BeginsWith}
 use Rattle.pgm_images.specs.Header.{HeaderValue, take_header, header_description}
 use Rattle.pgm_images.specs.Raster.{numbers_in, samples_up_to}
 
--- the picture with this description and these samples, unless reading the samples failed
+-- the picture with this description and these samples, or the fault of reading the samples
 abbrev pub picture_with : Description → Result (List ℤ) PgmFault → Result PictureValue PgmFault
 picture_with d (Ok samples) = Ok (record { description = d; samples = samples })
 picture_with d (Err fault) = Err fault
 
--- the picture with this header and the samples in the text after it, or the first fault: the
--- header's, then that of the samples
+-- The picture with this header and the samples in the text after it, or the first fault. The
+-- header's fault comes before a fault of the samples.
 abbrev pub picture_under : HeaderValue → Result Description PgmFault → List ℕ → Result PictureValue PgmFault
 picture_under header (Err fault) text = Err fault
 picture_under header (Ok d) text = picture_with d (samples_up_to header.maxval (numbers_in header.encoding header.maxval (sample_count d) text))
@@ -35,7 +35,7 @@ abbrev pub fault_of : Result PictureValue PgmFault → Option PgmFault
 fault_of (Ok p) = None
 fault_of (Err fault) = Some fault
 
--- the first fault of a text, or none where it encodes a picture
+-- the first fault of a text, or None if the text encodes a picture
 abbrev pub fault : List ℕ → Option PgmFault
 fault text = fault_of (read_result text)
 
@@ -44,7 +44,7 @@ abbrev pub description_after : BeginsWith HeaderValue → Result Description Pgm
 description_after None = Err InvalidFormat
 description_after (Some taken) = header_description taken.0.width taken.0.height taken.0.maxval
 
--- the description of the picture that a text encodes, from its header alone, or the header's fault
+-- the description that a text's header gives, or the header's fault; the rest of the text is not read
 abbrev pub description_in : List ℕ → Result Description PgmFault
 description_in text = description_after (take_header text)
 

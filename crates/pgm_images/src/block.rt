@@ -81,8 +81,8 @@ impl ShortNumbers {
         }
     }
 
-    /// Writes the block's numbers over samples from an index on. Returns the offset of the next
-    /// number in the text and the index of the next sample.
+    /// Writes the block's numbers over the samples from `index` on. Returns the offset in the text
+    /// at which the last written number ends, and the index of the next sample.
     pub fn fill<T: TextSample>(
         &self,
         maxval: u16,

@@ -52,9 +52,14 @@ pub fn plain()
         }) }
 {}
 
-/// Texts without a header. They have a magic number alone, a magic number without a gap after it,
-/// or a comment that doesn't end. Or they lack the whitespace byte after the maxval of P5, or have
-/// a byte that isn't whitespace in PGM.
+/// Texts without a header. The reasons, in the order of the texts:
+///
+/// - the text is empty
+/// - nothing comes after the magic number (`P5`)
+/// - no gap comes after the magic number
+/// - a comment doesn't end
+/// - no whitespace byte comes after the maxval of P5 (three texts)
+/// - a vertical tab, which isn't whitespace in PGM, comes before the maxval
 pub fn headers()
     ensures empty { read_result [] ≡ Err InvalidFormat }
     ensures magic { read_result (codes "P5") ≡ Err InvalidFormat }
@@ -67,7 +72,7 @@ pub fn headers()
         ≡ Err InvalidFormat }
 {}
 
-/// Widths, heights and maxvals out of range. A header of P2 ends with the last digit of its maxval.
+/// Widths and maxvals out of range. A header of P2 ends with the last digit of its maxval.
 pub fn limits()
     ensures no_width { read_result (codes "P2 0 1 255x") ≡ Err InvalidDimension }
     ensures no_maxval_either { read_result (codes "P5 0 1 0\n") ≡ Err InvalidDimension }
@@ -78,8 +83,8 @@ pub fn limits()
     ensures too_great { read_result (codes "P5 1 1 32768\n" ++ 0 ∷ 0 ∷ []) ≡ Err InvalidFormat }
 {}
 
-/// Too few or too many samples, or a sample above the maxval, which is reported only if the text
-/// has no other fault.
+/// Too few samples, too many samples, and samples above the maxval. A sample above the maxval is
+/// reported only if the text has no other fault.
 pub fn samples()
     ensures too_few { read_result (codes "P5 1 1 255\n") ≡ Err InvalidFormat }
     ensures too_many { read_result (codes "P5 1 1 255\n" ++ 10 ∷ 20 ∷ []) ≡ Err InvalidFormat }

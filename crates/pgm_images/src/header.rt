@@ -16,7 +16,8 @@ pub enum Encoding {
     Raw,
 }
 
-/// The fields of a header. A number above 65535 is stored as 65535, which is above every limit too.
+/// The fields of a header. A number above 65535 is stored as 65535, which is still above every
+/// limit.
 #[derive(Clone, Copy, Debug)]
 pub struct Header {
     pub encoding: Encoding,

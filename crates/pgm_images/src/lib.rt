@@ -1,13 +1,14 @@
 //! PGM texts as pictures, and images as PGM texts (Netpbm, pgm(5)).
 //!
-//! `read` returns the picture that a text encodes, plain (P2) or raw (P5), or the text's first
+//! `read` returns the picture that a plain (P2) or raw (P5) text encodes, or the text's first
 //! fault. `read_description` returns the size and format alone, and `read_into` writes the samples
 //! over existing samples. `write` returns a U8 image as a raw text, from which `read` returns the
 //! same picture. `WrittenHeader` is the header alone, for callers that write the samples
 //! themselves.
 //!
 //! There are two definitions of the encoding. `Grammar` relates texts to pictures. `Reading` parses
-//! a text from front to back, and computes the picture or the fault. `laws` proves that they agree.
+//! a text from front to back, and computes the picture or the fault. `laws` proves that the two
+//! definitions agree.
 //!
 //! - `fault`: why a text could not be read
 //! - `marks`: whitespace, comments and numbers

@@ -97,10 +97,13 @@ fn with_digit(number: u8, digit: u8, is_digit: bool) -> u8
     number.wrapping_add(u8::from(is_digit) * more)
 }
 
-/// Reads a whitespace byte and a number of one to three digits from five bytes. Returns the number,
-/// and the length of whitespace and number together in bytes, 0 if no number begins here. The third
-/// value is true in all cases that this function can't read: a longer number or one above the
-/// maxval begins here, or the first byte is neither whitespace nor a digit.
+/// Reads a whitespace byte and a number of one to three digits from five bytes. Returns three
+/// values:
+///
+/// 1. the number
+/// 2. the length of the whitespace byte and the number in bytes, or 0 if no number begins here
+/// 3. whether this function can't read the bytes: the number is longer or above the maxval, or the
+///    first byte is neither whitespace nor a digit
 ///
 /// The processor can't predict the number of digits, so nothing here branches on it.
 #[inline(always)]

@@ -87,7 +87,7 @@ fn read_plain<T: TextSample>(maxval: u16, text: &[u8], samples: &mut [T]) -> Res
     }
 }
 
-/// Returns the greatest of the bytes, or 0 without bytes.
+/// Returns the greatest of the bytes, or 0 if there are none.
 fn greatest_byte(bytes: &[u8]) -> u8
     ensures { (n : ℕ) → nat_le result n ≡ all_up_to n bytes.now }
 {
@@ -118,7 +118,7 @@ fn read_bytes(maxval: u16, bytes: &[u8], samples: &mut [u8]) -> Result<(), PgmFa
     Ok(())
 }
 
-/// Returns the number of two bytes at the front, and the bytes after it.
+/// Returns the number that the first two bytes encode, and the bytes after them.
 fn take_pair(bytes: &[u8]) -> Option<(u16, &[u8])>
     ensures some { IfSome result
         (λ taken. TakesNumber (take_long_sample bytes.now) taken.0 taken.1.now) }
@@ -156,9 +156,9 @@ fn read_pairs<T: TextSample>(maxval: u16, bytes: &[u8], samples: &mut [T]) -> Re
     }
 }
 
-/// Writes the samples in the text after a header over existing samples of the header's format. The
-/// text has exactly one number for each sample. After a fault the samples may have any value.
-/// `InvalidFormat`: the text has fewer numbers, or more. `InvalidValue`: a sample is above the
+/// Reads one number for each sample from the text after a header, and writes it over the sample.
+/// The samples have the header's format. After a fault the samples may have any value.
+/// `InvalidFormat`: the text has fewer numbers, or more. `InvalidValue`: a number is above the
 /// maxval.
 pub fn read_samples(header: Header, text: &[u8], samples: &mut Samples) -> Result<(), PgmFault>
     requires maxval { IsTrue (is_maxval header.maxval) }

@@ -32,7 +32,7 @@ impl Model for WrittenHeader {
 }
 
 impl WrittenHeader {
-    /// Returns the header of a U8 picture with these sides. The header is built from its end.
+    /// Returns the header of a U8 picture with the sides of `desc`. Builds the header from its end.
     /// Allocates nothing.
     pub fn new(desc: Desc) -> WrittenHeader
         ensures { result ≡ written_header desc }

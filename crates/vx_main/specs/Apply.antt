@@ -37,7 +37,7 @@ abbrev pub applied_to : Job → Result PictureValue PgmFault → Result (List �
 applied_to job (Err fault) = Err (pgm_fault_code fault)
 applied_to job (Ok p) = if same_format p.description.format U8 then Ok (text_made job p) else Err InvalidFormat
 
--- the PGM text that a job writes for a text, or the code of the fault
+-- the PGM text that a job writes for the PGM text that it reads, or the code of the fault
 abbrev pub job_result : Job → List ℕ → Result (List ℕ) Code
 job_result job text = applied_to job (read_result text)
 

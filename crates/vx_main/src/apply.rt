@@ -15,7 +15,7 @@ use std::io::{ErrorKind, Read, Write};
 use vx_base::{Code, Format, ObjRef, Picture};
 use vx_requests::StreamFault;
 
-/// The most bytes of a text: 2^29.
+/// The greatest length of a text in bytes: 2^29.
 const LONGEST_TEXT: usize = 536_870_912;
 
 /// The only client, which makes all requests.
@@ -50,7 +50,8 @@ fn read_all<R: Read + Drop>(alloc: Global, reader: R) -> Result<Vec<u8>, Ended> 
     }
 }
 
-/// Returns the text that the job gives for the U8 picture of a text, or why the job fails.
+/// Returns the text that the job gives for the U8 picture that `text` encodes, or why the job
+/// fails.
 fn job_result(alloc: Global, job: Job, text: &[u8]) -> Result<Text, Ended>
     ensures ok { IfOk result (λ made. job_result job text.now ≡ Ok made) }
     ensures err { IfErr result (EndsFor (job_result job text.now)) }

@@ -159,8 +159,8 @@ fn no_word(alloc: Global, text: &str) -> Result<Error, AllocError> {
 ghost use Rattle.client_model.specs.Limits.{is_limit};
 ghost use Rattle.vx_main.specs.CommandLine.{parse_bytes, parse_limits};
 
-/// Returns the number of bytes that a word spells: decimal digits and nothing else, for a number
-/// from 1 to 2^40. `None`: any other word.
+/// Returns the number of bytes that a word spells, if the word has only decimal digits and the
+/// number is 1 to 2^40. `None`: any other word.
 pub fn parse_bytes(word: &str) -> Option<u64>
     ensures { result ≡ parse_bytes word.now }
 {

@@ -7,7 +7,7 @@ use vx_base::{Border, Function, Node, NodeSpec, ObjRef, Policy};
 /// The name of the input image, the first name in its context.
 pub const SOURCE: u32 = 1;
 
-/// The name of the output image, the second name.
+/// The name of the output image, the second name in its context.
 pub const RESULT: u32 = 2;
 
 /// A function from one U8 image to another.

@@ -2,7 +2,7 @@
 //!
 //! `vx_main serve` reads request frames from standard input, and writes a reply frame for each to
 //! standard output. `vx_main apply` reads one PGM text from standard input, applies one function,
-//! and writes the resulting text to standard output. `program::run` does this over any reader and
+//! and writes the resulting text to standard output. `program::run` does both over any reader and
 //! writer; `main` calls it with the reader and the writer of the process. After a failure, `main`
 //! prints a line to standard error, and exits with the failure's status.
 #![tactic(auto)]

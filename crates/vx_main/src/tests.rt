@@ -8,8 +8,8 @@ use std::test::Fail;
 use vx_base::Code;
 use vx_requests::StreamFault;
 
-/// Client 7 opens a context, creates two images of one U8 sample, writes 10 to the first, runs Not
-/// from the first to the second, and reads the second.
+/// Client 7 opens a context and creates two images of one U8 sample. The client writes 10 to the
+/// first, runs Not from the first to the second, and reads the second.
 const REQUESTS: &[u8] = b"\x00\x00\x00\x03\x00\x07\x01\
 \x00\x00\x00\x08\x00\x07\x03\x01\x00\x01\x00\x01\
 \x00\x00\x00\x08\x00\x07\x03\x01\x00\x01\x00\x01\
@@ -30,8 +30,8 @@ fn serves_streams(rt: HostRuntime) {
     for (input, output) in [
         (&b""[..], &b""[..]),
         (REQUESTS, REPLIES),
-        // A body that isn't empty for an op whose body is empty, and an unknown op; the stream goes
-        // on after both.
+        // OpenContext with a body that isn't empty, and an unknown op. The stream goes on after
+        // both frames.
         (
             b"\x00\x00\x00\x04\x00\x07\x01\x00\
 \x00\x00\x00\x03\x00\x07\xc8\
@@ -97,8 +97,8 @@ fn tells_why_it_ended(rt: HostRuntime) -> Result<(), Fail> {
     Ok(())
 }
 
-/// Clients 7 and 8 open contexts; 7 creates two images of four bytes and one of one byte; 8 creates
-/// one of four bytes.
+/// Clients 7 and 8 open contexts. Client 7 creates two images of four bytes and an image of one
+/// byte. Client 8 creates an image of four bytes.
 const CREATES: &[u8] = b"\x00\x00\x00\x03\x00\x07\x01\
 \x00\x00\x00\x03\x00\x08\x01\
 \x00\x00\x00\x08\x00\x07\x03\x01\x00\x02\x00\x02\
@@ -106,7 +106,7 @@ const CREATES: &[u8] = b"\x00\x00\x00\x03\x00\x07\x01\
 \x00\x00\x00\x08\x00\x07\x03\x01\x00\x01\x00\x01\
 \x00\x00\x00\x08\x00\x08\x03\x01\x00\x02\x00\x02";
 
-/// The replies with a quota of eight bytes.
+/// The replies to `CREATES` with a quota of eight bytes.
 const THIRD_REFUSED: &[u8] = b"\x00\x00\x00\x04\x00\x07\x01\x00\
 \x00\x00\x00\x04\x00\x08\x01\x00\
 \x00\x00\x00\x08\x00\x07\x03\x00\x00\x00\x00\x01\
@@ -114,7 +114,7 @@ const THIRD_REFUSED: &[u8] = b"\x00\x00\x00\x04\x00\x07\x01\x00\
 \x00\x00\x00\x04\x00\x07\x03\x0d\
 \x00\x00\x00\x08\x00\x08\x03\x00\x00\x00\x00\x01";
 
-/// The replies with a quota of nine bytes or more.
+/// The replies to `CREATES` with a quota of nine bytes or more.
 const THIRD_MADE: &[u8] = b"\x00\x00\x00\x04\x00\x07\x01\x00\
 \x00\x00\x00\x04\x00\x08\x01\x00\
 \x00\x00\x00\x08\x00\x07\x03\x00\x00\x00\x00\x01\
@@ -122,8 +122,8 @@ const THIRD_MADE: &[u8] = b"\x00\x00\x00\x04\x00\x07\x01\x00\
 \x00\x00\x00\x08\x00\x07\x03\x00\x00\x00\x00\x03\
 \x00\x00\x00\x08\x00\x08\x03\x00\x00\x00\x00\x01";
 
-/// The replies with a quota of seven bytes: the second image is refused, and the third gets name 2
-/// instead.
+/// The replies to `CREATES` with a quota of seven bytes. Client 7's second image is refused, and
+/// its third gets name 2 instead.
 const SECOND_REFUSED: &[u8] = b"\x00\x00\x00\x04\x00\x07\x01\x00\
 \x00\x00\x00\x04\x00\x08\x01\x00\
 \x00\x00\x00\x08\x00\x07\x03\x00\x00\x00\x00\x01\
@@ -156,8 +156,8 @@ fn allows_each_client_its_quota(rt: HostRuntime) {
     }
 }
 
-/// Checks that the program refuses these words with a line that has this text, and reads and writes
-/// nothing.
+/// Checks that the program refuses these words, reads nothing and writes nothing. The refusal's
+/// line contains this text.
 fn refuses(rt: &impl Abort, alloc: Global, words: &[&str], text: &str) {
     let mut written = Vec::new(alloc);
     let mut input = REQUESTS;
@@ -283,13 +283,13 @@ fn reads_the_command_line(rt: HostRuntime) {
     }
 }
 
-/// A 2 by 2 picture of 10 to 40.
+/// A 2 by 2 picture of the samples 10, 20, 30 and 40.
 const SQUARE: &[u8] = b"P5\n2 2\n255\n\x0a\x14\x1e\x28";
 
-/// The box filter of `SQUARE` with edges repeated.
+/// The result of the box filter on `SQUARE`, under the border `replicate`.
 const BOXED: &[u8] = b"P5\n2 2\n255\n\x14\x17\x1a\x1e";
 
-/// A 3 by 3 picture of 1 to 9.
+/// A 3 by 3 picture of the samples 1 to 9.
 const NINE: &[u8] = b"P2 3 3 9 1 2 3 4 5 6 7 8 9";
 
 #[test]
