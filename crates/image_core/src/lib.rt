@@ -21,7 +21,6 @@ mod formula;
 mod image;
 mod image_mut;
 mod number;
-mod pieces;
 mod row_change;
 mod row_formula;
 mod row_update;

@@ -4,7 +4,6 @@ ghost use Rattle.vx_base.specs.Rectangle.{Rectangle};
 ghost use Rattle.vx_base.specs.Image.{run};
 
 use crate::number::Number;
-use crate::pieces::write_pieces;
 use crate::row_formula::RowFormula;
 use crate::row_update::RowUpdate;
 use vx_base::Rect;
@@ -52,8 +51,18 @@ impl<T: Number, S, F: RowFormula<T, S>> RowChange<T, S> for Written<'_, F> {
         self.formula.area()
     }
 
+    /// Writes the row piece by piece, from left to right. Each piece is at most as wide as the
+    /// formula allows.
     fn change(&self, x: u16, y: u16, scratch: &mut [S], row: &mut [T]) {
-        write_pieces(self.formula, x, y, scratch, row);
+        self.formula.area().prove_bounds();
+        let most = usize::from(self.formula.most());
+        let count = row.len();
+        for k in 0..count.div_ceil(most) {
+            let first = most * k;
+            let end = (first + most).min(count);
+            let piece = &mut row[first..end];
+            self.formula.fill(x + first as u16, y, scratch, piece);
+        }
     }
 }
 
