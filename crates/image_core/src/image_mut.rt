@@ -8,10 +8,8 @@ ghost use Rattle.image_core.specs.Bands.{IsInRows, all_rows};
 ghost use Rattle.image_core.specs.Rows.{sample_from};
 
 use crate::band::Band;
-use crate::formula::Formula;
-use crate::row_change::{Updated, Written};
-use crate::row_formula::{RowFormula, Unaided};
-use crate::row_update::{RowUpdate, Unchanged};
+use crate::formula::{Formula, RowFormula, Unaided};
+use crate::row_update::{RowUpdate, Unchanged, Updated, Written};
 use crate::sample::Sample;
 use crate::whole::Whole;
 use vx_base::{Desc, Format, Rect};

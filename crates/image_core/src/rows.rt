@@ -5,8 +5,7 @@ ghost use Rattle.image_core.specs.Rows.{sample_from};
 
 use crate::band::Band;
 use crate::number::Number;
-use crate::row_change::{RowChange, Updated};
-use crate::row_update::Unchanged;
+use crate::row_update::{RowChange, Unchanged, Updated};
 use vx_base::Rect;
 
 /// Sets all samples to one value.

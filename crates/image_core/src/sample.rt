@@ -12,7 +12,7 @@ ghost use Rattle.image_core.specs.Slices.{slice_format, slice_values};
 use crate::band::Band;
 use crate::image_mut::ImageMut;
 use crate::number::Number;
-use crate::row_change::RowChange;
+use crate::row_update::RowChange;
 use crate::rows::change_rows;
 use crate::slice::Slice;
 use vx_base::{Desc, GREATEST_SIDE, Rect};

@@ -1,7 +1,7 @@
 use Rattle.std.proofs.Common.{◌≡◌, ℕ, ℤ, ◌∙◌, ◌+◌, ◌-◌, ◌*◌, ◌<◌, ap, sym, length, take, drop, arith, length-take, length-drop}
 use Rattle.vx_base.specs.Image.{run}
 use Rattle.image_core.proofs.PieceLaws.{piece_begins, piece_written, row_of_pieces}
-use Rattle.image_core.proofs.row_change.WrittenRowChange.change.Goals as goal
+use Rattle.image_core.proofs.row_update.WrittenRowChange.change.Goals as goal
 
 pub loop-k-preserved : goal.loop-k-preserved
 loop-k-preserved g c =

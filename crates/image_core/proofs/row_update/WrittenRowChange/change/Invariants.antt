@@ -1,6 +1,6 @@
 use Rattle.std.proofs.Common.{◌≡◌, ◌*◌, length, map, take, min}
 use Rattle.vx_base.specs.Image.{run}
-use Rattle.image_core.proofs.row_change.WrittenRowChange.change.Given as goal
+use Rattle.image_core.proofs.row_update.WrittenRowChange.change.Given as goal
 
 abbrev pub invariant-loop-k : goal.invariant-loop-k
 invariant-loop-k g l =
