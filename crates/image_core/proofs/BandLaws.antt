@@ -1,19 +1,14 @@
 -- Bands of output images.
-use Rattle.std.proofs.Common.{◌≡◌, ℕ, ℤ, pos, ◌+◌, ◌-◌, ◌*◌, ◌<◌, ◌≤◌, zero, suc, List, length, refl, ap, ◌∙◌, sym, subst, cond, arith, add-zero}
+use Rattle.std.proofs.Common.{◌≡◌, ℕ, ℤ, pos, ◌+◌, ◌-◌, ◌*◌, ◌<◌, ◌≤◌, zero, suc, length, refl, ap, ◌∙◌, sym, subst, cond, arith, add-zero}
 use Rattle.vx_base.specs.declared.format.Format.{Format}
-use Rattle.vx_base.specs.Description.{Description}
-use Rattle.vx_base.specs.Rectangle.{Rectangle, has_pixel}
-use Rattle.vx_base.specs.Image.{ImageValue, band, zero_outside, pixel_at, image_from, image_over}
-use Rattle.vx_base.proofs.TableLaws.{length-band, band-same}
+use Rattle.image_core.proofs.Common.{Band, Description, HaveSameSize, ImageValue, IsInRows, Rectangle, all_rows, band, band-same, image_over, length-band, pixel_at, sample_from, target_image, zero_outside}
+use Rattle.vx_base.specs.Rectangle.{has_pixel}
+use Rattle.vx_base.specs.Image.{image_from}
 use Rattle.vx_base.proofs.ImageLaws.{get_or-table, band_of_table, samples_are_band, same_parts}
-use Rattle.image_core.specs.declared.band.Band.{Band}
 use Rattle.image_core.specs.declared.image_mut.ImageMut.{ImageMut}
-use Rattle.image_core.specs.Bands.{IsInRows, all_rows, rows_in}
-use Rattle.image_core.specs.Fits.{HaveSameSize}
+use Rattle.image_core.specs.Bands.{rows_in}
 use Rattle.image_core.proofs.SizeLaws.{same_sides}
-use Rattle.image_core.specs.Rows.{sample_from}
-use Rattle.image_core.specs.Slices.{slice_of}
-use Rattle.image_core.specs.Target.{target_image, IsTarget, SameSlices, Writes}
+use Rattle.image_core.specs.Target.{IsTarget, SameSlices, Writes}
 
 -- the rows of an image that is made of a function
 pub rows_made : (d : Description) (format : Format) (r s : Rectangle) (f : ℕ → ℕ → ℤ) (rows : Band) → IsInRows d.height rows → d.format ≡ format → r ≡ s

@@ -1,21 +1,17 @@
 -- Images with the samples of one band, 0 elsewhere.
-use Rattle.std.proofs.Common.{zero, suc, zero-add, ◌∷◌, if◌then◌else◌, refl, ◌≡◌, ℕ, ℤ, pos, ◌+◌, ◌-◌, ◌*◌, ◌<◌, ◌≤◌, true, false, List, [], ◌++◌, length, map, replicate, take, drop, get_or, ap, ◌∙◌, sym, subst, arith, append-nil, inl, inr}
+use Rattle.std.proofs.Common.{zero, suc, refl, ◌≡◌, ℕ, ℤ, pos, ◌+◌, ◌-◌, ◌*◌, ◌<◌, ◌≤◌, true, false, List, [], ◌++◌, length, map, replicate, take, drop, get_or, ap, ◌∙◌, sym, subst, arith, append-nil, inl, inr}
 use Rattle.std.proofs.lemmas.Bool.{cases_Bool, cases_lt}
-use Rattle.std.proofs.lemmas.Bool.Decides.{nat_tests}
-use Rattle.std.proofs.lemmas.List.{length-map, take-replicate, length-append, length-replicate, get_or_append_left, get_or-append_right}
+use Rattle.image_core.proofs.Common.{Band, Description, ImageValue, IsImage, IsInRows, Rectangle, all_rows, band, has_row, image_over, length-band, length-map, nat_tests, pixel_at, row_fits, row_of, row_part, run, sample_from}
+use Rattle.std.proofs.lemmas.List.{take-replicate, length-append, length-replicate, get_or_append_left, get_or-append_right}
 use Rattle.std.proofs.lemmas.Nat.{mul-le}
 use Rattle.vx_base.proofs.ResultLaws.{zero_sample}
 use Rattle.vx_base.proofs.ZeroLaws.{map-replicate}
-use Rattle.vx_base.proofs.TableLaws.{band-append, band-same, length-table, length-band, run-same, run-constant, row_part, row_fits}
+use Rattle.vx_base.proofs.TableLaws.{run-same, run-constant}
 use Rattle.vx_base.proofs.ImageLaws.{above}
 use Rattle.vx_base.specs.declared.desc.TheConstants.{GREATEST_SIDE}
 use Rattle.vx_base.specs.Sample.{IsSample}
-use Rattle.vx_base.specs.Description.{Description}
-use Rattle.vx_base.specs.Rectangle.{Rectangle}
-use Rattle.vx_base.specs.Image.{ImageValue, IsImage, description_of, image_over, band, table, run, pixel_at}
-use Rattle.image_core.specs.declared.band.Band.{Band}
-use Rattle.image_core.specs.Bands.{IsInRows, all_rows, has_row, zero_rows, image_over_rows, zero_outside_rows}
-use Rattle.image_core.specs.Rows.{row_of, sample_from}
+use Rattle.vx_base.specs.Image.{description_of}
+use Rattle.image_core.specs.Bands.{zero_rows, image_over_rows, zero_outside_rows}
 use Rattle.image_core.proofs.BandLaws.{place_of_band}
 
 -- the first samples of the longest row of zeros

@@ -1,10 +1,7 @@
 -- Rows of images over slices.
-use Rattle.std.proofs.Common.{◌≡◌, ℕ, ℤ, pos, ◌+◌, ◌-◌, ◌*◌, ◌<◌, ◌≤◌, List, ◌++◌, length, map, replicate, take, drop, ap, ◌∙◌, sym, refl, arith, take-take}
-use Rattle.std.proofs.lemmas.List.{map-append}
-use borrow.Rule.Slice.PartMut.{put_mid}
-use Rattle.vx_base.specs.Rectangle.{Rectangle}
-use Rattle.vx_base.specs.Image.{run, band, zero_outside}
-use Rattle.vx_base.proofs.TableLaws.{row_across, part_of_row, band_written, length_part}
+use Rattle.std.proofs.Common.{◌≡◌, ℕ, ℤ, pos, ◌+◌, ◌-◌, ◌<◌, ◌≤◌, List, ◌++◌, length, map, replicate, take, drop, ap, ◌∙◌, sym, refl, arith, take-take}
+use Rattle.image_core.proofs.Common.{Rectangle, map-append, part_of_row, run, zero_outside}
+use Rattle.vx_base.proofs.TableLaws.{row_across}
 
 -- n samples of a row, from column x on
 pub part_of : {A : Type 0} (of : A → ℤ) (row : List A) (g : ℕ → ℤ) (w start x n : ℕ) → start ≡ x → x + n ≤ w → length row ≡ w → map of row ≡ run 0 w g → map of (take n (take (length row - start) (drop start row))) ≡ run x n g

@@ -1,10 +1,7 @@
 -- Rows that are updated in place.
 use Rattle.std.proofs.Common.{◌≡◌, ℕ, ℤ, ◌+◌, ◌-◌, ◌*◌, ◌<◌, ◌≤◌, List, length, map, take, drop, refl, arith, drop-drop}
 use Rattle.std.proofs.lemmas.Slice.{drop-put_mid}
-use borrow.Rule.Slice.PartMut.{put_mid}
-use Rattle.vx_base.specs.Image.{run}
-use Rattle.vx_base.proofs.TableLaws.{part_of_row, row_part, row_fits, length_part}
-use Rattle.image_core.specs.Rows.{sample_from}
+use Rattle.image_core.proofs.Common.{length_part, put_mid, row_fits, row_part, run, sample_from}
 
 -- a row's part of samples that stayed from this row on
 pub part_kept : {T : Type 0} (value : T → ℤ) (samples out : List T) (width start count k first step : ℕ) → length samples ≡ count * width → length out ≡ count * width → k < count → first ≡ k * width → step ≡ width

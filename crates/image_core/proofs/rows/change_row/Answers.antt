@@ -1,8 +1,6 @@
-use Rattle.std.proofs.Common.{◌≡◌, ℕ, ℤ, ◌-◌, ◌<◌, ◌≤◌, ◌∙◌, ap, sym, inl, inr, arith, length, replicate, map, take, drop}
-use Rattle.std.proofs.lemmas.Bool.Decides.{nat_tests}
-use Rattle.vx_base.specs.Image.{run}
-use Rattle.vx_base.specs.Rectangle.{Rectangle}
-use Rattle.vx_base.proofs.TableLaws.{part_of_row, row_outside}
+use Rattle.std.proofs.Common.{◌≡◌, ℕ, ℤ, ◌-◌, ◌<◌, ◌≤◌, ◌∙◌, ap, sym, inl, inr, arith, length, replicate, map}
+use Rattle.image_core.proofs.Common.{Rectangle, nat_tests, part_of_row, run}
+use Rattle.vx_base.proofs.TableLaws.{row_outside}
 use Rattle.image_core.proofs.RowLaws.{row_in_three}
 use Rattle.image_core.proofs.rows.change_row.Goals as goal
 use Rattle.image_core.proofs.rows.change_row.Goals.{then-y-y0, else-y-y0}

@@ -1,7 +1,5 @@
 use Rattle.std.proofs.Common.{◌≡◌, ℕ, ℤ, ◌+◌, ◌*◌, ap, ◌∙◌, map, take}
-use Rattle.vx_base.specs.Image.{run, zero_outside}
-use Rattle.vx_base.proofs.TableLaws.{band_written, length_part}
-use Rattle.image_core.specs.Rows.{sample_from}
+use Rattle.image_core.proofs.Common.{band_written, length_part, run, sample_from, zero_outside}
 use Rattle.image_core.proofs.UpdateLaws.{part_kept, next_kept}
 use Rattle.image_core.proofs.rows.change_rows.Goals as goal
 

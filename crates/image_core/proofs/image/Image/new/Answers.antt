@@ -1,5 +1,5 @@
 use Rattle.std.proofs.Common.{◌∙◌, refl, sym, subst}
-use Rattle.vx_base.specs.Image.{IsImage}
+use Rattle.image_core.proofs.Common.{IsImage}
 use Rattle.image_core.proofs.HeldRows.{all_held}
 use Rattle.image_core.proofs.image.Image.new.Goals as goal
 

@@ -1,5 +1,4 @@
-use Rattle.image_core.specs.Rows.{sample_from}
-use Rattle.image_core.specs.Target.{target_image}
+use Rattle.image_core.proofs.Common.{sample_from, target_image}
 use Rattle.image_core.proofs.BandLaws.{made_written}
 use Rattle.image_core.proofs.image_mut.ImageMut.update.Goals as goal
 

@@ -1,5 +1,5 @@
 use Rattle.std.proofs.Common.{◌≡◌, ℕ, ℤ, ◌∙◌, ◌+◌, ◌-◌, ◌*◌, ◌<◌, ap, sym, length, take, drop, arith, length-take, length-drop}
-use Rattle.vx_base.specs.Image.{run}
+use Rattle.image_core.proofs.Common.{run}
 use Rattle.image_core.proofs.PieceLaws.{piece_begins, piece_written, row_of_pieces}
 use Rattle.image_core.proofs.row_update.WrittenRowChange.change.Goals as goal
 

@@ -1,5 +1,5 @@
 use Rattle.std.proofs.Common.{◌≡◌, ◌*◌, length, map, take, min}
-use Rattle.vx_base.specs.Image.{run}
+use Rattle.image_core.proofs.Common.{run}
 use Rattle.image_core.proofs.row_update.WrittenRowChange.change.Given as goal
 
 abbrev pub invariant-loop-k : goal.invariant-loop-k
