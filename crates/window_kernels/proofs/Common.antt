@@ -1,7 +1,5 @@
 -- The names that several proofs cite, passed on from one place. Declares nothing.
-pub use Rattle.image_core.proofs.BandLaws.{written_alike}
-pub use Rattle.image_core.proofs.SizeLaws.{same_sides}
-pub use Rattle.image_core.specs.Target.{target_image}
+pub use Rattle.image_core.proofs.BandLaws.{written_for}
 pub use Rattle.lane_rows.specs.Pairs.{IsNear, IsPairTable, alternation, first_of_pair, line_of, pair_at, row_sum, second_of_pair, sum_of_first, sum_of_rows}
 pub use Rattle.std.proofs.Math.ListN.{get_or-map}
 pub use Rattle.std.proofs.lemmas.Int.{fits_signed_from_abs, ints, to_z-of_z}

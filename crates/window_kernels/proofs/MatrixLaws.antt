@@ -24,12 +24,9 @@ odd_side n h = (grind (arith, nat_tests), grind (arith, nat_tests), grind (arith
 abbrev pub pairs_to : ConvolutionValue → ℕ → List ℤ
 pairs_to m n = flat_map (rotated_pair m) (range_with_len 0 n)
 
-length_from : (m : ConvolutionValue) (a n : ℕ) → length (flat_map (rotated_pair m) (range_with_len a n)) ≡ 16 * n
-length_from m a zero = refl
-length_from m a (suc n) = length-append (rotated_pair m a) (flat_map (rotated_pair m) (range_with_len (a + 1) n)) ∙ omega (arith, length_from m (a + 1) n)
-
-pub length-pairs : (m : ConvolutionValue) (n : ℕ) → length (pairs_to m n) ≡ 16 * n
-length-pairs m n = length_from m 0 n
+pub length-pairs : (m : ConvolutionValue) (a n : ℕ) → length (flat_map (rotated_pair m) (range_with_len a n)) ≡ 16 * n
+length-pairs m a zero = refl
+length-pairs m a (suc n) = length-append (rotated_pair m a) (flat_map (rotated_pair m) (range_with_len (a + 1) n)) ∙ omega (arith, length-pairs m (a + 1) n)
 
 -- a pair in the tables
 pair_read : (m : ConvolutionValue) (k n : ℕ) → chunk (16 * k) 16 (pairs_to m (k + suc n)) ≡ rotated_pair m k
@@ -38,7 +35,7 @@ pair_read m k n =
     let here : 0 + k ≡ k = omega arith in
     ap (λ l. chunk (16 * k) 16 (flat_map (rotated_pair m) l)) (range-append 0 k (suc n))
     ∙ ap (chunk (16 * k) 16) (flat_map-append (rotated_pair m) (range_with_len 0 k) (range_with_len (0 + k) (suc n)))
-    ∙ ap (take 16) (drop_at (pairs_to m k) (rotated_pair m (0 + k) ++ rest) (16 * k) (length-pairs m k))
+    ∙ ap (take 16) (drop_at (pairs_to m k) (rotated_pair m (0 + k) ++ rest) (16 * k) (length-pairs m 0 k))
     ∙ take_at (rotated_pair m (0 + k)) rest 16 refl ∙ ap (rotated_pair m) here
 
 -- pair j of row l
