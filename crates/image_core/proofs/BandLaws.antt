@@ -75,25 +75,19 @@ pub updated_written : (old new : ImageMut) (before : ImageValue) (format : Forma
     → Writes (image_from old.desc.width old.desc.height format r (λ x y. next x y (sample_from old.desc.width old.rows.start (target_image old).samples x y))) old new
     → Writes (image_from old.desc.width old.desc.height format r (λ x y. next x y (pixel_at before x y))) old new
 updated_written old new before format r next target is written_so =
-    record { value = written_so.value ∙ same; target = written_so.target; slices = written_so.slices }
-  where
-    d : Description
-    d = record { width = old.desc.width; height = old.desc.height; format = format }
-
-    from : ℕ → ℕ → ℤ
-    from = sample_from d.width old.rows.start (target_image old).samples
-
-    held : (x y : ℕ) → x < d.width → old.rows.start ≤ y → y < old.rows.start + old.rows.count → from x y ≡ pixel_at before x y
-    held x y across above below =
+    let d : Description = record { width = old.desc.width; height = old.desc.height; format = format } in
+    let from : ℕ → ℕ → ℤ = sample_from d.width old.rows.start (target_image old).samples in
+    let made = λ (f : ℕ → ℕ → ℤ). rows_made d format r r f old.rows target.rows refl refl in
+    let held : (x y : ℕ) → x < d.width → old.rows.start ≤ y → y < old.rows.start + old.rows.count → from x y ≡ pixel_at before x y =
+    λ x y across above below.
         ap (λ (a : ImageValue). sample_from d.width old.rows.start a.samples x y) (sym is)
         ∙ ap (λ n. sample_from d.width old.rows.start (band n old.rows.start old.rows.count (pixel_at before)) x y) (ap (λ (a : ImageValue). a.width) is)
-        ∙ place_of_band d.width old.rows.start old.rows.count x y (pixel_at before) across above below
-
-    made : (f : ℕ → ℕ → ℤ) → image_over d r (band d.width old.rows.start old.rows.count (zero_outside r f)) ≡ rows_in old.rows (image_from d.width d.height format r f)
-    made f = rows_made d format r r f old.rows target.rows refl refl
-
-    same : rows_in old.rows (image_from d.width d.height format r (λ x y. next x y (from x y))) ≡ rows_in old.rows (image_from d.width d.height format r (λ x y. next x y (pixel_at before x y)))
-    same =
-        sym (made (λ x y. next x y (from x y)))
-        ∙ ap (image_over d r) (band-same d.width old.rows.start old.rows.count _ _ (λ x y a b c. ap (λ z. cond (has_pixel r x y) (next x y z) (pos 0)) (held x y a b c)))
-        ∙ made (λ x y. next x y (pixel_at before x y))
+        ∙ place_of_band d.width old.rows.start old.rows.count x y (pixel_at before) across above below in
+    record {
+      value =
+          written_so.value ∙ sym (made (λ x y. next x y (from x y)))
+          ∙ ap (image_over d r) (band-same d.width old.rows.start old.rows.count _ _ (λ x y a b c. ap (λ z. cond (has_pixel r x y) (next x y z) (pos 0)) (held x y a b c)))
+          ∙ made (λ x y. next x y (pixel_at before x y));
+      target = written_so.target;
+      slices = written_so.slices;
+    }
