@@ -1,6 +1,6 @@
 -- Sums of products.
 use Rattle.std.proofs.Common.{◌≡◌, ℕ, ℤ, pos, zero, suc, ◌+◌, ◌-◌, ◌*◌, ◌<◌, List, [], ◌∷◌, ◌++◌, get_or, refl, ap, ◌+ℤ◌, ◌∙◌, sym, arith, zero-add, add-one, ◌*ℤ◌}
-use Rattle.window_kernels.proofs.Common.{ints, run, sum_of_first, row_sum, pair_at, first_of_pair, second_of_pair}
+use Rattle.window_kernels.proofs.Common.{first_of_pair, ints, pair_at, row_sum, run, second_of_pair, sum_of_first}
 use Rattle.vx_base.proofs.TableLaws.{run-more}
 use Rattle.vx_base.specs.Window.{total}
 

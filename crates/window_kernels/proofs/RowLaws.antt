@@ -1,6 +1,6 @@
 -- Rows that are loaded.
 use Rattle.std.proofs.Common.{◌≡◌, ℕ, ℤ, pos, zero, suc, zero-add, ◌+◌, ◌*◌, ◌<◌, ◌≤◌, ◌+ℤ◌, ◌-ℤ◌, List, length, map, take, ap, sym, subst, arith, w32, to_z, of_z, unsigned_abs, map-id}
-use Rattle.window_kernels.proofs.Common.{Each1, ints, take-put_mid, put_mid, Border, U8, ImageValue, run, sample_or_border, run_shifted, IsNear}
+use Rattle.window_kernels.proofs.Common.{Border, Each1, ImageValue, IsNear, U8, ints, put_mid, run, run_shifted, sample_or_border, take-put_mid}
 use Rattle.vx_base.specs.Image.{IsImage}
 use Rattle.vx_base.specs.Node.{IsBorder}
 use Rattle.vx_base.proofs.WindowLaws.{look_sample}

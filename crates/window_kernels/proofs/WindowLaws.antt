@@ -1,10 +1,8 @@
 -- The results of windows in rows that are read without a copy.
 use Rattle.std.proofs.Common.{◌≡◌, ℕ, ℤ, pos, ◌+◌, ◌<◌, ◌+ℤ◌, ◌-ℤ◌, ◌≤◌, zero, suc, List, [], ◌∷◌, ◌++◌, length, map, take, drop, get_or, refl, ap, ◌∙◌, sym, subst, arith, zero-add, replicate, w8, Fits, get_or-drop}
-use Rattle.window_kernels.proofs.Common.{ints, get_or-map, map-append, run, run-append, get_or-run, run_shifted, nine_around}
+use Rattle.window_kernels.proofs.Common.{get_or-chunk, get_or-map, get_or-run, ints, map-append, nine_around, run, run-append, run-same, run_shifted}
 use Rattle.std.proofs.lemmas.List.{drop-map, length-replicate, take-map}
 use Rattle.vx_base.proofs.ZeroLaws.{map-replicate}
-use Rattle.std.proofs.lemmas.Simd.{get_or-chunk}
-use Rattle.vx_base.proofs.TableLaws.{run-same}
 use Rattle.lane_rows.specs.Windows.{nine_from}
 use Rattle.lane_rows.specs.Threes.{AreTaken, number_at}
 

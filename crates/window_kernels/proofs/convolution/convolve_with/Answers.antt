@@ -1,5 +1,5 @@
 use Rattle.std.proofs.Common.{rules}
-use Rattle.window_kernels.proofs.Common.{U8, S16}
+use Rattle.window_kernels.proofs.Common.{S16, U8}
 use Rattle.vx_base.specs.Window.{from_matrix}
 use Rattle.image_core.proofs.BandLaws.{in_format}
 use Rattle.window_kernels.proofs.convolution.convolve_with.Goals as goal

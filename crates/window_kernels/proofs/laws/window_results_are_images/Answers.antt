@@ -1,4 +1,4 @@
-use Rattle.window_kernels.proofs.Common.{U8, S16, median, gradient_x, gradient_y}
+use Rattle.window_kernels.proofs.Common.{S16, U8, gradient_x, gradient_y, median}
 use Rattle.vx_base.specs.Window.{box_mean, gaussian_mean, least_of, greatest_of}
 use Rattle.vx_base.proofs.WindowLaws.{nine_image, box_sample, gaussian_sample, median_sample, least_sample, greatest_sample, gradient_x_sample, gradient_y_sample, matrix_image}
 use Rattle.window_kernels.proofs.laws.window_results_are_images.Goals as goal

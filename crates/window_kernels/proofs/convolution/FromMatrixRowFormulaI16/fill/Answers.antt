@@ -1,5 +1,5 @@
 use Rattle.std.proofs.Common.{◌≡◌, ◌≤◌, ℕ, ℤ, ◌∙◌, ◌+◌, ◌*◌, ◌/◌, ◌+ℤ◌, ◌-ℤ◌, ap, sym, pos, length, zero-add, arith, int_div, ◌^◌}
-use Rattle.window_kernels.proofs.Common.{clamp, sample_or_border, convolution_result, run, run_shifted, sum_of_rows, IsNear, Each1-get_or}
+use Rattle.window_kernels.proofs.Common.{Each1-get_or, IsNear, clamp, convolution_result, run, run_shifted, sample_or_border, sum_of_rows}
 use Rattle.vx_base.proofs.TableLaws.{length-table}
 use Rattle.vx_base.specs.declared.format.Format.{Format}
 use Rattle.window_kernels.proofs.MatrixLaws.{are_tables, length-pairs, odd_side, sum_is_product}

@@ -1,6 +1,6 @@
 use Rattle.std.proofs.Common.{◌≤◌, ◌+◌, ℕ, pos, length, arith}
 use Rattle.std.proofs.lemmas.Nat.{mul-le}
-use Rattle.window_kernels.proofs.Common.{sample_or_border, nine_around}
+use Rattle.window_kernels.proofs.Common.{nine_around, sample_or_border}
 use Rattle.window_kernels.proofs.WindowLaws.{parts_joined}
 use Rattle.window_kernels.proofs.windows.FromNineRowFormula.fill.Goals as goal
 
