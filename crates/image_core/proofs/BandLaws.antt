@@ -25,11 +25,7 @@ made_written old new format r s f target same is known pixel_at =
     record {
       value = is ∙ rows_made old.desc format r s f old.rows target.rows known pixel_at;
       target = record {
-        size =
-            ap (λ (a : ImageValue). length a.samples) is
-            ∙ length-band old.desc.width old.rows.start old.rows.count (zero_outside s f)
-            ∙ ap (λ n. old.rows.count * n) (sym wide)
-            ∙ ap (λ (rows : Band). rows.count * new.desc.width) (sym same.rows);
+        size = cc (ap (λ (a : ImageValue). length a.samples) is, length-band old.desc.width old.rows.start old.rows.count (zero_outside s f), wide, same.rows);
         rows = subst (λ n. IsInRows n new.rows) (sym high) (subst (IsInRows old.desc.height) (sym same.rows) target.rows);
       };
       slices = same;
@@ -80,9 +76,9 @@ updated_written old new before format r next target is written_so =
     let made = λ (f : ℕ → ℕ → ℤ). rows_made d format r r f old.rows target.rows refl refl in
     let held : (x y : ℕ) → x < d.width → old.rows.start ≤ y → y < old.rows.start + old.rows.count → from x y ≡ pixel_at before x y =
     λ x y across above below.
-        ap (λ (a : ImageValue). sample_from d.width old.rows.start a.samples x y) (sym is)
-        ∙ ap (λ n. sample_from d.width old.rows.start (band n old.rows.start old.rows.count (pixel_at before)) x y) (ap (λ (a : ImageValue). a.width) is)
-        ∙ place_of_band d.width old.rows.start old.rows.count x y (pixel_at before) across above below in
+    ap (λ (a : ImageValue). sample_from d.width old.rows.start a.samples x y) (sym is)
+    ∙ ap (λ n. sample_from d.width old.rows.start (band n old.rows.start old.rows.count (pixel_at before)) x y) (ap (λ (a : ImageValue). a.width) is)
+    ∙ place_of_band d.width old.rows.start old.rows.count x y (pixel_at before) across above below in
     record {
       value =
           written_so.value ∙ sym (made (λ x y. next x y (from x y)))

@@ -25,13 +25,7 @@ no_rows width = let none : 0 * width ≡ 0 = omega arith in ap (λ n. replicate 
 pub all_held : (d : Description) (valid : Rectangle) (rows : Band) (held samples : List ℤ) → rows ≡ all_rows d.height → held ≡ samples → image_over_rows d valid rows held ≡ image_over d valid samples
 all_held d valid rows held samples all same =
     let none : d.height - (0 + d.height) ≡ 0 = omega arith in
-    ap (λ r. image_over_rows d valid r held) all
-    ∙ ap (image_over d valid)
-    (ap (λ zs. zs ++ (held ++ zero_rows d.width (d.height - (0 + d.height)))) (no_rows d.width)
-    ∙ ap (λ n. held ++ zero_rows d.width n) none
-    ∙ ap (λ zs. held ++ zs) (no_rows d.width)
-    ∙ append-nil held
-    ∙ same)
+    rw (all, none, no_rows d.width, append-nil, same) refl
 
 -- a sample of zeros
 zero_at : (n i : ℕ) → get_or (replicate n (pos 0)) i (pos 0) ≡ pos 0

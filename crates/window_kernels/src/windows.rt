@@ -74,14 +74,11 @@ impl<K> FromNine<'_, '_, K> {
     fn write_place<T: Sample, S>(&self, x: u16, y: u16, out: &mut [T])
     where
         K: OfWindow<T, S>,
-        requires rows { self.now.image.now.valid.y0
-            < self.now.image.now.valid.y1 }
-        requires column { (self.now.image.now.valid.x0 ≤ x) ×
-            (x < self.now.image.now.valid.x1) }
+        requires rows { self.now.image.now.valid.y0 < self.now.image.now.valid.y1 }
+        requires column { (self.now.image.now.valid.x0 ≤ x) × (x < self.now.image.now.valid.x1) }
         requires one { length out.old ≡ 1 }
         ensures { map T.value out.new ≡ run x 1 (λ k. K.formula self.now.kernel.now (nine_around
-            (sample_or_border self.now.image.now self.now.border) (pos k)
-            (pos y))) }
+            (sample_or_border self.now.image.now self.now.border) (pos k) (pos y))) }
     {
         let (image, border, line) = (self.image, self.border, i32::from(y));
         let above = seen_around(image, x, line - 1, border);
@@ -95,15 +92,13 @@ impl<K> FromNine<'_, '_, K> {
     fn write_inside<T: Sample, S>(&self, x: u16, y: u16, scratch: &mut [S], out: &mut [T])
     where
         K: OfWindow<T, S>,
-        requires rows { self.now.image.now.valid.y0
-            < self.now.image.now.valid.y1 }
+        requires rows { self.now.image.now.valid.y0 < self.now.image.now.valid.y1 }
         requires columns { (self.now.image.now.valid.x0 ≤ x) ×
             (x + length out.old + 2 ≤ self.now.image.now.valid.x1) }
         requires scratch { K.room * (length out.old + 2) ≤ length scratch.old }
         ensures { map T.value out.new ≡ run (x + 1) (length out.old)
             (λ k. K.formula self.now.kernel.now (nine_around
-            (sample_or_border self.now.image.now self.now.border) (pos k)
-            (pos y))) }
+            (sample_or_border self.now.image.now self.now.border) (pos k) (pos y))) }
     {
         let (image, border, off_rows) = (self.image, self.border, self.off_rows);
         let (_valid, line) = (image.valid(), i32::from(y));
@@ -117,8 +112,7 @@ impl<K> FromNine<'_, '_, K> {
 
 impl<T: Sample, S, K: OfWindow<T, S>> RowFormula<T, S> for FromNine<'_, '_, K> {
     ghost at = { λ s x y. K.formula s.kernel.now
-        (nine_around (sample_or_border s.image.now s.border) (pos x)
-        (pos y)) };
+        (nine_around (sample_or_border s.image.now s.border) (pos x) (pos y)) };
 
     ghost area = { λ s. s.area };
 
