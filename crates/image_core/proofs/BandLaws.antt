@@ -1,17 +1,14 @@
 -- Bands of output images.
-use Rattle.std.proofs.Common.{◌≡◌, ℕ, ℤ, pos, ◌+◌, ◌-◌, ◌*◌, ◌<◌, ◌≤◌, zero, suc, List, length, refl, ap, ◌∙◌, sym, subst, cond, arith, add-zero}
+use Rattle.std.proofs.Common.{◌≡◌, ℕ, ℤ, pos, ◌+◌, ◌-◌, ◌*◌, ◌<◌, ◌≤◌, zero, suc, length, refl, ap, ◌∙◌, sym, subst, cond, arith, add-zero}
 use Rattle.vx_base.specs.declared.format.Format.{Format}
-use Rattle.vx_base.specs.Description.{Description}
-use Rattle.vx_base.specs.Rectangle.{Rectangle, has_pixel}
-use Rattle.vx_base.specs.Image.{ImageValue, band, zero_outside, pixel_at, image_from, image_over}
-use Rattle.vx_base.proofs.TableLaws.{length-band, band-same}
+use Rattle.image_core.proofs.Common.{Band, Description, HaveSameSize, ImageValue, IsInRows, Rectangle, all_rows, band, band-same, image_over, length-band, pixel_at, sample_from, target_image, zero_outside}
+use Rattle.vx_base.specs.Rectangle.{has_pixel}
+use Rattle.vx_base.specs.Image.{image_from}
 use Rattle.vx_base.proofs.ImageLaws.{get_or-table, band_of_table, samples_are_band, same_parts}
-use Rattle.image_core.specs.declared.band.Band.{Band}
 use Rattle.image_core.specs.declared.image_mut.ImageMut.{ImageMut}
-use Rattle.image_core.specs.Bands.{IsInRows, all_rows, rows_in}
-use Rattle.image_core.specs.Rows.{sample_from}
-use Rattle.image_core.specs.Slices.{slice_of}
-use Rattle.image_core.specs.Target.{target_image, IsTarget, SameSlices, Writes}
+use Rattle.image_core.specs.Bands.{rows_in}
+use Rattle.image_core.proofs.SizeLaws.{same_sides}
+use Rattle.image_core.specs.Target.{IsTarget, SameSlices, Writes}
 
 -- the rows of an image that is made of a function
 pub rows_made : (d : Description) (format : Format) (r s : Rectangle) (f : ℕ → ℕ → ℤ) (rows : Band) → IsInRows d.height rows → d.format ≡ format → r ≡ s
@@ -28,37 +25,15 @@ made_written old new format r s f target same is known pixel_at =
     record {
       value = is ∙ rows_made old.desc format r s f old.rows target.rows known pixel_at;
       target = record {
-        size =
-            ap (λ (a : ImageValue). length a.samples) is
-            ∙ length-band old.desc.width old.rows.start old.rows.count (zero_outside s f)
-            ∙ ap (λ n. old.rows.count * n) (sym wide)
-            ∙ ap (λ (rows : Band). rows.count * new.desc.width) (sym same.rows);
+        size = cc (ap (λ (a : ImageValue). length a.samples) is, length-band old.desc.width old.rows.start old.rows.count (zero_outside s f), wide, same.rows);
         rows = subst (λ n. IsInRows n new.rows) (sym high) (subst (IsInRows old.desc.height) (sym same.rows) target.rows);
       };
       slices = same;
     }
 
--- the same of the samples in the slice of the format, with other terms for the image's sides
-pub slice_written_as : (old new : ImageMut) (format : Format) (width height : ℕ) (s : Rectangle) (f : ℕ → ℕ → ℤ) → IsTarget old → SameSlices old new → new.desc ≡ old.desc → new.valid ≡ s → old.desc.format ≡ format
-    → old.desc.width ≡ width → old.desc.height ≡ height → slice_of format new.bytes.now new.shorts.now new.words.now ≡ band width old.rows.start old.rows.count (zero_outside s f) → Writes (image_from width height format s f) old new
-slice_written_as old new format width height s f target same desc valid known wide high is =
-    rw (← wide, ← high) (made_written old new format new.valid s f target same (let row = rw (← wide) at is in rw (desc, known, row) refl) known valid)
-
--- samples outside the rectangle are made 0
-pub slice_cleared : (old new : ImageMut) (format : Format) (width : ℕ) (before : List ℤ) → IsTarget old → SameSlices old new → new.desc ≡ old.desc → new.valid ≡ old.valid → old.desc.format ≡ format → width ≡ old.desc.width
-    → before ≡ slice_of format old.bytes.now old.shorts.now old.words.now
-    → slice_of format new.bytes.now new.shorts.now new.words.now ≡ band width old.rows.start old.rows.count (zero_outside old.valid (sample_from width old.rows.start before))
-    → Writes (image_from old.desc.width old.desc.height old.desc.format old.valid (sample_from old.desc.width old.rows.start (target_image old).samples)) old new
-slice_cleared old new format width before target same desc valid known wide held is =
-    slice_written_as old new old.desc.format old.desc.width old.desc.height old.valid (sample_from old.desc.width old.rows.start (target_image old).samples) target same desc valid refl refl refl (rw (known, is, wide, held) refl)
-
 -- all rows of an image are the image
 pub all_rows_are : (image : ImageValue) → length image.samples ≡ image.height * image.width → rows_in (all_rows image.height) image ≡ image
 all_rows_are image size = same_parts (rows_in (all_rows image.height) image) image refl refl refl refl (samples_are_band image.samples image.width image.height size)
-
--- an output over all rows is the whole image
-pub all_written : (image : ImageValue) (old new : ImageMut) → old.rows ≡ all_rows image.height → length image.samples ≡ image.height * image.width → Writes image old new → target_image new ≡ image
-all_written image old new all size is = is.value ∙ ap (λ rows. rows_in rows image) all ∙ all_rows_are image size
 
 -- ---- equal descriptions of an output
 
@@ -70,9 +45,10 @@ written_same image other old new is = subst (λ (a : ImageValue). Writes a old n
 pub in_format : (image : Format → ImageValue) (format known : Format) (old new : ImageMut) → format ≡ known → Writes (image known) old new → Writes (image format) old new
 in_format image format known old new is = written_same (image format) (image known) old new (ap image is)
 
--- an image of the same size and rectangle
-pub written_alike : (width height w h : ℕ) (format : Format) (r s : Rectangle) (f : ℕ → ℕ → ℤ) (old new : ImageMut) → width ≡ w → height ≡ h → r ≡ s → Writes (image_from width height format r f) old new → Writes (image_from w h format s f) old new
-written_alike width height w h format r s f old new a b c is = rw (← a, ← b, ← c) is
+-- an output of the input's size
+pub written_for : (input : ImageValue) (format : Format) (r s : Rectangle) (f : ℕ → ℕ → ℤ) (old new : ImageMut) → HaveSameSize (target_image old) input → r ≡ s
+    → Writes (image_from old.desc.width old.desc.height format r f) old new → Writes (image_from input.width input.height format s f) old new
+written_for input format r s f old new same is_area is = let sides = same_sides (target_image old) input same in rw (← sides.0, ← sides.1, ← is_area) is
 
 -- ---- what an update writes
 
@@ -95,25 +71,19 @@ pub updated_written : (old new : ImageMut) (before : ImageValue) (format : Forma
     → Writes (image_from old.desc.width old.desc.height format r (λ x y. next x y (sample_from old.desc.width old.rows.start (target_image old).samples x y))) old new
     → Writes (image_from old.desc.width old.desc.height format r (λ x y. next x y (pixel_at before x y))) old new
 updated_written old new before format r next target is written_so =
-    record { value = written_so.value ∙ same; target = written_so.target; slices = written_so.slices }
-  where
-    d : Description
-    d = record { width = old.desc.width; height = old.desc.height; format = format }
-
-    from : ℕ → ℕ → ℤ
-    from = sample_from d.width old.rows.start (target_image old).samples
-
-    held : (x y : ℕ) → x < d.width → old.rows.start ≤ y → y < old.rows.start + old.rows.count → from x y ≡ pixel_at before x y
-    held x y across above below =
-        ap (λ (a : ImageValue). sample_from d.width old.rows.start a.samples x y) (sym is)
-        ∙ ap (λ n. sample_from d.width old.rows.start (band n old.rows.start old.rows.count (pixel_at before)) x y) (ap (λ (a : ImageValue). a.width) is)
-        ∙ place_of_band d.width old.rows.start old.rows.count x y (pixel_at before) across above below
-
-    made : (f : ℕ → ℕ → ℤ) → image_over d r (band d.width old.rows.start old.rows.count (zero_outside r f)) ≡ rows_in old.rows (image_from d.width d.height format r f)
-    made f = rows_made d format r r f old.rows target.rows refl refl
-
-    same : rows_in old.rows (image_from d.width d.height format r (λ x y. next x y (from x y))) ≡ rows_in old.rows (image_from d.width d.height format r (λ x y. next x y (pixel_at before x y)))
-    same =
-        sym (made (λ x y. next x y (from x y)))
-        ∙ ap (image_over d r) (band-same d.width old.rows.start old.rows.count _ _ (λ x y a b c. ap (λ z. cond (has_pixel r x y) (next x y z) (pos 0)) (held x y a b c)))
-        ∙ made (λ x y. next x y (pixel_at before x y))
+    let d : Description = record { width = old.desc.width; height = old.desc.height; format = format } in
+    let from : ℕ → ℕ → ℤ = sample_from d.width old.rows.start (target_image old).samples in
+    let made = λ (f : ℕ → ℕ → ℤ). rows_made d format r r f old.rows target.rows refl refl in
+    let held : (x y : ℕ) → x < d.width → old.rows.start ≤ y → y < old.rows.start + old.rows.count → from x y ≡ pixel_at before x y =
+    λ x y across above below.
+    ap (λ (a : ImageValue). sample_from d.width old.rows.start a.samples x y) (sym is)
+    ∙ ap (λ n. sample_from d.width old.rows.start (band n old.rows.start old.rows.count (pixel_at before)) x y) (ap (λ (a : ImageValue). a.width) is)
+    ∙ place_of_band d.width old.rows.start old.rows.count x y (pixel_at before) across above below in
+    record {
+      value =
+          written_so.value ∙ sym (made (λ x y. next x y (from x y)))
+          ∙ ap (image_over d r) (band-same d.width old.rows.start old.rows.count _ _ (λ x y a b c. ap (λ z. cond (has_pixel r x y) (next x y z) (pos 0)) (held x y a b c)))
+          ∙ made (λ x y. next x y (pixel_at before x y));
+      target = written_so.target;
+      slices = written_so.slices;
+    }

@@ -1,3 +1,4 @@
+mod Common
 mod RowLaws
 mod UpdateLaws
 mod PieceLaws

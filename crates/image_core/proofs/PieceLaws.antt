@@ -1,10 +1,8 @@
 -- Rows that are written piece by piece.
 use Rattle.std.proofs.Common.{◌≡◌, ℕ, ℤ, ◌+◌, ◌-◌, ◌*◌, ◌/◌, ◌%◌, ◌<◌, ◌≤◌, List, length, map, take, min, ap, ◌∙◌, sym, arith, take_all}
 use Rattle.std.proofs.lemmas.Grind.{div_ceil_times}
-use Rattle.std.proofs.lemmas.List.{map-append}
+use Rattle.image_core.proofs.Common.{map-append, put_mid, run}
 use Rattle.std.proofs.lemmas.Slice.{take-put_mid}
-use borrow.Rule.Slice.PartMut.{put_mid}
-use Rattle.vx_base.specs.Image.{run}
 use Rattle.vx_base.proofs.TableLaws.{run-append}
 
 -- pieces of m items that are not all written yet begin in the row

@@ -1,8 +1,6 @@
 -- Images of the same size.
 use Rattle.std.proofs.Common.{◌≡◌, arith}
-use Rattle.std.proofs.lemmas.Bool.Decides.{nat_tests}
-use Rattle.vx_base.specs.Image.{ImageValue}
-use Rattle.image_core.specs.Fits.{HaveSameSize}
+use Rattle.image_core.proofs.Common.{HaveSameSize, ImageValue, nat_tests}
 
 -- their sides are equal
 pub same_sides : (a b : ImageValue) → HaveSameSize a b → (a.width ≡ b.width) × (a.height ≡ b.height)

@@ -1,14 +1,7 @@
 -- Rows that are updated in place.
 use Rattle.std.proofs.Common.{◌≡◌, ℕ, ℤ, ◌+◌, ◌-◌, ◌*◌, ◌<◌, ◌≤◌, List, length, map, take, drop, refl, arith, drop-drop}
 use Rattle.std.proofs.lemmas.Slice.{drop-put_mid}
-use borrow.Rule.Slice.PartMut.{put_mid}
-use Rattle.vx_base.specs.Image.{run}
-use Rattle.vx_base.proofs.TableLaws.{part_of_row, row_part, row_fits, length_part}
-use Rattle.image_core.specs.Rows.{sample_from}
-
--- the part of a row between two columns
-pub middle_of_row : {T : Type 0} (value : T → ℤ) (row : List T) (before : ℕ → ℤ) (n x0 x1 : ℕ) → x0 ≤ x1 → x1 ≤ n → map value row ≡ run 0 n before → map value (take (x1 - x0) (drop x0 row)) ≡ run x0 (x1 - x0) before
-middle_of_row value row before n x0 x1 ordered room is = part_of_row value row before n x0 (x1 - x0) x1 (omega arith) (omega arith) is
+use Rattle.image_core.proofs.Common.{length_part, put_mid, row_fits, row_part, run, sample_from}
 
 -- a row's part of samples that stayed from this row on
 pub part_kept : {T : Type 0} (value : T → ℤ) (samples out : List T) (width start count k first step : ℕ) → length samples ≡ count * width → length out ≡ count * width → k < count → first ≡ k * width → step ≡ width

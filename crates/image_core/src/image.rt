@@ -46,12 +46,7 @@ impl<'a> Image<'a> {
         requires image { IsImage (image_over desc valid (map T.value samples.now)) }
         ensures { result ≡ image_over desc valid (map T.value samples.now) }
     {
-        Image {
-            desc,
-            valid,
-            rows: Band::whole(desc),
-            samples: T::lend(samples),
-        }
+        Image::of_rows(desc, valid, Band::whole(desc), samples)
     }
 
     /// Returns the image over the samples of a band, one for each of the band's pixels. The

@@ -8,11 +8,8 @@ ghost use Rattle.image_core.specs.Bands.{IsInRows, all_rows};
 ghost use Rattle.image_core.specs.Rows.{sample_from};
 
 use crate::band::Band;
-use crate::formula::Formula;
-use crate::row_change::{Updated, Written};
-use crate::row_formula::{RowFormula, Unaided};
-use crate::row_update::RowUpdate;
-use crate::rows::clear_rows;
+use crate::formula::{Formula, RowFormula, Unaided};
+use crate::row_update::{RowUpdate, Unchanged, Updated, Written};
 use crate::sample::Sample;
 use crate::whole::Whole;
 use vx_base::{Desc, Format, Rect};
@@ -106,12 +103,11 @@ impl<'a> ImageMut<'a> {
             (sample_from self.old.desc.width self.old.rows.start (target_image self.old).samples))
             self.old self.new }
     {
-        let _limits = self.desc.height();
-        let (width, rows) = (self.desc.width(), self.rows);
+        let kept = Unchanged { area: self.valid };
         match self.desc.format() {
-            Format::U8 => clear_rows(self.valid, width, rows, self.bytes),
-            Format::S16 => clear_rows(self.valid, width, rows, self.shorts),
-            Format::U32 => clear_rows(self.valid, width, rows, self.words),
+            Format::U8 => self.update::<u8, _>(&kept),
+            Format::S16 => self.update::<i16, _>(&kept),
+            Format::U32 => self.update::<u32, _>(&kept),
         }
     }
 
@@ -128,7 +124,7 @@ impl<'a> ImageMut<'a> {
             y))) self.old self.new }
     {
         self.valid = update.area();
-        T::change_samples(self, &Updated { update }, &mut []);
+        T::apply(self, &Updated { update }, &mut []);
     }
 
     /// Writes the whole image: the formula's samples inside the formula's area, 0 elsewhere. The
@@ -160,7 +156,7 @@ impl<'a> ImageMut<'a> {
             T.format (F.area formula.now) (F.at formula.now)) self.old self.new }
     {
         self.valid = formula.area();
-        T::change_samples(self, &Written { formula }, scratch);
+        T::apply(self, &Written { formula }, scratch);
     }
 
     /// Writes a whole U32 image, row after row. The area of `whole` becomes the valid rectangle.

@@ -1,8 +1,10 @@
-//! Samples that are updated in place.
+//! Samples that are updated in place, and the common form of formulas and updates, so that one
+//! implementation goes over the rows.
 ghost use Rattle.std.specs.Prelude.{◌≡◌, ◌+◌, ◌<◌, ◌≤◌, ℕ, ℤ, length, map};
 ghost use Rattle.vx_base.specs.Rectangle.{Rectangle};
 ghost use Rattle.vx_base.specs.Image.{run};
 
+use crate::formula::RowFormula;
 use crate::number::Number;
 use vx_base::Rect;
 
@@ -43,4 +45,84 @@ impl<T: Number> RowUpdate<T> for Unchanged {
     }
 
     fn update(&self, _x: u16, _y: u16, _row: &mut [T]) {}
+}
+
+/// An update in place, which computes each sample of a rectangle from the sample's old value. The
+/// update gets scratch memory for one row.
+pub trait RowChange<T: Number, S> {
+    /// The new sample in a column of a row, given the old sample.
+    ghost next: { Self → ℕ → ℕ → ℤ → ℤ };
+
+    /// The rectangle whose samples can be changed.
+    ghost area: { Self → Rectangle };
+
+    /// The number of scratch items that a row needs.
+    ghost room: { Self → ℕ };
+
+    /// Returns the rectangle whose samples can be changed.
+    fn area(&self) -> Rect
+        ensures { result ≡ area self.now };
+
+    /// Changes the samples of row `y` from column `x` on.
+    fn change(&self, x: u16, y: u16, scratch: &mut [S], row: &mut [T])
+        requires in_rows { ((area self.now).y0 ≤ y) × (y < (area self.now).y1) }
+        requires in_columns { ((area self.now).x0 ≤ x) ×
+            (x + length row.old ≤ (area self.now).x1) }
+        requires scratch { room self.now ≤ length scratch.old }
+        ensures { (before : ℕ → ℤ) → map T.value row.old ≡ run x (length row.old) before →
+            map T.value row.new ≡ run x (length row.old) (λ k. next self.now k y (before k)) };
+}
+
+/// A formula as a change that ignores the old samples.
+#[derive(Drop)]
+pub struct Written<'a, F> {
+    pub formula: &'a F,
+}
+
+impl<T: Number, S, F: RowFormula<T, S>> RowChange<T, S> for Written<'_, F> {
+    ghost next = { λ w x y _. F.at w.formula.now x y };
+
+    ghost area = { λ w. F.area w.formula.now };
+
+    ghost room = { λ w. F.room w.formula.now };
+
+    fn area(&self) -> Rect {
+        self.formula.area()
+    }
+
+    /// Writes the row piece by piece, from left to right. Each piece is at most as wide as the
+    /// formula allows.
+    fn change(&self, x: u16, y: u16, scratch: &mut [S], row: &mut [T]) {
+        self.formula.area().prove_bounds();
+        let most = usize::from(self.formula.most());
+        let count = row.len();
+        for k in 0..count.div_ceil(most) {
+            let first = most * k;
+            let end = (first + most).min(count);
+            let piece = &mut row[first..end];
+            self.formula.fill(x + first as u16, y, scratch, piece);
+        }
+    }
+}
+
+/// An update as a change that needs no scratch memory.
+#[derive(Drop)]
+pub struct Updated<'a, U> {
+    pub update: &'a U,
+}
+
+impl<T: Number, U: RowUpdate<T>> RowChange<T, u8> for Updated<'_, U> {
+    ghost next = { λ u. U.next u.update.now };
+
+    ghost area = { λ u. U.area u.update.now };
+
+    ghost room = { λ _. 0 };
+
+    fn area(&self) -> Rect {
+        self.update.area()
+    }
+
+    fn change(&self, x: u16, y: u16, _scratch: &mut [u8], row: &mut [T]) {
+        self.update.update(x, y, row);
+    }
 }

@@ -5,8 +5,7 @@ ghost use Rattle.image_core.specs.Rows.{sample_from};
 
 use crate::band::Band;
 use crate::number::Number;
-use crate::row_change::{RowChange, Updated};
-use crate::row_update::Unchanged;
+use crate::row_update::{RowChange, Unchanged, Updated};
 use vx_base::Rect;
 
 /// Sets all samples to one value.
@@ -16,32 +15,6 @@ pub fn set_all<T: Number>(out: &mut [T], sample: T)
     for item in out.iter_mut() {
         *item = sample;
     }
-}
-
-/// Changes the columns of a row in the change's area, from `x0` to `x1 - 1`, and sets the other
-/// columns to 0.
-fn change_across<T: Number, S, C: RowChange<T, S>>(
-    change: &C,
-    y: u16,
-    x0: u16,
-    x1: u16,
-    scratch: &mut [S],
-    row: &mut [T],
-)
-    requires in_rows { ((C.area change.now).y0 ≤ y) × (y < (C.area change.now).y1) }
-    requires columns { ((C.area change.now).x0 ≡ x0) × ((C.area change.now).x1 ≡ x1) }
-    requires ordered { x0 ≤ x1 }
-    requires scratch { C.room change.now ≤ length scratch.old }
-    requires room { x1 ≤ length row.old }
-    ensures { (before : ℕ → ℤ) → map T.value row.old ≡ run 0 (length row.old) before →
-        map T.value row.new ≡ run 0 (length row.old)
-        (λ k. zero_outside (C.area change.now) (λ x y. C.next change.now x y (before x)) k y) }
-{
-    let (head, others) = row.split_at_mut(usize::from(x0));
-    let (middle, tail) = others.split_at_mut(usize::from(x1 - x0));
-    set_all(head, T::zero());
-    change.change(x0, y, scratch, middle);
-    set_all(tail, T::zero());
 }
 
 /// Changes row `y` within the change's area, and sets the row's other samples to 0.
@@ -61,7 +34,12 @@ fn change_row<T: Number, S, C: RowChange<T, S>>(
     if y < area.y0() || area.y1() <= y {
         set_all(row, T::zero());
     } else {
-        change_across(change, y, area.x0(), area.x1(), scratch, row);
+        let (x0, x1) = (usize::from(area.x0()), usize::from(area.x1()));
+        let (head, others) = row.split_at_mut(x0);
+        let (middle, tail) = others.split_at_mut(x1 - x0);
+        set_all(head, T::zero());
+        change.change(area.x0(), y, scratch, middle);
+        set_all(tail, T::zero());
     }
 }
 

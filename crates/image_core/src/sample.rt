@@ -12,7 +12,7 @@ ghost use Rattle.image_core.specs.Slices.{slice_format, slice_values};
 use crate::band::Band;
 use crate::image_mut::ImageMut;
 use crate::number::Number;
-use crate::row_change::RowChange;
+use crate::row_update::RowChange;
 use crate::rows::change_rows;
 use crate::slice::Slice;
 use vx_base::{Desc, GREATEST_SIDE, Rect};
@@ -54,13 +54,9 @@ pub trait Sample: Number {
             (map Self.value samples.old) }
         ensures same_slice { slice_name result ≡ samples.entry.ghost_name };
 
-    /// Changes the samples of an output's band within the change's area, and sets the band's other
-    /// samples to 0.
-    fn change_samples<S, C: RowChange<Self, S>>(
-        output: &mut ImageMut<'_>,
-        change: &C,
-        scratch: &mut [S],
-    )
+    /// Applies the change to the samples of an output's band within the change's area, and sets the
+    /// band's other samples to 0.
+    fn apply<S, C: RowChange<Self, S>>(output: &mut ImageMut<'_>, change: &C, scratch: &mut [S])
         requires target { IsTarget output.old }
         requires format { (target_image output.old).format ≡ format }
         requires room { (C.area change.now).x1 ≤ (target_image output.old).width }
@@ -137,11 +133,7 @@ impl Sample for u8 {
         image_mut!(desc, rows, samples, &mut [], &mut [])
     }
 
-    fn change_samples<S, C: RowChange<u8, S>>(
-        output: &mut ImageMut<'_>,
-        change: &C,
-        scratch: &mut [S],
-    ) {
+    fn apply<S, C: RowChange<u8, S>>(output: &mut ImageMut<'_>, change: &C, scratch: &mut [S]) {
         change_slice!(output, change, scratch, bytes);
     }
 }
@@ -167,11 +159,7 @@ impl Sample for i16 {
         image_mut!(desc, rows, &mut [], samples, &mut [])
     }
 
-    fn change_samples<S, C: RowChange<i16, S>>(
-        output: &mut ImageMut<'_>,
-        change: &C,
-        scratch: &mut [S],
-    ) {
+    fn apply<S, C: RowChange<i16, S>>(output: &mut ImageMut<'_>, change: &C, scratch: &mut [S]) {
         change_slice!(output, change, scratch, shorts);
     }
 }
@@ -197,11 +185,7 @@ impl Sample for u32 {
         image_mut!(desc, rows, &mut [], &mut [], samples)
     }
 
-    fn change_samples<S, C: RowChange<u32, S>>(
-        output: &mut ImageMut<'_>,
-        change: &C,
-        scratch: &mut [S],
-    ) {
+    fn apply<S, C: RowChange<u32, S>>(output: &mut ImageMut<'_>, change: &C, scratch: &mut [S]) {
         change_slice!(output, change, scratch, words);
     }
 }

@@ -1,2 +1,2 @@
+mod Common
 mod FormatLaws
-mod PixelLaws

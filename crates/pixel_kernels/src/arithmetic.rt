@@ -1,19 +1,26 @@
-//! Functions of two U8 or S16 images, for each permitted combination of formats.
-ghost use Rattle.std.specs.Prelude.{◌≡◌, IsTrue};
+//! Arithmetic functions of two U8 or S16 images, for each permitted combination of formats.
+ghost use Rattle.std.specs.Prelude.{◌≡◌, ◌≤◌, IsTrue, Some};
 ghost use Rattle.vx_base.specs.declared.format.Format.TheVariants.{S16};
+ghost use Rattle.vx_base.specs.declared.function.Function.TheVariants.{AbsoluteDifference};
+ghost use Rattle.vx_base.specs.declared.function.Function.TheVariants.{MinPixel, MaxPixel};
+ghost use Rattle.vx_base.specs.declared.function.Function.TheVariants.{Add, Subtract, Multiply};
 ghost use Rattle.vx_base.specs.Formats.{are_arithmetic};
-ghost use Rattle.vx_base.specs.Pixelwise.{from_two};
-ghost use Rattle.image_core.specs.Fits.{HaveSameSize};
+ghost use Rattle.vx_base.specs.Object.{ImageObject};
+ghost use Rattle.vx_base.specs.Pixelwise.{absolute_difference, smaller, greater, sum, difference};
+ghost use Rattle.vx_base.specs.Pixelwise.{product, from_two};
+ghost use Rattle.image_core.specs.Fits.{Fits, HaveSameSize};
 ghost use Rattle.image_core.specs.Target.{target_image, IsTarget, Writes};
 
 use crate::two::write_two;
 use image_core::{Image, ImageMut};
-use lane_rows::{Arithmetic, OfSamples};
-use vx_base::Format;
+use lane_rows::{
+    Arithmetic, Difference, Distance, Greater, OfSamples, Product, Saturated, Smaller, Sum, Wrapped,
+};
+use vx_base::{Format, Policy};
 
 /// Writes the results of a lane kernel for two images to a third image of their size. Either all
 /// images are U8, or the inputs are each U8 or S16 and the output is S16.
-pub fn write_arithmetic<K: Arithmetic>(
+fn write_arithmetic<K: Arithmetic>(
     kernel: &K,
     first: &Image<'_>,
     second: &Image<'_>,
@@ -54,5 +61,90 @@ fn write_from_shorts<K: Arithmetic>(
         (Format::U8, _) => write_two::<u8, i16, i16, _>(kernel, first, second, output),
         (_, Format::U8) => write_two::<i16, u8, i16, _>(kernel, first, second, output),
         _ => write_two::<i16, i16, i16, _>(kernel, first, second, output),
+    }
+}
+
+/// Writes the distances between the samples, at most the format's greatest sample (OpenVX 1.3,
+/// "Absolute Difference"); all images are U8, or all S16.
+pub fn absolute_difference(first: &Image<'_>, second: &Image<'_>, output: &mut ImageMut<'_>)
+    requires { Fits AbsoluteDifference first.now (Some (ImageObject second.now)) output.old }
+    ensures { Writes (from_two (target_image output.old).format
+        (absolute_difference (target_image output.old).format) first.now second.now)
+        output.old output.new }
+{
+    write_arithmetic(&Distance, first, second, output);
+}
+
+/// Writes the smaller of the two samples (OpenVX 1.3, "Min"); all images are U8, or all S16.
+pub fn minimum(first: &Image<'_>, second: &Image<'_>, output: &mut ImageMut<'_>)
+    requires { Fits MinPixel first.now (Some (ImageObject second.now)) output.old }
+    ensures { Writes (from_two (target_image output.old).format smaller first.now second.now)
+        output.old output.new }
+{
+    write_arithmetic(&Smaller, first, second, output);
+}
+
+/// Writes the greater of the two samples (OpenVX 1.3, "Max"); all images are U8, or all S16.
+pub fn maximum(first: &Image<'_>, second: &Image<'_>, output: &mut ImageMut<'_>)
+    requires { Fits MaxPixel first.now (Some (ImageObject second.now)) output.old }
+    ensures { Writes (from_two (target_image output.old).format greater first.now second.now)
+        output.old output.new }
+{
+    write_arithmetic(&Greater, first, second, output);
+}
+
+/// Writes the sums of the samples, narrowed by the policy (OpenVX 1.3, "Arithmetic Addition").
+/// Either all images are U8, or the inputs are each U8 or S16 and the output is S16.
+pub fn add(first: &Image<'_>, second: &Image<'_>, output: &mut ImageMut<'_>, policy: Policy)
+    requires { Fits Add first.now (Some (ImageObject second.now)) output.old }
+    ensures { Writes (from_two (target_image output.old).format
+        (sum (target_image output.old).format policy) first.now second.now) output.old output.new }
+{
+    match policy {
+        Policy::Wrap => write_arithmetic(&Sum(Wrapped), first, second, output),
+        Policy::Saturate => write_arithmetic(&Sum(Saturated), first, second, output),
+    }
+}
+
+/// Writes the first image's samples minus the second's, narrowed by the policy (OpenVX 1.3,
+/// "Arithmetic Subtraction"). Either all images are U8, or the inputs are each U8 or S16 and the
+/// output is S16.
+pub fn subtract(first: &Image<'_>, second: &Image<'_>, output: &mut ImageMut<'_>, policy: Policy)
+    requires { Fits Subtract first.now (Some (ImageObject second.now)) output.old }
+    ensures { Writes (from_two (target_image output.old).format
+        (difference (target_image output.old).format policy) first.now second.now)
+        output.old output.new }
+{
+    match policy {
+        Policy::Wrap => write_arithmetic(&Difference(Wrapped), first, second, output),
+        Policy::Saturate => write_arithmetic(&Difference(Saturated), first, second, output),
+    }
+}
+
+/// Writes the products of the samples divided by 2^amount, rounded toward zero and narrowed by the
+/// policy (OpenVX 1.3, "Pixel-wise Multiplication"). Either all images are U8, or the inputs are
+/// each U8 or S16 and the output is S16.
+pub fn multiply(
+    first: &Image<'_>,
+    second: &Image<'_>,
+    output: &mut ImageMut<'_>,
+    policy: Policy,
+    amount: u8,
+)
+    requires fits { Fits Multiply first.now (Some (ImageObject second.now)) output.old }
+    requires amount { amount ≤ 15 }
+    ensures { Writes (from_two (target_image output.old).format
+        (product (target_image output.old).format policy amount) first.now second.now)
+        output.old output.new }
+{
+    match policy {
+        Policy::Wrap => {
+            let overflow = Wrapped;
+            write_arithmetic(&Product { overflow, amount }, first, second, output);
+        }
+        Policy::Saturate => {
+            let overflow = Saturated;
+            write_arithmetic(&Product { overflow, amount }, first, second, output);
+        }
     }
 }

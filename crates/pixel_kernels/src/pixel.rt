@@ -7,13 +7,13 @@ use lane_rows::Item;
 /// A sample of an image that is also an item of a lane row.
 pub trait Pixel: Sample + Item {
     /// The value as an item equals the value as a sample.
-    ghost same: { (a : Self) → Self.Item.value a ≡ Self.Number.value a };
+    ghost same: { Self.Item.value ≡ Self.Number.value };
 }
 
 impl Pixel for u8 {
-    ghost same = { λ a. refl };
+    ghost same = { refl };
 }
 
 impl Pixel for i16 {
-    ghost same = { λ a. refl };
+    ghost same = { refl };
 }

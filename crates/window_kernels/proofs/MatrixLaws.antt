@@ -1,8 +1,7 @@
 -- The results of a matrix with reversed columns on the rows that its windows read.
 use Rattle.std.proofs.Common.{◌++◌, drop, append-nil, length-append, drop_at, take_at, take-take, drop-drop, ◌≡◌, ℕ, ℤ, pos, zero, suc, ◌+◌, ◌-◌, ◌*◌, ◌/◌, ◌%◌, ◌<◌, ◌≤◌, ◌+ℤ◌, ◌-ℤ◌, List, length, take, get_or, refl, ap, ◌∙◌, sym, subst, arith, ◌*ℤ◌, IsTrue}
-use Rattle.window_kernels.proofs.Common.{chunk, Each1, ints, put_mid, table, alternation, sum_of_first, line_of, row_sum, sum_of_rows, first_of_pair, second_of_pair, IsPairTable, rotated_coefficient, rotated_pair, take-put_mid, range_with_len}
+use Rattle.window_kernels.proofs.Common.{Each1, IsPairTable, alternation, chunk, first_of_pair, get_or-chunk, ints, line_of, put_mid, range_with_len, rotated_coefficient, rotated_pair, row_sum, second_of_pair, sum_of_first, sum_of_rows, table, take-put_mid}
 use Rattle.std.proofs.lemmas.Bool.Decides.{nat_tests}
-use Rattle.std.proofs.lemmas.Simd.{get_or-chunk}
 use Rattle.vx_base.specs.Convolution.{ConvolutionValue, is_odd_side, coefficient}
 use Rattle.vx_base.specs.Window.{row_product, matrix_product}
 use Rattle.vx_base.proofs.ImageLaws.{get_or-table}
@@ -24,12 +23,9 @@ odd_side n h = (grind (arith, nat_tests), grind (arith, nat_tests), grind (arith
 abbrev pub pairs_to : ConvolutionValue → ℕ → List ℤ
 pairs_to m n = flat_map (rotated_pair m) (range_with_len 0 n)
 
-length_from : (m : ConvolutionValue) (a n : ℕ) → length (flat_map (rotated_pair m) (range_with_len a n)) ≡ 16 * n
-length_from m a zero = refl
-length_from m a (suc n) = length-append (rotated_pair m a) (flat_map (rotated_pair m) (range_with_len (a + 1) n)) ∙ omega (arith, length_from m (a + 1) n)
-
-pub length-pairs : (m : ConvolutionValue) (n : ℕ) → length (pairs_to m n) ≡ 16 * n
-length-pairs m n = length_from m 0 n
+pub length-pairs : (m : ConvolutionValue) (a n : ℕ) → length (flat_map (rotated_pair m) (range_with_len a n)) ≡ 16 * n
+length-pairs m a zero = refl
+length-pairs m a (suc n) = length-append (rotated_pair m a) (flat_map (rotated_pair m) (range_with_len (a + 1) n)) ∙ omega (arith, length-pairs m (a + 1) n)
 
 -- a pair in the tables
 pair_read : (m : ConvolutionValue) (k n : ℕ) → chunk (16 * k) 16 (pairs_to m (k + suc n)) ≡ rotated_pair m k
@@ -38,7 +34,7 @@ pair_read m k n =
     let here : 0 + k ≡ k = omega arith in
     ap (λ l. chunk (16 * k) 16 (flat_map (rotated_pair m) l)) (range-append 0 k (suc n))
     ∙ ap (chunk (16 * k) 16) (flat_map-append (rotated_pair m) (range_with_len 0 k) (range_with_len (0 + k) (suc n)))
-    ∙ ap (take 16) (drop_at (pairs_to m k) (rotated_pair m (0 + k) ++ rest) (16 * k) (length-pairs m k))
+    ∙ ap (take 16) (drop_at (pairs_to m k) (rotated_pair m (0 + k) ++ rest) (16 * k) (length-pairs m 0 k))
     ∙ take_at (rotated_pair m (0 + k)) rest 16 refl ∙ ap (rotated_pair m) here
 
 -- pair j of row l
@@ -99,22 +95,18 @@ pair_fits P k r out ws a b room before is p q =
 turned_is : (m : ConvolutionValue) (l c : ℕ) → c < m.columns → rotated_coefficient m l c ≡ coefficient m l (m.columns - 1 - c)
 turned_is m l c h = grind (arith, nat_tests)
 
-none_beyond : (m : ConvolutionValue) (l : ℕ) → rotated_coefficient m l m.columns ≡ pos 0
-none_beyond m l = grind (arith, nat_tests)
-
-times_none : (x y z : ℤ) → z ≡ pos 0 → x +ℤ y *ℤ z ≡ x
-times_none x y z is = ap (λ w. x +ℤ y *ℤ w) is ∙ omega (arith, ints)
-
 -- a row of it
 row_is_product : (m : ConvolutionValue) (f : ℤ → ℤ) (row tables : List ℤ) (x p l n : ℕ) → tables ≡ rotated_tables m → IsTrue (is_odd_side m.columns) → l < m.rows → p + m.columns ≤ n
     → ((c : ℕ) → c < n → get_or row c (pos 0) ≡ f (pos (x + c) -ℤ pos (m.columns / 2))) → row_sum row (line_of tables 80 l) (m.columns / 2 + 1) p ≡ row_product m f (pos (x + p)) l
 row_is_product m f row tables x p l n are side below room seen =
     let odd = odd_side m.columns side in
     let count : 2 * (m.columns / 2 + 1) ≡ suc m.columns = omega (arith, odd) in
+    let beyond : rotated_coefficient m l m.columns ≡ pos 0 = grind (arith, nat_tests) in
     let g : ℕ → ℤ = λ c. get_or row (p + c) (pos 0) *ℤ rotated_coefficient m l c in
+    let none : sum_of_first m.columns g +ℤ get_or row (p + m.columns) (pos 0) *ℤ pos 0 ≡ sum_of_first m.columns g = omega (arith, ints) in
     pairs_add_up row (line_of tables 80 l) (rotated_coefficient m l) (m.columns / 2 + 1) p (λ j h. first_read m tables l j are below (omega (arith, odd))) (λ j h. second_read m tables l j are below (omega (arith, odd)))
     ∙ ap (λ k. sum_of_first k g) count
-    ∙ times_none (sum_of_first m.columns g) (get_or row (p + m.columns) (pos 0)) (rotated_coefficient m l m.columns) (none_beyond m l)
+    ∙ ap (λ z. sum_of_first m.columns g +ℤ get_or row (p + m.columns) (pos 0) *ℤ z) beyond ∙ none
     ∙ sum-same m.columns g (λ c. product (m.columns - 1 - c)) (λ c h. ap (λ z. z *ℤ rotated_coefficient m l c) (seen (p + c) (omega arith) ∙ ap f (at c h odd.2)) ∙ ap (λ z. f (pos (x + p) +ℤ pos (m.columns / 2) -ℤ pos (m.columns - 1 - c)) *ℤ z) (turned_is m l c h))
     ∙ sum_turned m.columns product
     ∙ sum_is_total m.columns product

@@ -1,6 +1,6 @@
 -- Sums of products.
 use Rattle.std.proofs.Common.{◌≡◌, ℕ, ℤ, pos, zero, suc, ◌+◌, ◌-◌, ◌*◌, ◌<◌, List, [], ◌∷◌, ◌++◌, get_or, refl, ap, ◌+ℤ◌, ◌∙◌, sym, arith, zero-add, add-one, ◌*ℤ◌}
-use Rattle.window_kernels.proofs.Common.{ints, run, sum_of_first, row_sum, pair_at, first_of_pair, second_of_pair}
+use Rattle.window_kernels.proofs.Common.{first_of_pair, ints, row_sum, run, second_of_pair, sum_of_first}
 use Rattle.vx_base.proofs.TableLaws.{run-more}
 use Rattle.vx_base.specs.Window.{total}
 
@@ -53,10 +53,5 @@ pairs_add_up row table k (suc n) p first second =
     let before = pairs_add_up row table k n p (λ j h. first j (omega arith)) (λ j h. second j (omega arith)) in
     let place : p + 2 * n + 1 ≡ p + suc (2 * n) = omega arith in
     let next : 2 * n + 1 ≡ suc (2 * n) = omega arith in
-    let one = ap (λ z. get_or row (p + 2 * n) (pos 0) *ℤ z) (first n (omega arith)) in
-    let other = ap (λ i. get_or row i (pos 0) *ℤ second_of_pair table n) place ∙ ap (λ z. get_or row (p + suc (2 * n)) (pos 0) *ℤ z) (second n (omega arith) ∙ ap k next) in
-    ap (λ z. z +ℤ pair_at row (first_of_pair table n) (second_of_pair table n) (p + 2 * n)) before
-    ∙ ap (λ z. sum_of_first (2 * n) g +ℤ (z +ℤ get_or row (p + 2 * n + 1) (pos 0) *ℤ second_of_pair table n)) one
-    ∙ ap (λ z. sum_of_first (2 * n) g +ℤ (g (2 * n) +ℤ z)) other
-    ∙ plus_assoc (sum_of_first (2 * n) g) (g (2 * n)) (g (suc (2 * n)))
-    ∙ ap (λ m. sum_of_first m g) count
+    let pair : row_sum row table (suc n) p ≡ sum_of_first (2 * n) g +ℤ (g (2 * n) +ℤ g (suc (2 * n))) = cc (before, first n (omega arith), second n (omega arith), place, next) in
+    pair ∙ plus_assoc (sum_of_first (2 * n) g) (g (2 * n)) (g (suc (2 * n))) ∙ ap (λ m. sum_of_first m g) count

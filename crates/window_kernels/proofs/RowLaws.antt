@@ -1,21 +1,18 @@
 -- Rows that are loaded.
-use Rattle.std.proofs.Common.{◌≡◌, ℕ, ℤ, pos, zero, suc, zero-add, ◌+◌, ◌*◌, ◌<◌, ◌≤◌, ◌+ℤ◌, ◌-ℤ◌, List, [], ◌∷◌, length, map, take, refl, ap, sym, subst, arith, w32, to_z, of_z, unsigned_abs, map-id}
-use Rattle.window_kernels.proofs.Common.{Each1, ints, take-put_mid, put_mid, Border, U8, ImageValue, run, sample_or_border, run_shifted, IsNear}
+use Rattle.std.proofs.Common.{◌≡◌, ℕ, ℤ, pos, zero, suc, zero-add, ◌+◌, ◌*◌, ◌<◌, ◌≤◌, ◌+ℤ◌, ◌-ℤ◌, List, length, map, take, ap, sym, subst, arith, w32, to_z, of_z, unsigned_abs, map-id}
+use Rattle.window_kernels.proofs.Common.{Border, Each1, ImageValue, IsNear, U8, ints, put_mid, run, run_shifted, sample_or_border, take-put_mid}
 use Rattle.vx_base.specs.Image.{IsImage}
 use Rattle.vx_base.specs.Node.{IsBorder}
-use Rattle.vx_base.specs.Sample.{IsSample}
 use Rattle.vx_base.proofs.WindowLaws.{look_sample}
 use Rattle.lane_rows.proofs.BitLaws.{Each1-append}
 
 -- windows read bytes from a U8 image
-seen_up_to : (z : ℤ) → IsSample U8 z → IsNear 255 z
-seen_up_to z is = omega (arith, ints, is.at_least, is.at_most)
-
 pub looks_up_to : (image : ImageValue) (border : Border) (radius : ℕ) (y : ℤ) (x n : ℕ) → IsImage image → image.format ≡ U8 → image.valid.x0 < image.valid.x1 → image.valid.y0 < image.valid.y1 → IsBorder border
     → Each1 (IsNear 255) (run x n (λ c. sample_or_border image border (pos c -ℤ pos radius) y))
 looks_up_to image border radius y x zero is format columns rows constant = tt
 looks_up_to image border radius y x (suc n) is format columns rows constant =
-    (seen_up_to _ (look_sample image border (pos x -ℤ pos radius) y is format columns rows constant), looks_up_to image border radius y (x + 1) n is format columns rows constant)
+    let seen = look_sample image border (pos x -ℤ pos radius) y is format columns rows constant in
+    (omega (arith, ints, seen.at_least, seen.at_most), looks_up_to image border radius y (x + 1) n is format columns rows constant)
 
 -- one more part of them, from item `at` on
 pub part_fits : (P : ℤ → Type 0) (out ws : List ℤ) (at k end : ℕ) → at ≤ length out → end ≡ at + length ws → Each1 P (take at out) → Each1 P ws → Each1 P (take end (put_mid at k out ws))
@@ -44,8 +41,3 @@ line_seen f row x n line r y h l at are long is =
     rw (map-id row, are, is, long)
     (run_shifted (λ c. f (pos c -ℤ pos r) (pos y +ℤ pos h -ℤ pos l)) (λ c. f (pos (x + c) -ℤ pos r) (pos y +ℤ pos h -ℤ pos l)) x 0 line
     (λ k b. ap (λ c. f (pos (x + c) -ℤ pos r) (pos y +ℤ pos h -ℤ pos l)) (sym (zero-add k))))
-
--- items and samples are the same numbers
-pub same_values : {A B : Type 0} (f g : A → B) → ((a : A) → f a ≡ g a) → (xs : List A) → map f xs ≡ map g xs
-same_values f g same [] = refl
-same_values f g same (x ∷ xs) = cc (same x, same_values f g same xs)

@@ -1,10 +1,8 @@
 -- The results of windows in rows that are read without a copy.
 use Rattle.std.proofs.Common.{◌≡◌, ℕ, ℤ, pos, ◌+◌, ◌<◌, ◌+ℤ◌, ◌-ℤ◌, ◌≤◌, zero, suc, List, [], ◌∷◌, ◌++◌, length, map, take, drop, get_or, refl, ap, ◌∙◌, sym, subst, arith, zero-add, replicate, w8, Fits, get_or-drop}
-use Rattle.window_kernels.proofs.Common.{ints, get_or-map, map-append, run, run-append, get_or-run, run_shifted, nine_around}
+use Rattle.window_kernels.proofs.Common.{get_or-chunk, get_or-map, get_or-run, ints, map-append, nine_around, run, run-append, run-same, run_shifted}
 use Rattle.std.proofs.lemmas.List.{drop-map, length-replicate, take-map}
 use Rattle.vx_base.proofs.ZeroLaws.{map-replicate}
-use Rattle.std.proofs.lemmas.Simd.{get_or-chunk}
-use Rattle.vx_base.proofs.TableLaws.{run-same}
 use Rattle.lane_rows.specs.Windows.{nine_from}
 use Rattle.lane_rows.specs.Threes.{AreTaken, number_at}
 
@@ -48,11 +46,8 @@ parts_joined value f x n m last xs ys zs one two three to_last whole =
 
 -- ---- down the columns, then across three of them
 
-pub bytes_at : (row : List ℕ) (i : ℕ) → number_at (map pos row) i ≡ pos (get_or row i 0)
-bytes_at row i = get_or-map pos row i 0
-
 pub bytes_taken : (takes : ℤ → Type 0) → ((n : ℕ) → n < 256 → takes (pos n)) → (row : List ℕ) → ((i : ℕ) → Fits w8 (get_or row i 0)) → AreTaken takes (map pos row)
-bytes_taken takes law row fits i = subst takes (sym (bytes_at row i)) (law (get_or row i 0) (fits i).fits)
+bytes_taken takes law row fits i = subst takes (sym (get_or-map pos row i 0)) (law (get_or row i 0) (fits i).fits)
 
 module _ (takes : ℤ → Type 0) (takes_zero : takes (pos 0)) where
   run_taken : (f : ℕ → ℤ) (x n : ℕ) → ((i : ℕ) → takes (f i)) → AreTaken takes (run x n f)
@@ -69,12 +64,13 @@ module _ (takes : ℤ → Type 0) (takes_zero : takes (pos 0)) where
   part_taken : (a n : ℕ) (xs : List ℤ) → AreTaken takes xs → AreTaken takes (take n (drop a xs))
   part_taken a n xs all = take_taken n (drop a xs) (λ i. subst takes (sym (get_or-drop a xs i (pos 0))) (all (a + i)))
 
-part_at : (f : ℕ → ℤ) (m a n p i : ℕ) (xs : List ℤ) → xs ≡ run 0 m f → p ≡ n → i < n → a + i < m → number_at (take p (drop a xs)) i ≡ f (a + i)
-part_at f m a n p i xs is same below inside =
-    get_or-chunk a p xs i (pos 0) (omega arith) ∙ ap (λ l. number_at l (a + i)) is ∙ get_or-run f 0 m (a + i) (pos 0) inside ∙ ap f (zero-add (a + i))
-
 part_of : {S : Type 0} (value : S → ℤ) (columns : List S) (k a : ℕ) → map value (take k (drop a columns)) ≡ take k (drop a (map value columns))
 part_of value columns k a = sym (take-map value k (drop a columns)) ∙ ap (take k) (sym (drop-map value a columns))
+
+part_at : {S : Type 0} (value : S → ℤ) (f : ℕ → ℤ) (m a n p i : ℕ) (columns : List S) → map value columns ≡ run 0 m f → p ≡ n → i < n → a + i < m → number_at (map value (take p (drop a columns))) i ≡ f (a + i)
+part_at value f m a n p i columns is same below inside =
+    ap (λ l. number_at l i) (part_of value columns p a) ∙ get_or-chunk a p (map value columns) i (pos 0) (omega arith) ∙ ap (λ l. number_at l (a + i)) is
+    ∙ get_or-run f 0 m (a + i) (pos 0) inside ∙ ap f (zero-add (a + i))
 
 -- columns of bytes are taken across
 pub columns_taken : (down : ℤ → ℤ → ℤ → ℤ) {S : Type 0} (value : S → ℤ) (takes : ℤ → Type 0) → takes (pos 0) → ((a b c : ℕ) → a < 256 → b < 256 → c < 256 → takes (down (pos a) (pos b) (pos c)))
@@ -84,32 +80,25 @@ pub columns_taken : (down : ℤ → ℤ → ℤ → ℤ) {S : Type 0} (value : S
 columns_taken down value takes takes_zero law above here below m columns p q r is a n =
     let f : ℕ → ℤ = λ i. down (number_at (map pos above) i) (number_at (map pos here) i) (number_at (map pos below) i) in
     let all : (i : ℕ) → takes (f i) =
-    λ i. subst takes (sym (cc (bytes_at above i, bytes_at here i, bytes_at below i))) (law (get_or above i 0) (get_or here i 0) (get_or below i 0) (p i).fits (q i).fits (r i).fits) in
+    λ i. subst takes (sym (cc (get_or-map pos above i 0, get_or-map pos here i 0, get_or-map pos below i 0))) (law (get_or above i 0) (get_or here i 0) (get_or below i 0) (p i).fits (q i).fits (r i).fits) in
     subst (AreTaken takes) (sym (part_of value columns n a)) (part_taken takes takes_zero a n (map value columns) (subst (AreTaken takes) (sym is) (run_taken takes takes_zero f 0 m all)))
 
 module _ (down across : ℤ → ℤ → ℤ → ℤ) (of_nine : List ℤ → ℤ)
     (law : (a b c d e f g h i : ℤ) → across (down a d g) (down b e h) (down c f i) ≡ of_nine (a ∷ b ∷ c ∷ d ∷ e ∷ f ∷ g ∷ h ∷ i ∷ [])) where
   -- what three columns of three rows give
-  pub by_columns : (above here below : List ℕ) (m n p q r : ℕ) (sums : List ℤ)
-      → sums ≡ run 0 m (λ i. down (number_at (map pos above) i) (number_at (map pos here) i) (number_at (map pos below) i)) → m ≡ n + 2 → p ≡ n → q ≡ n → r ≡ n
-      → run 0 n (λ i. across (number_at (take p (drop 0 sums)) i) (number_at (take q (drop 1 sums)) i) (number_at (take r (drop 2 sums)) i)) ≡ run 0 n (λ i. of_nine (nine_from above here below i))
-  by_columns above here below m n p q r sums is long pp qq rr =
-      run-same _ (λ i. of_nine (nine_from above here below i)) 0 n place
-    where
-      bytes : (i k : ℕ) → i ≡ k → down (number_at (map pos above) i) (number_at (map pos here) i) (number_at (map pos below) i) ≡ down (pos (get_or above k 0)) (pos (get_or here k 0)) (pos (get_or below k 0))
-      bytes i k same = ap (λ j. down (number_at (map pos above) j) (number_at (map pos here) j) (number_at (map pos below) j)) same ∙ cc (bytes_at above k, bytes_at here k, bytes_at below k)
-
-      place : (i : ℕ) → 0 ≤ i → i < 0 + n → across (number_at (take p (drop 0 sums)) i) (number_at (take q (drop 1 sums)) i) (number_at (take r (drop 2 sums)) i) ≡ of_nine (nine_from above here below i)
-      place i _ below_n =
-          let f : ℕ → ℤ = λ i. down (number_at (map pos above) i) (number_at (map pos here) i) (number_at (map pos below) i) in
-          let left = part_at f m 0 n p i sums is pp (omega arith) (omega arith) ∙ bytes (0 + i) i (omega arith) in
-          let middle = part_at f m 1 n q i sums is qq (omega arith) (omega arith) ∙ bytes (1 + i) (i + 1) (omega arith) in
-          let right = part_at f m 2 n r i sums is rr (omega arith) (omega arith) ∙ bytes (2 + i) (i + 2) (omega arith) in
-          cc (left, middle, right, law (pos (get_or above i 0)) (pos (get_or above (i + 1) 0)) (pos (get_or above (i + 2) 0)) (pos (get_or here i 0)) (pos (get_or here (i + 1) 0)) (pos (get_or here (i + 2) 0)) (pos (get_or below i 0)) (pos (get_or below (i + 1) 0)) (pos (get_or below (i + 2) 0)))
-
-  -- the same of what columns give that aren't numbers themselves
   pub across_columns : {S : Type 0} (value : S → ℤ) (above here below : List ℕ) (m n p q r : ℕ) (columns : List S)
       → map value columns ≡ run 0 m (λ i. down (number_at (map pos above) i) (number_at (map pos here) i) (number_at (map pos below) i)) → m ≡ n + 2 → p ≡ n → q ≡ n → r ≡ n
       → run 0 n (λ i. across (number_at (map value (take p (drop 0 columns))) i) (number_at (map value (take q (drop 1 columns))) i) (number_at (map value (take r (drop 2 columns))) i)) ≡ run 0 n (λ i. of_nine (nine_from above here below i))
   across_columns value above here below m n p q r columns is long pp qq rr =
-      rw (part_of value columns p 0, part_of value columns q 1, part_of value columns r 2) (by_columns above here below m n p q r (map value columns) is long pp qq rr)
+      run-same _ (λ i. of_nine (nine_from above here below i)) 0 n place
+    where
+      bytes : (i k : ℕ) → i ≡ k → down (number_at (map pos above) i) (number_at (map pos here) i) (number_at (map pos below) i) ≡ down (pos (get_or above k 0)) (pos (get_or here k 0)) (pos (get_or below k 0))
+      bytes i k same = ap (λ j. down (number_at (map pos above) j) (number_at (map pos here) j) (number_at (map pos below) j)) same ∙ cc (get_or-map pos above k 0, get_or-map pos here k 0, get_or-map pos below k 0)
+
+      place : (i : ℕ) → 0 ≤ i → i < 0 + n → across (number_at (map value (take p (drop 0 columns))) i) (number_at (map value (take q (drop 1 columns))) i) (number_at (map value (take r (drop 2 columns))) i) ≡ of_nine (nine_from above here below i)
+      place i _ below_n =
+          let f : ℕ → ℤ = λ i. down (number_at (map pos above) i) (number_at (map pos here) i) (number_at (map pos below) i) in
+          let left = part_at value f m 0 n p i columns is pp (omega arith) (omega arith) ∙ bytes (0 + i) i (omega arith) in
+          let middle = part_at value f m 1 n q i columns is qq (omega arith) (omega arith) ∙ bytes (1 + i) (i + 1) (omega arith) in
+          let right = part_at value f m 2 n r i columns is rr (omega arith) (omega arith) ∙ bytes (2 + i) (i + 2) (omega arith) in
+          cc (left, middle, right, law (pos (get_or above i 0)) (pos (get_or above (i + 1) 0)) (pos (get_or above (i + 2) 0)) (pos (get_or here i 0)) (pos (get_or here (i + 1) 0)) (pos (get_or here (i + 2) 0)) (pos (get_or below i 0)) (pos (get_or below (i + 1) 0)) (pos (get_or below (i + 2) 0)))

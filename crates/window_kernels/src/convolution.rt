@@ -10,13 +10,12 @@ ghost use Rattle.vx_base.specs.Node.{IsBorder};
 ghost use Rattle.vx_base.specs.Window.{sample_or_border, convolution_result, from_matrix};
 ghost use Rattle.image_core.specs.Fits.{HaveSameSize};
 ghost use Rattle.image_core.specs.Target.{target_image, IsTarget, Writes};
-ghost use Rattle.window_kernels.specs.declared.pieces.TheConstants.{PIECE_WIDTH};
+ghost use Rattle.window_kernels.specs.declared.convolution.TheConstants.{PIECE_WIDTH};
 ghost use Rattle.window_kernels.specs.Fits.{ConvolutionFits};
 ghost use Rattle.lane_rows.specs.Pairs.{IsNear, alternation};
 ghost use Rattle.window_kernels.specs.Rotated.{rotated_coefficient, rotated_tables};
 
-use crate::pieces::PIECE_WIDTH;
-use crate::windows::SampleItem;
+use crate::windows::{SampleItem, with_scratch};
 use border_rows::{load_row, window_valid};
 use image_core::{Image, ImageMut, RowFormula, Sample};
 use lane_rows::{Clamped, MatrixRows};
@@ -77,6 +76,10 @@ fn prove_constant(border: Border)
 {
     if let Border::Constant(_value) = border {}
 }
+
+/// The greatest number of columns in a piece. It limits the scratch memory, which therefore doesn't
+/// grow with the image's width.
+const PIECE_WIDTH: usize = 1024;
 
 /// The number of items loaded in each row beyond the columns of a piece. A whole block of lanes
 /// that begins at the last column reads that far.
@@ -207,24 +210,6 @@ fn write_convolved<T: Convolved>(
     output.write_by_rows::<T, i16, _>(&formula, scratch);
 }
 
-/// `with_rows!(width, rows => call)` makes the call with `rows`, scratch memory on the stack. It
-/// has the size of nine rows of a piece, halo included, for an image of this width. The memory is
-/// zeroed once; a narrow image gets less memory.
-macro_rules! with_rows {
-    ($width:expr, $rows:ident => $call:expr) => {
-        if $width <= 64 {
-            let $rows = &mut [0; 9 * (64 + AROUND)];
-            $call
-        } else if $width <= 512 {
-            let $rows = &mut [0; 9 * (512 + AROUND)];
-            $call
-        } else {
-            let $rows = &mut [0; 9 * (PIECE_WIDTH + AROUND)];
-            $call
-        }
-    };
-}
-
 /// Writes the convolution of a U8 image to a U8 or S16 image of its size.
 fn convolve_with(
     image: &Image<'_>,
@@ -259,7 +244,9 @@ pub fn convolve(
         output.old output.new }
 {
     let _limits = image.valid();
-    with_rows!(image.desc().width(), rows => {
-        convolve_with(image, convolution, output, border, rows)
-    })
+    with_scratch!(
+        image.desc().width(),
+        [0; 9 * (64 + AROUND), 9 * (512 + AROUND), 9 * (PIECE_WIDTH + AROUND)],
+        rows => { convolve_with(image, convolution, output, border, rows) }
+    )
 }

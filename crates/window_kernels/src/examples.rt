@@ -1,14 +1,12 @@
 //! Worked examples: the definitions evaluated on numbers.
 #![tactic(auto, using(crate::proofs::Computed::computed))]
 
-ghost use Rattle.std.specs.Prelude.{◌≡◌, ℤ, List, [], ◌∷◌, pos, negsuc};
+ghost use Rattle.std.specs.Prelude.{◌≡◌, [], ◌∷◌, pos, negsuc};
 ghost use Rattle.vx_base.specs.declared.format.Format.TheVariants.{U8, S16};
 ghost use Rattle.vx_base.specs.declared.border.Border.TheVariants.{Undefined, Constant, Replicate};
 ghost use Rattle.vx_base.specs.Rectangle.{empty_rectangle};
-ghost use Rattle.vx_base.specs.Window.{sample_or_border, nine_around, box_mean, gaussian_mean};
-ghost use Rattle.vx_base.specs.Window.{median};
-ghost use Rattle.vx_base.specs.Window.{least_of, greatest_of, gradient_x, gradient_y, window_valid};
-ghost use Rattle.vx_base.specs.Window.{from_nine, from_matrix};
+ghost use Rattle.vx_base.specs.Window.{sample_or_border, box_mean, gaussian_mean, median, least_of};
+ghost use Rattle.vx_base.specs.Window.{greatest_of, gradient_x, gradient_y, from_nine, from_matrix};
 ghost use Rattle.window_kernels.specs.Examples.{row_of_four, two_by_two, three_by_three, single};
 ghost use Rattle.window_kernels.specs.Examples.{at_centre, upper_left, minus_three};
 

@@ -1,6 +1,5 @@
 //! Facts about the definitions: each function does nothing, and its contract states the fact.
-ghost use Rattle.std.specs.Prelude.{◌≡◌, ◌<◌, ◌≤◌, ℕ, ℤ, pos, true, List, [], ◌∷◌, Contains};
-ghost use Rattle.std.specs.Prelude.{int_lt};
+ghost use Rattle.std.specs.Prelude.{◌≡◌, ◌<◌, ◌≤◌, ℕ, ℤ, pos, true, [], ◌∷◌, Contains, int_lt};
 ghost use Rattle.std.specs.List.{count_by};
 ghost use Rattle.vx_base.specs.declared.format.Format.{Format};
 ghost use Rattle.vx_base.specs.declared.format.Format.TheVariants.{U8, S16};

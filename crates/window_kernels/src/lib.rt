@@ -11,7 +11,7 @@
 //! one.
 //!
 //! `convolve` works on pieces of rows. It loads the samples that a piece's windows read, border
-//! included, for the lane kernel `MatrixRows`. Pieces have a greatest width (`pieces`), so the
+//! included, for the lane kernel `MatrixRows`. Pieces have a greatest width, so the
 //! scratch memory doesn't grow with the image's width.
 //!
 //! No function allocates memory. `examples` evaluates the definitions on numbers, and `laws` states
@@ -24,7 +24,6 @@ pub mod examples;
 mod gradients;
 pub mod laws;
 mod means;
-mod pieces;
 mod ranks;
 mod windows;
 

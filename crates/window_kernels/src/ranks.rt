@@ -65,10 +65,8 @@ pub fn dilate3(image: &Image<'_>, output: &mut ImageMut<'_>, border: Border)
     requires { WindowFits U8 image.now output.old }
     ensures { Writes (from_nine U8 greatest_of border image.now) output.old output.new }
 {
-    let (kernel, _limits) = (
-        ByColumns(ByChoice(Greatest), ByChoice(Greatest)),
-        image.valid(),
-    );
+    let kernel = ByColumns(ByChoice(Greatest), ByChoice(Greatest));
+    let _limits = image.valid();
     with_scratch!(image.desc().width(), [0; SIDE], columns => {
         write_windows::<u8, u8, _>(&kernel, image, output, border, columns)
     })

@@ -16,15 +16,15 @@ use vx_base::{Border, GREATEST_SIDE, Rect};
 
 /// Samples that are also items of lane rows, with the same value: U8 and S16.
 pub trait SampleItem: Sample + Item {
-    ghost same: { (z : Self) → Self.Item.value z ≡ Self.Number.value z };
+    ghost same: { Self.Item.value ≡ Self.Number.value };
 }
 
 impl SampleItem for u8 {
-    ghost same = { λ _. refl };
+    ghost same = { refl };
 }
 
 impl SampleItem for i16 {
-    ghost same = { λ _. refl };
+    ghost same = { refl };
 }
 
 /// A function of a 3x3 window.
@@ -49,9 +49,10 @@ pub trait OfWindow<T: Sample, S> {
             (λ i. formula self.now (nine_from above.now here.now below.now i)) };
 }
 
-/// A U8 image under a border, and the output's valid rectangle.
+/// The results of a window function on a U8 image under a border, and their valid rectangle.
 #[derive(Drop)]
-struct Window<'a, 'b> {
+struct FromNine<'a, 'b, K> {
+    kernel: &'a K,
     image: &'a Image<'b>,
     border: Border,
     /// A row of the border's samples. Windows read it where the border takes no row of the image.
@@ -68,28 +69,18 @@ struct Window<'a, 'b> {
     ghost room: { image.now.width ≤ length off_rows.now },
 }
 
-/// The results of a window function on a U8 image under a border.
-#[derive(Drop)]
-struct FromNine<'a, 'b, K> {
-    kernel: &'a K,
-    window: &'a Window<'a, 'b>,
-}
-
 impl<K> FromNine<'_, '_, K> {
     /// Writes the sample of one pixel.
     fn write_place<T: Sample, S>(&self, x: u16, y: u16, out: &mut [T])
     where
         K: OfWindow<T, S>,
-        requires rows { self.now.window.now.image.now.valid.y0
-            < self.now.window.now.image.now.valid.y1 }
-        requires column { (self.now.window.now.image.now.valid.x0 ≤ x) ×
-            (x < self.now.window.now.image.now.valid.x1) }
+        requires rows { self.now.image.now.valid.y0 < self.now.image.now.valid.y1 }
+        requires column { (self.now.image.now.valid.x0 ≤ x) × (x < self.now.image.now.valid.x1) }
         requires one { length out.old ≡ 1 }
         ensures { map T.value out.new ≡ run x 1 (λ k. K.formula self.now.kernel.now (nine_around
-            (sample_or_border self.now.window.now.image.now self.now.window.now.border) (pos k)
-            (pos y))) }
+            (sample_or_border self.now.image.now self.now.border) (pos k) (pos y))) }
     {
-        let (image, border, line) = (self.window.image, self.window.border, i32::from(y));
+        let (image, border, line) = (self.image, self.border, i32::from(y));
         let above = seen_around(image, x, line - 1, border);
         let here = seen_around(image, x, line, border);
         let below = seen_around(image, x, line + 1, border);
@@ -101,21 +92,15 @@ impl<K> FromNine<'_, '_, K> {
     fn write_inside<T: Sample, S>(&self, x: u16, y: u16, scratch: &mut [S], out: &mut [T])
     where
         K: OfWindow<T, S>,
-        requires rows { self.now.window.now.image.now.valid.y0
-            < self.now.window.now.image.now.valid.y1 }
-        requires columns { (self.now.window.now.image.now.valid.x0 ≤ x) ×
-            (x + length out.old + 2 ≤ self.now.window.now.image.now.valid.x1) }
+        requires rows { self.now.image.now.valid.y0 < self.now.image.now.valid.y1 }
+        requires columns { (self.now.image.now.valid.x0 ≤ x) ×
+            (x + length out.old + 2 ≤ self.now.image.now.valid.x1) }
         requires scratch { K.room * (length out.old + 2) ≤ length scratch.old }
         ensures { map T.value out.new ≡ run (x + 1) (length out.old)
             (λ k. K.formula self.now.kernel.now (nine_around
-            (sample_or_border self.now.window.now.image.now self.now.window.now.border) (pos k)
-            (pos y))) }
+            (sample_or_border self.now.image.now self.now.border) (pos k) (pos y))) }
     {
-        let (image, border, off_rows) = (
-            self.window.image,
-            self.window.border,
-            self.window.off_rows,
-        );
+        let (image, border, off_rows) = (self.image, self.border, self.off_rows);
         let (_valid, line) = (image.valid(), i32::from(y));
         let count = out.len() + 2;
         let above = row_in_place(image, x, line - 1, count, border, off_rows);
@@ -127,17 +112,16 @@ impl<K> FromNine<'_, '_, K> {
 
 impl<T: Sample, S, K: OfWindow<T, S>> RowFormula<T, S> for FromNine<'_, '_, K> {
     ghost at = { λ s x y. K.formula s.kernel.now
-        (nine_around (sample_or_border s.window.now.image.now s.window.now.border) (pos x)
-        (pos y)) };
+        (nine_around (sample_or_border s.image.now s.border) (pos x) (pos y)) };
 
-    ghost area = { λ s. s.window.now.area };
+    ghost area = { λ s. s.area };
 
     ghost most = { λ _. 65535 };
 
-    ghost room = { λ s. K.room * s.window.now.image.now.width };
+    ghost room = { λ s. K.room * s.image.now.width };
 
     fn area(&self) -> Rect {
-        self.window.area
+        self.area
     }
 
     fn most(&self) -> u16 {
@@ -145,7 +129,7 @@ impl<T: Sample, S, K: OfWindow<T, S>> RowFormula<T, S> for FromNine<'_, '_, K> {
     }
 
     fn fill(&self, x: u16, y: u16, scratch: &mut [S], out: &mut [T]) {
-        let (_valid, last) = (self.window.image.valid(), out.len() - 1);
+        let (_valid, last) = (self.image.valid(), out.len() - 1);
         if last == 0 {
             self.write_place::<T, S>(x, y, out);
         } else {
@@ -180,15 +164,12 @@ fn write_windows_with_rows<T: Sample, S, K: OfWindow<T, S>>(
         output.old output.new }
 {
     let area = window_valid(border, 1, 1, image.valid());
-    let window = Window {
+    let formula = FromNine {
+        kernel,
         image,
         border,
         off_rows,
         area,
-    };
-    let formula = FromNine {
-        kernel,
-        window: &window,
     };
     output.write_by_rows::<T, S, _>(&formula, scratch);
 }
@@ -198,14 +179,22 @@ pub const SIDE: usize = GREATEST_SIDE as usize;
 
 /// `with_scratch!(count, [item; most], row => call)` makes the call with `row`, a slice of at least
 /// `count` and at most `most` items on the stack. The slice is initialized once; a small image gets
-/// a short slice.
+/// a short slice. With `[item; small, middle, most]` the slice has one of these lengths: `small` up
+/// to a count of 64, `middle` up to 512.
 macro_rules! with_scratch {
     ($count:expr, [$item:expr; $most:expr], $row:ident => $call:expr) => {
+        with_scratch!($count, [$item; 64, 512, $most], $row => $call)
+    };
+    (
+        $count:expr,
+        [$item:expr; $small:expr, $middle:expr, $most:expr],
+        $row:ident => $call:expr
+    ) => {
         if $count <= 64 {
-            let $row = &mut [$item; 64];
+            let $row = &mut [$item; $small];
             $call
         } else if $count <= 512 {
-            let $row = &mut [$item; 512];
+            let $row = &mut [$item; $middle];
             $call
         } else {
             let $row = &mut [$item; $most];

@@ -1,5 +1,5 @@
 use Rattle.std.proofs.Common.{◌∙◌, ap, arith, length, ◌-◌}
-use Rattle.border_rows.specs.Seen.{border_value}
+use Rattle.border_rows.proofs.Common.{border_value}
 use Rattle.border_rows.proofs.SeenLaws.{edges_are, item_is, seen_in_three}
 use Rattle.border_rows.proofs.seen.load_line.Goals as goal
 

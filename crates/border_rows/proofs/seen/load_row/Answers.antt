@@ -1,8 +1,5 @@
 use Rattle.std.proofs.Common.{◌∙◌, ◌-ℤ◌, ap, sym, length, replicate, pos, w32}
-use Rattle.std.proofs.lemmas.Int.{to_z-of_z}
-use Rattle.vx_base.specs.Window.{sample_or_border}
-use Rattle.vx_base.proofs.TableLaws.{run-same, run-constant}
-use Rattle.border_rows.specs.Seen.{seen_along}
+use Rattle.border_rows.proofs.Common.{run-constant, run-same, sample_or_border, seen_along, to_z-of_z}
 use Rattle.border_rows.proofs.SeenLaws.{row_is, look_along, look_off}
 use Rattle.border_rows.proofs.seen.load_row.Goals as goal
 

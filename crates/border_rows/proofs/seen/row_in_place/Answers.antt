@@ -1,5 +1,5 @@
 use Rattle.std.proofs.Common.{◌∙◌, w32}
-use Rattle.std.proofs.lemmas.Int.{to_z-of_z}
+use Rattle.border_rows.proofs.Common.{to_z-of_z}
 use Rattle.border_rows.proofs.SeenLaws.{row_is, seen_there, seen_nowhere}
 use Rattle.border_rows.proofs.seen.row_in_place.Goals as goal
 

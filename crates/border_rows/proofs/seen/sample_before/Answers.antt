@@ -1,6 +1,5 @@
 use Rattle.std.proofs.Common.{◌∙◌, ◌-◌, ◌-ℤ◌, pos, ap, sym, arith, unsigned_abs}
-use Rattle.std.proofs.lemmas.Int.{ints}
-use Rattle.border_rows.specs.Seen.{border_value}
+use Rattle.border_rows.proofs.Common.{border_value, ints}
 use Rattle.border_rows.proofs.SeenLaws.{edges_are, item_is, seen_inside, seen_left, seen_right}
 use Rattle.border_rows.proofs.seen.sample_before.Goals as goal
 

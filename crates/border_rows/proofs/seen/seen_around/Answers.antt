@@ -1,6 +1,5 @@
 use Rattle.std.proofs.Common.{◌+◌, ℤ, ◌≡◌, ◌∙◌, ◌-ℤ◌, ap, sym, pos, w32, arith}
-use Rattle.std.proofs.lemmas.Int.{to_z-of_z, ints}
-use Rattle.border_rows.specs.Seen.{seen_along}
+use Rattle.border_rows.proofs.Common.{ints, seen_along, to_z-of_z}
 use Rattle.border_rows.proofs.SeenLaws.{row_is, look_along, look_off}
 use Rattle.border_rows.proofs.seen.seen_around.Goals as goal
 

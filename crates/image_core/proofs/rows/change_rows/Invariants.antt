@@ -1,6 +1,5 @@
 use Rattle.std.proofs.Common.{◌≡◌, ◌*◌, map, take, drop}
-use Rattle.vx_base.specs.Image.{band, zero_outside}
-use Rattle.image_core.specs.Rows.{sample_from}
+use Rattle.image_core.proofs.Common.{band, sample_from, zero_outside}
 use Rattle.image_core.proofs.rows.change_rows.Given as goal
 
 abbrev pub invariant-loop-k : goal.invariant-loop-k

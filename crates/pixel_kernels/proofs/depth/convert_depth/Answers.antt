@@ -1,7 +1,6 @@
 use Rattle.std.proofs.Common.{rules}
-use Rattle.vx_base.specs.declared.format.Format.TheVariants.{U8, S16}
-use Rattle.vx_base.specs.Pixelwise.{depth_conversion, from_one}
-use Rattle.image_core.proofs.BandLaws.{in_format}
+use Rattle.pixel_kernels.proofs.Common.{S16, U8, from_one, in_format}
+use Rattle.vx_base.specs.Pixelwise.{depth_conversion}
 use Rattle.pixel_kernels.proofs.depth.convert_depth.Goals as goal
 
 pub returns-in-U8 : goal.returns-in-U8

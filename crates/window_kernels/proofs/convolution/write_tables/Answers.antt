@@ -17,12 +17,11 @@ loop-k-preserved c =
       fits = pair_fits (FitsSigned w16) k _ out c.write_pair.new.out _ _ room c.loop-k.invariant.fits c.write_pair.ensures (subst (FitsSigned w16) (sym first) fits_first) (subst (FitsSigned w16) (sym second) fits_second);
     }
 
-pub returns-clause-value : goal.returns-clause-value
-returns-clause-value c =
+pub returns : goal.returns
+returns c =
     let end : c.loop-k.k ≡ c.args.convolution.now.rows * 5 = omega (arith, c.from-k-end.ensures, c.rows.ensures.value) in
-    sym (take_all (16 * c.loop-k.k) c.loop-k.tables (omega (arith, c.requires))) ∙ c.loop-k.invariant.value ∙ ap (pairs_to c.args.convolution.now) end
-
-pub returns-clause-fits : goal.returns-clause-fits
-returns-clause-fits c =
-    let all = take_all (16 * c.loop-k.k) c.loop-k.tables (omega (arith, c.requires, c.from-k-end.ensures, c.rows.ensures.value)) in
-    λ i d below. Each1-get_or (FitsSigned w16) c.loop-k.tables i d below (subst (Each1 (FitsSigned w16)) all c.loop-k.invariant.fits)
+    let all = take_all (16 * c.loop-k.k) c.loop-k.tables (omega (arith, c.requires, end)) in
+    record {
+      value = sym all ∙ c.loop-k.invariant.value ∙ ap (pairs_to c.args.convolution.now) end;
+      fits = λ i d below. Each1-get_or (FitsSigned w16) c.loop-k.tables i d below (subst (Each1 (FitsSigned w16)) all c.loop-k.invariant.fits);
+    }

@@ -1,7 +1,5 @@
 use Rattle.std.proofs.Common.{◌≡◌, ◌∙◌, ◌-ℤ◌, ◌+◌, ◌*◌, ◌++◌, ap, subst, length, map, take, drop, pos, w32, take_at}
-use Rattle.std.proofs.lemmas.Int.{to_z-of_z}
-use Rattle.vx_base.specs.Image.{run}
-use Rattle.vx_base.specs.Window.{sample_or_border}
+use Rattle.border_rows.proofs.Common.{run, sample_or_border, to_z-of_z}
 use Rattle.border_rows.specs.RowWindow.{RowWindowValue}
 use Rattle.border_rows.proofs.row_window.RowWindow.load.Goals as goal
 

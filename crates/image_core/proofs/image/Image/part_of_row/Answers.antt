@@ -1,4 +1,4 @@
-use Rattle.vx_base.specs.Image.{pixel_at}
+use Rattle.image_core.proofs.Common.{pixel_at}
 use Rattle.image_core.proofs.RowLaws.{part_of}
 use Rattle.image_core.proofs.image.Image.part_of_row.Goals as goal
 

@@ -1,8 +1,5 @@
 use Rattle.std.proofs.Common.{◌≡◌, ◌-◌, ◌*◌, ◌∙◌, ap, sym, arith, pos, true, length, replicate}
-use Rattle.std.proofs.lemmas.List.{length-map}
-use Rattle.vx_base.specs.Image.{ImageValue}
-use Rattle.image_core.specs.Bands.{has_row}
-use Rattle.image_core.specs.Rows.{row_of}
+use Rattle.image_core.proofs.Common.{ImageValue, has_row, length-map, row_of}
 use Rattle.image_core.specs.Slices.{slice_values}
 use Rattle.image_core.proofs.HeldRows.{row_held, row_other, row_in_held}
 use Rattle.image_core.proofs.image.Image.row.Goals as goal

@@ -1,7 +1,6 @@
-use Rattle.std.proofs.Common.{refl, pos}
-use Rattle.vx_base.specs.declared.desc.TheConstants.{GREATEST_SIDE}
+use Rattle.std.proofs.Common.{pos, refl}
 use Rattle.image_core.proofs.HeldRows.{zeros_taken}
 use Rattle.image_core.proofs.sample.I16Sample.zeros.Goals as goal
 
 pub returns : goal.returns
-returns c = zeros_taken (λ z. z) (pos 0) GREATEST_SIDE c.args.count refl c.requires
+returns c = zeros_taken (λ z. z) (pos 0) c.args.count refl c.requires

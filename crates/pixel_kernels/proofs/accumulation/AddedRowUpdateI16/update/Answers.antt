@@ -1,7 +1,6 @@
 use Rattle.std.proofs.Common.{length, map, pos, ap, ◌∙◌, sym, map-id}
 use Rattle.std.specs.Simd.Lanes.{zip2}
-use Rattle.vx_base.specs.Image.{pixel_at}
-use Rattle.vx_base.proofs.TableLaws.{zip2_of_runs}
+use Rattle.pixel_kernels.proofs.Common.{pixel_at, zip2_of_runs}
 use Rattle.pixel_kernels.proofs.accumulation.AddedRowUpdateI16.update.Goals as goal
 
 pub returns : goal.returns

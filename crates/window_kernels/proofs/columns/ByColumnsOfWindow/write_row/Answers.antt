@@ -1,6 +1,5 @@
-use Rattle.std.proofs.Common.{rules, ◌∙◌, length, arith, sym}
+use Rattle.std.proofs.Common.{rules, ◌∙◌, length, arith}
 use Rattle.window_kernels.proofs.WindowLaws.{across_columns, bytes_taken, columns_taken}
-use Rattle.window_kernels.proofs.RowLaws.{same_values}
 use Rattle.window_kernels.proofs.columns.ByColumnsOfWindow.write_row.Goals as goal
 
 pub write-requires-clause-taken : goal.write-requires-clause-taken
@@ -17,6 +16,6 @@ write-requires-2-clause-taken g c =
 
 pub returns : goal.returns
 returns g c =
-    sym (same_values g.T.Item.value g.T.Number.value g.met.T.SampleItem.same c.write-2.new.out) ∙ c.write-2.ensures
+    (rw g.met.T.SampleItem.same at c.write-2.ensures)
     ∙ across_columns g.D.OfColumn.formula g.A.OfColumn.formula g.A.Across.of_nine g.met.A.Across.is_of_nine g.S.Item.value
     c.args.above.now c.args.here.now c.args.below.now _ (length c.args.out.now) _ _ _ c.write.new.out c.write.ensures (search rules) (omega arith) (omega arith) (omega arith)

@@ -1,5 +1,5 @@
 use Rattle.std.proofs.Common.{◌≡◌, ◌∙◌, ◌/◌, ◌-ℤ◌, ap, sym, subst, pos, length, arith, w32, map-id}
-use Rattle.window_kernels.proofs.Common.{Each1, to_z-of_z, run, sample_or_border, IsNear}
+use Rattle.window_kernels.proofs.Common.{Each1, IsNear, run, sample_or_border, to_z-of_z}
 use Rattle.window_kernels.proofs.RowLaws.{looks_up_to}
 use Rattle.window_kernels.proofs.convolution.FromMatrix.load_line.Goals as goal
 

@@ -1,5 +1,5 @@
 use Rattle.std.proofs.Common.{◌≡◌, ◌∙◌, ◌+◌, ◌*◌, ◌/◌, ◌<◌, ◌+ℤ◌, ◌-ℤ◌, ap, sym, subst, pos, length, map, take, arith, map-id, take_all}
-use Rattle.window_kernels.proofs.Common.{Each1, table, sample_or_border, row_fits, IsNear}
+use Rattle.window_kernels.proofs.Common.{Each1, IsNear, row_fits, sample_or_border, table}
 use Rattle.vx_base.proofs.TableLaws.{row_written, length_part}
 use Rattle.window_kernels.proofs.RowLaws.{row_fits_too, row_in_bits, line_seen}
 use Rattle.window_kernels.proofs.convolution.FromMatrix.load_rows.Goals as goal
@@ -28,20 +28,16 @@ loop-l-preserved c =
       limit = row_fits_too (IsNear 255) c.loop-l.rows c.load_line.new.line line l first step _ c.loop-l.invariant.limit at long (omega (arith, size, row_fits line m.rows l below)) c.load_line.ensures.limit;
     }
 
-pub returns-clause-value : goal.returns-clause-value
-returns-clause-value c =
+pub returns : goal.returns
+returns c =
     let s = c.args.self.now in
     let m = s.convolution.now in
     let end : c.loop-l.l ≡ m.rows = omega (arith, c.loop-l-test.false, c.loop-l.auto.l-end, c.rows-count.ensures.value) in
-    let all : length c.loop-l.rows ≡ c.loop-l.l * c.args.line = c.loop-l.auto.rows ∙ c.requires.len ∙ ap (λ n. n * c.args.line) (sym end) in
-    sym (map-id c.loop-l.rows)
-    ∙ ap (map (λ z. z)) (sym (take_all (c.loop-l.l * c.args.line) c.loop-l.rows (omega (arith, all))))
-    ∙ c.loop-l.invariant.value
-    ∙ ap (λ n. table c.args.line n (λ c' i. sample_or_border s.image.now s.border (pos (c.args.x + c') -ℤ pos (m.columns / 2)) (pos c.args.y +ℤ pos (m.rows / 2) -ℤ pos i))) end
-
-pub returns-clause-limit : goal.returns-clause-limit
-returns-clause-limit c =
-    let m = c.args.self.now.convolution.now in
-    let end : c.loop-l.l ≡ m.rows = omega (arith, c.loop-l-test.false, c.loop-l.auto.l-end, c.rows-count.ensures.value) in
-    let all : length c.loop-l.rows ≡ c.loop-l.l * c.args.line = c.loop-l.auto.rows ∙ c.requires.len ∙ ap (λ n. n * c.args.line) (sym end) in
-    subst (Each1 (IsNear 255)) (take_all (c.loop-l.l * c.args.line) c.loop-l.rows (omega (arith, all))) c.loop-l.invariant.limit
+    let size : length c.loop-l.rows ≡ c.loop-l.l * c.args.line = c.loop-l.auto.rows ∙ c.requires.len ∙ ap (λ n. n * c.args.line) (sym end) in
+    let all = take_all (c.loop-l.l * c.args.line) c.loop-l.rows (omega (arith, size)) in
+    record {
+      value =
+          sym (map-id c.loop-l.rows) ∙ ap (map (λ z. z)) (sym all) ∙ c.loop-l.invariant.value
+          ∙ ap (λ n. table c.args.line n (λ c' i. sample_or_border s.image.now s.border (pos (c.args.x + c') -ℤ pos (m.columns / 2)) (pos c.args.y +ℤ pos (m.rows / 2) -ℤ pos i))) end;
+      limit = subst (Each1 (IsNear 255)) all c.loop-l.invariant.limit;
+    }

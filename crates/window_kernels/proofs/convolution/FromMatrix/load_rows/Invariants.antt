@@ -1,5 +1,5 @@
 use Rattle.std.proofs.Common.{◌≡◌, ◌*◌, ◌+◌, ◌/◌, ◌+ℤ◌, ◌-ℤ◌, pos, map, take}
-use Rattle.window_kernels.proofs.Common.{Each1, table, sample_or_border, IsNear}
+use Rattle.window_kernels.proofs.Common.{Each1, IsNear, sample_or_border, table}
 use Rattle.window_kernels.proofs.convolution.FromMatrix.load_rows.Given as goal
 
 abbrev pub invariant-loop-l : goal.invariant-loop-l

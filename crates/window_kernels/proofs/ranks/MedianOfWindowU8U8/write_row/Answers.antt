@@ -1,6 +1,5 @@
 use Rattle.std.proofs.Common.{◌∙◌, ap, arith, length}
-use Rattle.vx_base.proofs.TableLaws.{run-same}
-use Rattle.vx_base.specs.Window.{median}
+use Rattle.window_kernels.proofs.Common.{median, run-same}
 use Rattle.window_kernels.proofs.ranks.MedianOfWindowU8U8.write_row.Goals as goal
 
 pub returns : goal.returns

@@ -1,4 +1,4 @@
-use Rattle.pixel_kernels.proofs.sum.add.Goals as goal
+use Rattle.pixel_kernels.proofs.arithmetic.multiply.Goals as goal
 
 pub returns-in-Wrap : goal.returns-in-Wrap
 returns-in-Wrap c = rw c.in-Wrap.is c.write_arithmetic.ensures

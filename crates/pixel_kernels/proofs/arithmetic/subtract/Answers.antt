@@ -1,4 +1,4 @@
-use Rattle.pixel_kernels.proofs.product.multiply.Goals as goal
+use Rattle.pixel_kernels.proofs.arithmetic.subtract.Goals as goal
 
 pub returns-in-Wrap : goal.returns-in-Wrap
 returns-in-Wrap c = rw c.in-Wrap.is c.write_arithmetic.ensures
