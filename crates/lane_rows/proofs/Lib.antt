@@ -27,5 +27,4 @@ mod DepthLaws
 mod SumLaws
 pub mod BitLaws
 mod PairLaws
-mod AddLaws
 mod MatrixSumLaws
