@@ -18,7 +18,6 @@ mod TallyLaws
 pub mod RunLaws
 pub mod MedianLaws
 mod NineLaws
-mod ChoiceLaws
 mod GradientLaws
 mod AxpyLaws
 mod ThreeLaws
