@@ -1,12 +1,11 @@
 //! Sums and means of three rows of non-negative numbers, for separable windows: first down the
 //! columns of three rows of samples, then across three of these sums.
-ghost use Rattle.std.specs.Prelude.{◌≡◌, ◌+◌, ◌≤◌, ◌+ℤ◌, ◌*ℤ◌, ℕ, ℤ, pos, map, length};
+ghost use Rattle.std.specs.Prelude.{◌≡◌, refl, ◌+◌, ◌≤◌, nat_le, true, ◌+ℤ◌, ◌*ℤ◌, ℕ, ℤ, pos, map, length};
 ghost use Rattle.std.specs.Int.{int_div_euclid};
 ghost use Rattle.std.specs.List.{range_with_len};
 ghost use Rattle.std.specs.Simd.Lanes.{Each1};
 ghost use Rattle.vx_base.specs.Image.{run};
 ghost use Rattle.lane_rows.specs.Threes.{IsUpTo, AreUpTo, number_at, zip3};
-ghost use Rattle.lane_rows.specs.Limits.{greatest_addend, greatest_sum, greatest_weighted_sum};
 
 use crate::columns::OfColumn;
 use crate::indexed::{Indexed, write_indexed};
@@ -96,7 +95,7 @@ trait OfThree<T: SumItem> {
         ensures value { map pos result ≡ zip3 formula (map pos a) (map pos b) (map pos c) }
         ensures most { Each1 (λ n. n ≤ T.most) result };
 
-    ghost small: { limit ≤ 8191 };
+    ghost small: { nat_le limit 8191 ≡ true };
 }
 
 /// A kernel's results for three rows.
@@ -178,7 +177,7 @@ impl OfThree<i16> for SumOfThree {
         a + b + c
     }
 
-    ghost small = { greatest_addend };
+    ghost small = { refl };
 }
 
 /// The sum of three numbers with weights 1, 2, 1.
@@ -198,7 +197,7 @@ impl OfThree<i16> for WeightedSumOfThree {
         a + (b + b) + c
     }
 
-    ghost small = { greatest_addend };
+    ghost small = { refl };
 }
 
 /// A ninth of the sum of three numbers, rounded down.
@@ -218,7 +217,7 @@ impl OfThree<u8> for Ninth {
         (a + b + c) / u16x32::splat(9)
     }
 
-    ghost small = { greatest_sum };
+    ghost small = { refl };
 }
 
 /// A sixteenth of the sum of three numbers with weights 1, 2, 1, rounded down.
@@ -238,7 +237,7 @@ impl OfThree<u8> for Sixteenth {
         (a + (b + b) + c) >> 4
     }
 
-    ghost small = { greatest_weighted_sum };
+    ghost small = { refl };
 }
 
 /// Writes the sum of the three numbers at each index. The numbers are from 0 to 8,191.
