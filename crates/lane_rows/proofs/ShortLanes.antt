@@ -58,18 +58,10 @@ largest_at : (x y : ℤ) → FitsSigned w16 x → FitsSigned w16 y → cond (top
 largest_at x y p q = rw (to_z-of_z w16 x p, to_z-of_z w16 y q, chosen_w16 (int_lt x y) (of_z w16 y) (of_z w16 x)) (greatest_bits (int_lt x y) x y refl)
 
 pub min_fits : (x y : ℤ) → FitsSigned w16 x → FitsSigned w16 y → FitsSigned w16 (int_min x y)
-min_fits x y p q = by (int_lt x y) refl
-  where
-    by : (b : Bool) → int_lt x y ≡ b → FitsSigned w16 (int_min x y)
-    by true h = let e : x ≡ int_min x y = grind (arith, ints, clamps, h) in subst (FitsSigned w16) e p
-    by false h = let e : y ≡ int_min x y = grind (arith, ints, clamps, h) in subst (FitsSigned w16) e q
+min_fits x y p q = record { sfits = first_of (omega (arith, ints, clamps, p.sfits, q.sfits), grind (arith, ints, clamps, p.sfits, q.sfits)) }
 
 pub max_fits : (x y : ℤ) → FitsSigned w16 x → FitsSigned w16 y → FitsSigned w16 (int_max x y)
-max_fits x y p q = by (int_lt x y) refl
-  where
-    by : (b : Bool) → int_lt x y ≡ b → FitsSigned w16 (int_max x y)
-    by true h = let e : y ≡ int_max x y = grind (arith, ints, clamps, h) in subst (FitsSigned w16) e q
-    by false h = let e : x ≡ int_max x y = grind (arith, ints, clamps, h) in subst (FitsSigned w16) e p
+max_fits x y p q = record { sfits = first_of (omega (arith, ints, clamps, p.sfits, q.sfits), grind (arith, ints, clamps, p.sfits, q.sfits)) }
 
 pub smaller_is : (x y : ℤ) → FitsSigned w16 x → FitsSigned w16 y → to_z w16 (cond (top 15 (less (of_z w16 x) (of_z w16 y))) (of_z w16 x) (of_z w16 y)) ≡ int_min x y
 smaller_is x y p q = ap (to_z w16) (smallest_at x y p q) ∙ to_z-of_z w16 (int_min x y) (min_fits x y p q)

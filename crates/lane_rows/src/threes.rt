@@ -111,15 +111,6 @@ struct ThreeAt<'a, A: Addend, T: SumItem, K: OfThree<T>> {
         × AreUpTo K.limit (map A.value second.now) × AreUpTo K.limit (map A.value third.now) },
 }
 
-/// Returns the kernel's result for three items.
-fn of_items<A: Addend, T: SumItem, K: OfThree<T>>(a: A, b: A, c: A) -> T
-    requires { IsUpTo K.limit (A.value a) × IsUpTo K.limit (A.value b)
-        × IsUpTo K.limit (A.value c) }
-    ensures { T.value result ≡ K.formula (A.value a) (A.value b) (A.value c) }
-{
-    K::of_three(a.number(), b.number(), c.number())
-}
-
 impl<A: Addend, T: SumItem, K: OfThree<T>> Indexed<T> for ThreeAt<'_, A, T, K> {
     ghost count = { λ s. length s.first.now };
 
@@ -127,7 +118,7 @@ impl<A: Addend, T: SumItem, K: OfThree<T>> Indexed<T> for ThreeAt<'_, A, T, K> {
         (number_at (map A.value s.second.now) i) (number_at (map A.value s.third.now) i) };
 
     fn item(&self, place: usize) -> T {
-        of_items::<A, T, K>(self.first[place], self.second[place], self.third[place])
+        <K as OfColumn<A, T>>::item(self.first[place], self.second[place], self.third[place])
     }
 
     fn lanes(&self, place: usize, out: &mut [T]) {
@@ -146,7 +137,7 @@ impl<A: Addend, T: SumItem, K: OfThree<T>> OfColumn<A, T> for K {
     ghost takes = { IsUpTo K.limit };
 
     fn item(first: A, second: A, third: A) -> T {
-        of_items::<A, T, K>(first, second, third)
+        K::of_three(first.number(), second.number(), third.number())
     }
 
     fn write(first: &[A], second: &[A], third: &[A], out: &mut [T]) {
