@@ -68,12 +68,10 @@ product_size a b p q =
 pub size_fits : (z : ℤ) → unsigned_abs z ≤ 1073741824 → FitsSigned w32 z
 size_fits z small = fits_signed_from_abs w32 z (omega (arith, small))
 
-pub left_of_32 : (n : ℕ) → n % 4294967296 < 4294967296
-left_of_32 n = omega arith
-
 pub times_lane : (x y : ℤ) → FitsSigned w32 x → FitsSigned w32 y → FitsSigned w32 (x *ℤ y) → (of_z w32 x * of_z w32 y) % 4294967296 ≡ of_z w32 (x *ℤ y)
 times_lane x y p q r =
-    sym (of_z-to_z w32 ((of_z w32 x * of_z w32 y) % 4294967296) (left_of_32 (of_z w32 x * of_z w32 y)))
+    let less : (of_z w32 x * of_z w32 y) % 4294967296 < 4294967296 = omega arith in
+    sym (of_z-to_z w32 ((of_z w32 x * of_z w32 y) % 4294967296) less)
     ∙ ap (of_z w32) (wrapping_mul_is w32 x y p q ∙ int_wrap_fits w32 (x *ℤ y) r)
 
 low_bits : (x : ℤ) → FitsSigned w16 x → of_z w32 x % 65536 ≡ of_z w16 x

@@ -23,24 +23,20 @@ bytes_loaded xs (k ∷ ks) = cc (get_or-map pos xs k 0, bytes_loaded xs ks)
 as_number : (z : ℤ) → IsUpTo 8191 z → to_z w16 (of_z w16 z) ≡ z
 as_number z near = omega (arith, ints, near.0, near.1)
 
-can_be_natural : (z : ℤ) → IsUpTo 8191 z → T (non_neg z) × Fits w16 (nat_abs z)
-can_be_natural (pos n) near = let small : n < 65536 = omega (arith, ints, near.1) in (tt, record { fits = small })
-can_be_natural (negsuc n) near = absurd (omega (arith, ints, near.0))
+natural : (z : ℤ) → IsUpTo 8191 z → (T (non_neg z) × Fits w16 (nat_abs z)) × (pos (nat_abs z) ≡ z)
+natural (pos n) near = let small : n < 65536 = omega (arith, ints, near.1) in ((tt, record { fits = small }), refl)
+natural (negsuc n) near = absurd (omega (arith, ints, near.0))
 
 pub can_all : (xs : List ℤ) → AreUpTo 8191 xs → (ks : List ℕ) → Each1 (λ b. T (non_neg (to_z w16 b)) × Fits w16 (nat_abs (to_z w16 b))) (map (of_z w16) (map (λ k. get_or xs k (pos 0)) ks))
 can_all xs all [] = tt
 can_all xs all (k ∷ ks) =
-    (subst (λ z. T (non_neg z) × Fits w16 (nat_abs z)) (sym (as_number (get_or xs k (pos 0)) (all k))) (can_be_natural (get_or xs k (pos 0)) (all k)), can_all xs all ks)
-
-natural : (z : ℤ) → IsUpTo 8191 z → pos (nat_abs z) ≡ z
-natural (pos n) near = refl
-natural (negsuc n) near = absurd (omega (arith, ints, near.0))
+    (subst (λ z. T (non_neg z) × Fits w16 (nat_abs z)) (sym (as_number (get_or xs k (pos 0)) (all k))) (natural (get_or xs k (pos 0)) (all k)).0, can_all xs all ks)
 
 pub shorts_loaded : (xs : List ℤ) → AreUpTo 8191 xs → (ks : List ℕ) → map pos (map (λ b. nat_abs (to_z w16 b)) (map (of_z w16) (map (λ k. get_or xs k (pos 0)) ks))) ≡ map (number_at xs) ks
 shorts_loaded xs all [] = refl
 shorts_loaded xs all (k ∷ ks) =
     let z = get_or xs k (pos 0) in
-    cc (ap (λ y. pos (nat_abs y)) (as_number z (all k)) ∙ natural z (all k), shorts_loaded xs all ks)
+    cc (ap (λ y. pos (nat_abs y)) (as_number z (all k)) ∙ (natural z (all k)).1, shorts_loaded xs all ks)
 
 pub limited_numbers : (limit : ℕ) (row : List ℤ) (ks : List ℕ) (ns : List ℕ) → AreUpTo limit row → map pos ns ≡ map (number_at row) ks → Each1 (λ n. n ≤ limit) ns
 limited_numbers limit row ks [] all is = tt

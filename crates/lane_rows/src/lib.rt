@@ -72,7 +72,7 @@
 //! | `min9`, `max9`, `median9` | least, greatest, median sample of a window | U8 rows | | |
 //! | `sobel_x` | right column minus left column, with weights 1, 2, 1 | U8 windows | | |
 //! | `sobel_y` | lower row minus upper row, with weights 1, 2, 1 | U8 windows | | |
-//! | `MatrixRows` | s / 2^n, rounded toward zero, clamped | s: samples times matrix, n up to 31 | | |
+//! | `MatrixRows` | s / 2^n, rounded toward zero, clamped | s: matrix times samples, n to 31 | | |
 #![tactic(auto)]
 
 mod accumulation;
