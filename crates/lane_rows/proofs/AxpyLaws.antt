@@ -1,5 +1,5 @@
 -- Coefficients times bytes that are added to sums, in lanes.
-use Rattle.std.proofs.Common.{◌≡◌, ℕ, ℤ, pos, ◌+◌, ◌*◌, ◌%◌, ◌<◌, ◌≤◌, List, [], ◌∷◌, length, map, refl, ap, ◌∙◌, sym, subst, arith, w8, w16, w32, FitsSigned, Fits, to_z, of_z, ◌+ℤ◌, ◌*ℤ◌, unsigned_abs, map-id}
+use Rattle.std.proofs.Common.{◌≡◌, ℕ, ℤ, pos, ◌+◌, ◌*◌, ◌%◌, ◌<◌, ◌≤◌, List, [], ◌∷◌, length, map, refl, ap, ◌∙◌, subst, arith, w8, w16, w32, FitsSigned, Fits, to_z, of_z, ◌+ℤ◌, ◌*ℤ◌, unsigned_abs, map-id}
 use Rattle.lane_rows.proofs.Common.{zip2, Each1, ints, to_z-of_z, int_wrap_fits, fits_signed_from_abs}
 use Rattle.std.specs.Int.{int_wrap}
 use Rattle.std.proofs.lemmas.Int.{wrapping_add_is, unsigned_abs-mul}
