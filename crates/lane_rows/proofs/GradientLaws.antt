@@ -26,10 +26,7 @@ bits a b c d e f ha hb hc hd he hf = omega arith
 lane : (a b c d e f : ℕ) → Fits w8 a → Fits w8 b → Fits w8 c → Fits w8 d → Fits w8 e → Fits w8 f
     → to_z w16 (plus (plus (minus d a) (plus (minus e b) (minus e b))) (minus f c)) ≡ change (a, b, c) (d, e, f)
 lane a b c d e f p q r s t u =
-    ap (to_z w16) (bits a b c d e f p.fits q.fits r.fits s.fits t.fits u.fits) ∙ signed (d + f + 2 * e) (a + c + 2 * b) (omega (arith, s.fits, t.fits, u.fits)) (omega (arith, p.fits, q.fits, r.fits)) ∙ sum
-  where
-    sum : pos (d + f + 2 * e) -ℤ pos (a + c + 2 * b) ≡ change (a, b, c) (d, e, f)
-    sum = omega (arith, ints)
+    ap (to_z w16) (bits a b c d e f p.fits q.fits r.fits s.fits t.fits u.fits) ∙ signed (d + f + 2 * e) (a + c + 2 * b) (omega (arith, s.fits, t.fits, u.fits)) (omega (arith, p.fits, q.fits, r.fits)) ∙ omega (arith, ints)
 
 abbrev pub AreBytes : List ℕ × List ℕ × List ℕ → Type 0
 AreBytes p = Each1 (Fits w8) p.0 × Each1 (Fits w8) p.1 × Each1 (Fits w8) p.2

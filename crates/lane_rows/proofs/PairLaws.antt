@@ -100,15 +100,11 @@ sixteen_sums f p F S first second =
 abbrev pub Added : (ℕ → ℤ) → List ℕ → List ℕ → Type 0
 Added g before after = (f : ℕ → ℤ) → before ≡ map (λ i. bits_of (f i)) (range_with_len 0 16) → after ≡ map (λ i. bits_of (f i +ℤ g i)) (range_with_len 0 16)
 
-plus_none : (x : ℤ) → x ≡ x +ℤ pos 0
-plus_none x = omega (arith, ints)
-
-plus_assoc : (x y z : ℤ) → (x +ℤ y) +ℤ z ≡ x +ℤ (y +ℤ z)
-plus_assoc x y z = omega (arith, ints)
-
 -- nothing is added yet
 pub none_added : (row table : List ℤ) (place : ℕ) (sums : List ℕ) → Added (λ i. row_sum row table 0 (place + 2 * i)) sums sums
-none_added row table place sums f is = is ∙ same_values (λ i. bits_of (f i)) (λ i. bits_of (f i +ℤ pos 0)) (λ k. ap bits_of (plus_none (f k))) (range_with_len 0 16)
+none_added row table place sums f is =
+    let none : (x : ℤ) → x ≡ x +ℤ pos 0 = λ x. omega (arith, ints) in
+    is ∙ same_values (λ i. bits_of (f i)) (λ i. bits_of (f i +ℤ pos 0)) (λ k. ap bits_of (none (f k))) (range_with_len 0 16)
 
 -- one more pair is added
 pub pair_added : (row table : List ℤ) (place j : ℕ) (before sums : List ℕ) (more : List ℤ) → Added (λ i. row_sum row table j (place + 2 * i)) before sums
@@ -118,9 +114,10 @@ pair_added row table place j before sums more so_far is f start =
     let g = pair_at row (first_of_pair table j) (second_of_pair table j) in
     let s : ℕ → ℤ = λ k. row_sum row table j (place + 2 * k) in
     let at : (k : ℕ) → place + 2 * j + 2 * k ≡ place + 2 * k + 2 * j = λ k. omega arith in
+    let regroup : (x y z : ℤ) → (x +ℤ y) +ℤ z ≡ x +ℤ (y +ℤ z) = λ x y z. omega (arith, ints) in
     rw (so_far f start, is, add-one j)
     (same_values (λ k. plus (bits_of (f k +ℤ s k)) (bits_of (g (place + 2 * j + 2 * k)))) (λ k. bits_of (f k +ℤ row_sum row table (suc j) (place + 2 * k)))
-    (λ k. plus_bits (f k +ℤ s k) (g (place + 2 * j + 2 * k)) ∙ ap bits_of (plus_assoc (f k) (s k) (g (place + 2 * j + 2 * k)) ∙ ap (λ q. f k +ℤ (s k +ℤ g q)) (at k))) (range_with_len 0 16))
+    (λ k. plus_bits (f k +ℤ s k) (g (place + 2 * j + 2 * k)) ∙ ap bits_of (regroup (f k) (s k) (g (place + 2 * j + 2 * k)) ∙ ap (λ q. f k +ℤ (s k +ℤ g q)) (at k))) (range_with_len 0 16))
 
 -- all pairs are added, to sums that were given as numbers
 pub all_added : (row table : List ℤ) (place n j : ℕ) (before : List ℤ) (after : List ℕ) → j ≡ n → Added (λ i. row_sum row table j (place + 2 * i)) (map (of_z w32) before) after

@@ -136,9 +136,6 @@ module _ (xs ys zs : List ℕ) (p : length xs ≡ 32) (q : length ys ≡ 32) (r 
       made 1020 255 _ (λ a b c. int_div_euclid (a +ℤ pos 2 *ℤ b +ℤ c) (pos 16)) sixteenth_law _ xs ys zs
       (divided (λ (x y : ℕ). x / 2 ^ y) 4 _ _ xs ys zs (length-sums (doubled.all 32 xs ys) zs (length-all doubled 32 xs ys p q) r) weighted_by_lanes)
 
-pub zip3_of_maps : (f : ℤ → ℤ → ℤ → ℤ) (p q r : ℕ → ℤ) (ks : List ℕ) (xs ys zs : List ℤ) → xs ≡ map p ks → ys ≡ map q ks → zs ≡ map r ks → zip3 f xs ys zs ≡ map (λ k. f (p k) (q k) (r k)) ks
-zip3_of_maps f p q r ks xs ys zs one two three = rw (one, two, three) (zip3-map f p q r ks)
-
 -- ---- one item
 
 pub item_at : {A : Type 0} (value : A → ℤ) (xs : List A) (i : ℕ) (d : A) → i < length xs → value (get_or xs i d) ≡ number_at (map value xs) i

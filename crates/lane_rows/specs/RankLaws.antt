@@ -21,14 +21,8 @@ greater_number x y = grind arith
 
 -- the least of nine numbers, chosen row by row, is the least of all nine
 pub least_is_least : (a b c d e f g h i : ℕ) → pos (chosen_of_nine min a b c d e f g h i) ≡ least_of (pos a ∷ pos b ∷ pos c ∷ pos d ∷ pos e ∷ pos f ∷ pos g ∷ pos h ∷ pos i ∷ [])
-least_is_least = by_rows min int_min lesser_number assoc
-  where
-    assoc : (x y z : ℕ) → min x (min y z) ≡ min (min x y) z
-    assoc x y z = grind arith
+least_is_least = by_rows min int_min lesser_number (λ x y z. grind arith)
 
 -- the greatest of nine numbers, chosen row by row, is the greatest of all nine
 pub greatest_is_greatest : (a b c d e f g h i : ℕ) → pos (chosen_of_nine max a b c d e f g h i) ≡ greatest_of (pos a ∷ pos b ∷ pos c ∷ pos d ∷ pos e ∷ pos f ∷ pos g ∷ pos h ∷ pos i ∷ [])
-greatest_is_greatest = by_rows max int_max greater_number assoc
-  where
-    assoc : (x y z : ℕ) → max x (max y z) ≡ max (max x y) z
-    assoc x y z = grind arith
+greatest_is_greatest = by_rows max int_max greater_number (λ x y z. grind arith)

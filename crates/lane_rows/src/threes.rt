@@ -1,6 +1,7 @@
 //! Sums and means of three rows of non-negative numbers, for separable windows: first down the
 //! columns of three rows of samples, then across three of these sums.
-ghost use Rattle.std.specs.Prelude.{◌≡◌, refl, ◌+◌, ◌≤◌, nat_le, true, ◌+ℤ◌, ◌*ℤ◌, ℕ, ℤ, pos, map, length};
+ghost use Rattle.std.specs.Prelude.{◌≡◌, ◌+◌, ◌≤◌, ◌+ℤ◌, ◌*ℤ◌, ℕ, ℤ, pos, map, length};
+ghost use Rattle.std.specs.Prelude.{nat_le, true, refl};
 ghost use Rattle.std.specs.Int.{int_div_euclid};
 ghost use Rattle.std.specs.List.{range_with_len};
 ghost use Rattle.std.specs.Simd.Lanes.{Each1};

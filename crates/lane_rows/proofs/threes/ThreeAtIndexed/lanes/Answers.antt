@@ -1,7 +1,7 @@
 use Rattle.std.proofs.Common.{◌∙◌, map, leb-true}
 use Rattle.lane_rows.proofs.Common.{range_with_len}
 use Rattle.lane_rows.specs.Threes.{number_at}
-use Rattle.lane_rows.proofs.ThreeLaws.{up_to_more, limited_numbers, zip3_of_maps}
+use Rattle.lane_rows.proofs.ThreeLaws.{up_to_more, limited_numbers, zip3-map}
 use Rattle.lane_rows.proofs.threes.ThreeAtIndexed.lanes.Goals as goal
 
 pub numbers-requires-2-clause-limit : goal.numbers-requires-2-clause-limit
@@ -25,5 +25,5 @@ returns g c =
     let value = g.A.Item.value in
     let rows = c.args.self.now in
     c.store.ensures ∙ c.of_three_lanes-numbers.ensures.value
-    ∙ zip3_of_maps g.K.OfThree.formula (number_at (map value rows.first.now)) (number_at (map value rows.second.now)) (number_at (map value rows.third.now))
-    (range_with_len c.args.place 32) _ _ _ c.numbers.ensures c.numbers-2.ensures c.numbers-3.ensures
+    ∙ rw (c.numbers.ensures, c.numbers-2.ensures, c.numbers-3.ensures)
+    (zip3-map g.K.OfThree.formula (number_at (map value rows.first.now)) (number_at (map value rows.second.now)) (number_at (map value rows.third.now)) (range_with_len c.args.place 32))
