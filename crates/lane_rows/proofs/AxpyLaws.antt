@@ -1,5 +1,5 @@
 -- Coefficients times bytes that are added to sums, in lanes.
-use Rattle.std.proofs.Common.{◌≡◌, ℕ, ℤ, pos, ◌+◌, ◌*◌, ◌%◌, ◌<◌, ◌≤◌, List, [], ◌∷◌, length, map, refl, ap, ◌∙◌, sym, subst, arith, w8, w16, w32, FitsSigned, Fits, to_z, of_z, ◌+ℤ◌, ◌*ℤ◌, unsigned_abs, map-id}
+use Rattle.std.proofs.Common.{◌≡◌, ℕ, ℤ, pos, ◌+◌, ◌*◌, ◌%◌, ◌<◌, ◌≤◌, List, [], ◌∷◌, length, map, refl, ap, ◌∙◌, subst, arith, w8, w16, w32, FitsSigned, Fits, to_z, of_z, ◌+ℤ◌, ◌*ℤ◌, unsigned_abs, map-id}
 use Rattle.lane_rows.proofs.Common.{zip2, Each1, ints, to_z-of_z, int_wrap_fits, fits_signed_from_abs}
 use Rattle.std.specs.Int.{int_wrap}
 use Rattle.std.proofs.lemmas.Int.{wrapping_add_is, unsigned_abs-mul}
@@ -17,9 +17,6 @@ product_fits k a fits small =
 turned : (x y : ℤ) → x *ℤ y ≡ y *ℤ x
 turned x y = grind (arith, ints)
 
-byte_bits : (a : ℕ) → a < 256 → of_z w32 (pos a) ≡ a
-byte_bits a small = omega (arith, ints)
-
 -- the bits of a sum, and of a coefficient times a byte
 abbrev pub after : ℕ → Lanewise ℕ ℤ ℕ
 after k = both (λ a b. (a + b) % 4294967296) (each (of_z w32) other) (both (λ a b. (a * b) % 4294967296) (each (λ a. a) one) (constant k))
@@ -28,8 +25,7 @@ lane : (k s : ℤ) (a : ℕ) → FitsSigned w16 k → Fits w8 a → FitsSigned w
 lane k s a fits byte s_fits =
     let p = (product_fits k a fits byte.fits).1 in
     let a_fits : FitsSigned w32 (pos a) = record { sfits = omega (arith, byte.fits) } in
-    ap (λ n. to_z w32 ((of_z w32 s + (n * of_z w32 k) % 4294967296) % 4294967296)) (sym (byte_bits a byte.fits))
-    ∙ ap (λ n. to_z w32 ((of_z w32 s + n) % 4294967296)) (times_lane (pos a) k a_fits (wider k fits) (subst (FitsSigned w32) (turned k (pos a)) p) ∙ ap (of_z w32) (turned (pos a) k))
+    ap (λ n. to_z w32 ((of_z w32 s + n) % 4294967296)) (times_lane (pos a) k a_fits (wider k fits) (subst (FitsSigned w32) (turned k (pos a)) p) ∙ ap (of_z w32) (turned (pos a) k))
     ∙ wrapping_add_is w32 s (k *ℤ pos a) s_fits p
 
 -- one by one

@@ -1,6 +1,6 @@
 -- Names that several proofs use. Declares nothing.
 pub use Rattle.lane_rows.specs.MatrixRows.{matrix_sum}
-pub use Rattle.lane_rows.specs.Pairs.{IsNear, IsPairTable, alternation, evens_of, first_of_pair, line_of, odds_of, pair_at, row_sum, second_of_pair, sum_of_rows}
+pub use Rattle.lane_rows.specs.Pairs.{IsNear, IsPairTable, alternation, first_of_pair, line_of, pair_at, row_sum, second_of_pair, sum_of_rows}
 pub use Rattle.lane_rows.specs.Quarters.{swap_quarters}
 pub use Rattle.lane_rows.specs.Running.{sum_below, sums_below}
 pub use Rattle.lane_rows.specs.Tallies.{count_at, count_in_all}

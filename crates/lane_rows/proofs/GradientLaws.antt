@@ -1,11 +1,13 @@
 -- Gradients in lanes.
 use Rattle.std.proofs.Common.{◌≡◌, ℕ, ℤ, pos, ◌+◌, ◌-◌, ◌*◌, ◌%◌, ◌<◌, ◌≤◌, ◌-ℤ◌, List, [], ◌∷◌, length, map, refl, ap, ◌∙◌, sym, arith, w8, w16, to_z, Fits, subst}
 use Rattle.lane_rows.proofs.Common.{range_with_len, zip2, ints, put_chunk_whole, Each1}
+use Rattle.std.specs.Prelude.{slice_index}
 use Rattle.std.specs.Simd.Lanes.{put_chunk}
 use Rattle.vx_base.specs.Image.{run}
 use Rattle.vx_base.specs.Window.{gradient_x, gradient_y}
 use Rattle.vx_base.proofs.TableLaws.{length-run}
-use Rattle.lane_rows.specs.Windows.{nine_of, change}
+use Rattle.lane_rows.specs.Windows.{lanes_of, three_of, nine_of, change}
+use Rattle.lane_rows.specs.declared.nine_rows.Three.{Three}
 
 -- the bits of signed lanes are added and subtracted modulo 2 ^ 16
 abbrev plus : ℕ → ℕ → ℕ
@@ -24,36 +26,33 @@ bits a b c d e f ha hb hc hd he hf = omega arith
 lane : (a b c d e f : ℕ) → Fits w8 a → Fits w8 b → Fits w8 c → Fits w8 d → Fits w8 e → Fits w8 f
     → to_z w16 (plus (plus (minus d a) (plus (minus e b) (minus e b))) (minus f c)) ≡ change (a, b, c) (d, e, f)
 lane a b c d e f p q r s t u =
-    ap (to_z w16) (bits a b c d e f p.fits q.fits r.fits s.fits t.fits u.fits) ∙ signed (d + f + 2 * e) (a + c + 2 * b) (omega (arith, s.fits, t.fits, u.fits)) (omega (arith, p.fits, q.fits, r.fits)) ∙ sum
-  where
-    sum : pos (d + f + 2 * e) -ℤ pos (a + c + 2 * b) ≡ change (a, b, c) (d, e, f)
-    sum = omega (arith, ints)
+    ap (to_z w16) (bits a b c d e f p.fits q.fits r.fits s.fits t.fits u.fits) ∙ signed (d + f + 2 * e) (a + c + 2 * b) (omega (arith, s.fits, t.fits, u.fits)) (omega (arith, p.fits, q.fits, r.fits)) ∙ omega (arith, ints)
 
--- of six vectors of bytes
-abbrev lanes : (a b c d e f : List ℕ) → List ℤ
-lanes a b c d e f =
-    let wide : List ℕ → List ℕ = map (λ n. n) in
-    let less : List ℕ → List ℕ → List ℕ = zip2 minus in
-    map (to_z w16) (zip2 plus (zip2 plus (less (wide d) (wide a)) (zip2 plus (less (wide e) (wide b)) (less (wide e) (wide b)))) (less (wide f) (wide c)))
+abbrev pub AreBytes : List ℕ × List ℕ × List ℕ → Type 0
+AreBytes p = Each1 (Fits w8) p.0 × Each1 (Fits w8) p.1 × Each1 (Fits w8) p.2
 
-module _ (a b c d e f : ℕ → ℕ) where
-  abbrev at : ℕ → ℤ
-  at i = change (a i, b i, c i) (d i, e i, f i)
+-- the weighted sum of three vectors of bytes minus that of three others
+abbrev lanes : (from to : List ℕ × List ℕ × List ℕ) → List ℤ
+lanes from to =
+    let less : List ℕ → List ℕ → List ℕ = λ xs ys. zip2 minus (map (λ n. n) xs) (map (λ n. n) ys) in
+    map (to_z w16) (zip2 plus (zip2 plus (less to.0 from.0) (zip2 plus (less to.1 from.1) (less to.1 from.1))) (less to.2 from.2))
 
-  by_lanes : (ks : List ℕ) → Each1 (Fits w8) (map a ks) → Each1 (Fits w8) (map b ks) → Each1 (Fits w8) (map c ks) → Each1 (Fits w8) (map d ks) → Each1 (Fits w8) (map e ks) → Each1 (Fits w8) (map f ks)
-      → lanes (map a ks) (map b ks) (map c ks) (map d ks) (map e ks) (map f ks) ≡ map at ks
-  by_lanes [] p q r s t u = refl
-  by_lanes (k ∷ ks) p q r s t u = cc (lane (a k) (b k) (c k) (d k) (e k) (f k) p.0 q.0 r.0 s.0 t.0 u.0, by_lanes ks p.1 q.1 r.1 s.1 t.1 u.1)
+abbrev items : Three → List ℕ → List ℕ × List ℕ × List ℕ
+items rows ks = (map (slice_index rows.left.now) ks, map (slice_index rows.middle.now) ks, map (slice_index rows.right.now) ks)
 
-  -- what is stored of 32 places
-  pub changes_stored : (place : ℕ) (out : List ℤ) (p q r s t u : List ℕ) → length out ≡ 32 → Each1 (Fits w8) p → Each1 (Fits w8) q → Each1 (Fits w8) r → Each1 (Fits w8) s → Each1 (Fits w8) t → Each1 (Fits w8) u
-      → p ≡ map a (range_with_len place 32) → q ≡ map b (range_with_len place 32) → r ≡ map c (range_with_len place 32) → s ≡ map d (range_with_len place 32) → t ≡ map e (range_with_len place 32) → u ≡ map f (range_with_len place 32)
-      → put_chunk 0 out (lanes p q r s t u) ≡ run place 32 at
-  changes_stored place out p q r s t u room fp fq fr fs ft fu pp qq rr ss tt1 uu =
-      let is : lanes p q r s t u ≡ run place 32 at =
-      rw (pp, qq, rr, ss, tt1, uu)
-      (by_lanes (range_with_len place 32) (subst (Each1 (Fits w8)) pp fp) (subst (Each1 (Fits w8)) qq fq) (subst (Each1 (Fits w8)) rr fr) (subst (Each1 (Fits w8)) ss fs) (subst (Each1 (Fits w8)) tt1 ft) (subst (Each1 (Fits w8)) uu fu)) in
-      put_chunk_whole out (lanes p q r s t u) (room ∙ sym (ap length is ∙ length-run at place 32)) ∙ is
+abbrev changed : Three → Three → ℕ → ℤ
+changed from to i = change (three_of from i) (three_of to i)
+
+by_lanes : (from to : Three) (ks : List ℕ) → AreBytes (items from ks) → AreBytes (items to ks) → lanes (items from ks) (items to ks) ≡ map (changed from to) ks
+by_lanes from to [] p q = refl
+by_lanes from to (k ∷ ks) p q = cc (lane _ _ _ _ _ _ p.0.0 p.1.0 p.2.0 q.0.0 q.1.0 q.2.0, by_lanes from to ks (p.0.1, p.1.1, p.2.1) (q.0.1, q.1.1, q.2.1))
+
+-- what is stored of 32 places
+pub changes_stored : (from to : Three) (place : ℕ) (out : List ℤ) (p q : List ℕ × List ℕ × List ℕ) → length out ≡ 32 → p ≡ lanes_of from place → q ≡ lanes_of to place → AreBytes p → AreBytes q
+    → put_chunk 0 out (lanes p q) ≡ run place 32 (changed from to)
+changes_stored from to place out p q room pp qq fp fq =
+    let is : lanes p q ≡ run place 32 (changed from to) = rw (pp, qq) (by_lanes from to (range_with_len place 32) (subst AreBytes pp fp) (subst AreBytes qq fq)) in
+    put_chunk_whole out (lanes p q) (room ∙ sym (ap length is ∙ length-run (changed from to) place 32)) ∙ is
 
 pub x_is_x : (above here below : ℕ × ℕ × ℕ) → change (above.0, here.0, below.0) (above.2, here.2, below.2) ≡ gradient_x (nine_of above here below)
 x_is_x above here below = omega (arith, ints)

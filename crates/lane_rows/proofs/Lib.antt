@@ -18,7 +18,6 @@ mod TallyLaws
 pub mod RunLaws
 pub mod MedianLaws
 mod NineLaws
-mod ChoiceLaws
 mod GradientLaws
 mod AxpyLaws
 mod ThreeLaws
@@ -27,5 +26,4 @@ mod DepthLaws
 mod SumLaws
 pub mod BitLaws
 mod PairLaws
-mod AddLaws
 mod MatrixSumLaws

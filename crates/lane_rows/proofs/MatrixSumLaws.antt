@@ -1,24 +1,20 @@
 -- Rows of a matrix that are added one after another.
-use Rattle.std.proofs.Common.{◌≡◌, ℕ, ℤ, pos, zero, get_or, ◌+◌, ◌-◌, ◌*◌, ◌<◌, ◌≤◌, List, [], ◌∷◌, ◌++◌, length, map, take, drop, replicate, refl, ap, ◌∙◌, sym, subst, arith, add-one, suc, w32, to_z, of_z, ◌+ℤ◌, unsigned_abs, All}
-use Rattle.lane_rows.proofs.Common.{MatrixRows, matrix_sum, Each1, chunk, pick_l, length-map, Each1-chunk, length-chunk, to_z-of_z, run, run-same, IsNear, row_sum, line_of, sum_of_rows}
-use Rattle.std.proofs.lemmas.Simd.{Each1-replicate, Each1-from_get_or}
-use Rattle.lane_rows.proofs.BitLaws.{picked, fits_32, each_fits_32, up_to_more, Each1-append}
-use Rattle.lane_rows.proofs.ShortLaws.{of_bits}
+use Rattle.std.proofs.Common.{◌≡◌, ℕ, ℤ, pos, zero, suc, get_or, ◌+◌, ◌-◌, ◌*◌, ◌<◌, ◌≤◌, List, [], ◌∷◌, ◌++◌, length, map, take, drop, replicate, refl, ap, ◌∙◌, sym, subst, arith, add-one, w16, w32, to_z, of_z, ◌*ℤ◌, unsigned_abs, FitsSigned, All}
+use Rattle.lane_rows.proofs.Common.{MatrixRows, matrix_sum, Each1, chunk, pick_l, ints, range_with_len, Each1-chunk, length-chunk, to_z-of_z, fits_signed_from_abs, run, run-same, IsNear, row_sum, line_of, sum_of_rows}
+use Rattle.std.specs.Int.{int_wrap}
+use Rattle.std.proofs.lemmas.Int.{int_wrap_fits, unsigned_abs-mul}
+use Rattle.std.proofs.lemmas.Nat.{mul-le}
+use Rattle.std.proofs.lemmas.Simd.{Each1-from_get_or}
+use Rattle.lane_rows.specs.Pairs.{AreAdded, sum_of_first}
+use Rattle.lane_rows.proofs.BitLaws.{bits_of}
+use Rattle.lane_rows.proofs.PairLaws.{read_run, same_values, each_at}
+use Rattle.lane_rows.proofs.ShortLaws.{abs_16}
 
 -- one row of several in a list
 pub row_cut : {A : Type 0} (items : List A) (first line step l : ℕ) → first ≡ l → step ≡ line → take (first * step + step - first * step) (drop (first * step) items) ≡ chunk (l * line) line items
 row_cut items first line step l is same =
     let e : first * step + step - first * step ≡ step = omega arith in
     rw (e, is, same) refl
-
--- the sums at sixteen places, in bits, once l rows of a matrix are added
-pub record AreSums (m : MatrixRows) (place l : ℕ) (now : List ℕ) : Type 0 where
-  pub value : map (to_z w32) now ≡ run 0 16 (λ i. sum_of_rows m.rows.now m.line m.tables.now m.pairs l (place + 2 * i))
-  pub len : length now ≡ 16
-  pub limit : Each1 (IsNear (l * 83558400)) (map (to_z w32) now)
-
-zeros_up_to : Each1 (IsNear 0) (replicate 16 (pos 0))
-zeros_up_to = let none : unsigned_abs (pos 0) ≤ 0 = omega arith in Each1-replicate (IsNear 0) 16 (pos 0) none
 
 -- a row of items that are near, or fit
 pub each_of_row : (P : ℤ → Type 0) (items row : List ℤ) (line l : ℕ) → All P items → row ≡ line_of items line l → Each1 P row
@@ -27,82 +23,55 @@ each_of_row P items row line l all is = subst (Each1 P) (sym is) (Each1-chunk P 
 pub length_row : (items row : List ℤ) (line l : ℕ) → row ≡ line_of items line l → l * line + line ≤ length items → length row ≡ line
 length_row items row line l is room = ap length is ∙ length-chunk (l * line) line items room
 
--- no row is added yet
-pub no_row_added : (m : MatrixRows) (place : ℕ) → AreSums m place 0 (replicate 16 0)
-no_row_added m place = record { value = refl; len = refl; limit = zeros_up_to }
+-- ---- sums at sixteen places, as bits
 
-module _ (m : MatrixRows) (place l : ℕ) (sums : List ℕ) (are : AreSums m place l sums) where
-  -- the bound on sums to which a row is added
-  pub sums_up_to : l < 9 → m.pairs ≤ 5 → Each1 (IsNear ((45 - m.pairs) * 16711680)) (map (to_z w32) sums)
-  sums_up_to few some = up_to_more (l * 83558400) ((45 - m.pairs) * 16711680) (map (to_z w32) sums) (omega arith) are.limit
+-- the sums over the first l rows, at every second place from `at` on
+abbrev pub first_rows : MatrixRows → ℕ → ℕ → List ℕ
+first_rows m l at = map (λ i. bits_of (sum_of_rows m.rows.now m.line m.tables.now m.pairs l (at + 2 * i))) (range_with_len 0 16)
 
-  pub length_sums : length (map (to_z w32) sums) ≡ 16
-  length_sums = length-map sums (to_z w32) ∙ are.len
+pub no_rows : (m : MatrixRows) (at : ℕ) → replicate 16 0 ≡ first_rows m 0 at
+no_rows m at = ap (λ z. replicate 16 (of_z w32 z)) (sym (int_wrap_fits w32 (pos 0) (record { sfits = omega arith })))
 
-  -- one more row is added
-  pub row_added : (next row table : List ℤ) → row ≡ line_of m.rows.now m.line l → table ≡ line_of m.tables.now 80 l → l < 9 → m.pairs ≤ 5
-      → ((f : ℕ → ℤ) → map (to_z w32) sums ≡ run 0 16 f → next ≡ run 0 16 (λ i. f i +ℤ row_sum row table m.pairs (place + 2 * i)))
-      → length next ≡ 16 → ((limit : ℕ) → Each1 (IsNear limit) (map (to_z w32) sums) → Each1 (IsNear (limit + m.pairs * 16711680)) next)
-      → AreSums m place (l + 1) (map (of_z w32) next)
-  row_added next row table is_row is_table few some value len limit =
-      let S = λ (n i : ℕ). sum_of_rows m.rows.now m.line m.tables.now m.pairs n (place + 2 * i) in
-      let near = up_to_more (l * 83558400 + m.pairs * 16711680) ((l + 1) * 83558400) next (omega arith) (limit (l * 83558400) are.limit) in
-      let same : map (to_z w32) (map (of_z w32) next) ≡ next = of_bits w32 next (each_fits_32 ((l + 1) * 83558400) (omega arith) next near) in
-      record {
-        value = rw (same, value (S l) are.value, is_row, is_table, add-one l) refl;
-        len = length-map next (of_z w32) ∙ len;
-        limit = subst (Each1 (IsNear ((l + 1) * 83558400))) (sym same) near;
-      }
+pub row_added : (m : MatrixRows) (l at : ℕ) (sums : List ℕ) (next row table : List ℤ) → sums ≡ first_rows m l at → row ≡ line_of m.rows.now m.line l → table ≡ line_of m.tables.now 80 l
+    → AreAdded (λ i. row_sum row table m.pairs (at + 2 * i)) (map (to_z w32) sums) next → map (of_z w32) next ≡ first_rows m (l + 1) at
+row_added m l at sums next row table are is_row is_table added =
+    let s : ℕ → ℤ = λ i. sum_of_rows m.rows.now m.line m.tables.now m.pairs l (at + 2 * i) in
+    rw (added s (ap (map (to_z w32)) are ∙ read_run s 16), is_row, is_table, add-one l) refl
 
-  -- all rows are added
-  pub all_rows_added : l ≡ m.count → map (to_z w32) sums ≡ run 0 16 (λ i. matrix_sum m (place + 2 * i))
-  all_rows_added end = are.value ∙ ap (λ n. run 0 16 (λ i. sum_of_rows m.rows.now m.line m.tables.now m.pairs n (place + 2 * i))) end
+pub all_rows : (m : MatrixRows) (l at : ℕ) (sums : List ℕ) → sums ≡ first_rows m l at → l ≡ m.count → map (to_z w32) sums ≡ run 0 16 (λ i. int_wrap w32 (matrix_sum m (at + 2 * i)))
+all_rows m l at sums are end =
+    ap (map (to_z w32)) (are ∙ ap (λ n. first_rows m n at) end) ∙ read_run (λ i. matrix_sum m (at + 2 * i)) 16
 
-  pub all_rows_up_to : l ≤ 9 → Each1 (IsNear 752025600) (map (to_z w32) sums)
-  all_rows_up_to few = up_to_more (l * 83558400) 752025600 (map (to_z w32) sums) (omega arith) are.limit
+-- ---- no sum wraps
+
+sum_up_to : (limit n : ℕ) (g : ℕ → ℤ) → ((k : ℕ) → k < n → IsNear limit (g k)) → IsNear (n * limit) (sum_of_first n g)
+sum_up_to limit zero g near = omega arith
+sum_up_to limit (suc n) g near = omega (arith, ints, near n (omega arith), sum_up_to limit n g (λ k below. near k (omega arith)))
+
+product_up_to : (a b : ℤ) → IsNear 255 a → FitsSigned w16 b → IsNear 8355840 (a *ℤ b)
+product_up_to a b near fits =
+    let bound : unsigned_abs a * unsigned_abs b ≤ 255 * 32768 = mul-le (unsigned_abs a) (unsigned_abs b) 255 32768 near (abs_16 b fits) in
+    rw (unsigned_abs-mul a b) (omega arith)
+
+pub matrix_sum_fits : (m : MatrixRows) (p : ℕ) → FitsSigned w32 (matrix_sum m p)
+matrix_sum_fits m p =
+    let row : (l k : ℕ) → IsNear 255 (get_or (line_of m.rows.now m.line l) k (pos 0)) = λ l k. each_at (IsNear 255) (pos 0) _ k (each_of_row (IsNear 255) m.rows.now _ m.line l m.near refl) (omega arith) in
+    let table : (l k : ℕ) → FitsSigned w16 (get_or (line_of m.tables.now 80 l) k (pos 0)) = λ l k. each_at (FitsSigned w16) (pos 0) _ k (each_of_row (FitsSigned w16) m.tables.now _ 80 l m.fits refl) (record { sfits = omega arith }) in
+    let product : (l j k i : ℕ) → IsNear 8355840 (get_or (line_of m.rows.now m.line l) k (pos 0) *ℤ get_or (line_of m.tables.now 80 l) i (pos 0)) = λ l j k i. product_up_to _ _ (row l k) (table l i) in
+    let one : (l : ℕ) → IsNear (m.pairs * 16711680) (row_sum (line_of m.rows.now m.line l) (line_of m.tables.now 80 l) m.pairs p) = λ l. sum_up_to 16711680 m.pairs _ (λ j _. omega (arith, ints, product l j (p + 2 * j) (16 * j), product l j (p + 2 * j + 1) (16 * j + 1))) in
+    let few : m.pairs * 16711680 ≤ 83558400 = omega (arith, m.few.1) in
+    let all : IsNear (m.count * 83558400) (matrix_sum m p) = sum_up_to 83558400 m.count _ (λ l _. omega (arith, one l, few)) in
+    fits_signed_from_abs w32 (matrix_sum m p) (omega (arith, all, m.few.0))
 
 -- ---- even places and odd ones, in turn
 
-near_at : (P : ℤ → Type 0) (xs : List ℤ) (k : ℕ) → Each1 P xs → P (pos 0) → P (get_or xs k (pos 0))
-near_at P [] k each none = none
-near_at P (x ∷ xs) zero each none = each.0
-near_at P (x ∷ xs) (suc k) each none = near_at P xs k each.1 none
-
-each_picked : (P : ℤ → Type 0) (xs : List ℤ) (ks : List ℕ) → Each1 P xs → P (pos 0) → Each1 P (pick_l (pos 0) xs ks)
-each_picked P xs [] each none = tt
-each_picked P xs (k ∷ ks) each none = (near_at P xs k each none, each_picked P xs ks each none)
-
-stored : List ℕ → List ℤ
-stored bits = map (λ b. to_z w32 (of_z w32 (to_z w32 b))) bits
-
-stored_bits : (xs : List ℤ) → Each1 (IsNear 752025600) xs → stored (map (of_z w32) xs) ≡ xs
-unfolding stored
-stored_bits [] near = refl
-stored_bits (x ∷ xs) near =
-    let same = to_z-of_z w32 x (fits_32 752025600 (omega arith) x near.0) in
-    cc (ap (λ z. to_z w32 (of_z w32 z)) same ∙ same, stored_bits xs near.1)
-
-in_turn : List ℕ
-in_turn = 0 ∷ 16 ∷ 1 ∷ 17 ∷ 2 ∷ 18 ∷ 3 ∷ 19 ∷ 4 ∷ 20 ∷ 5 ∷ 21 ∷ 6 ∷ 22 ∷ 7 ∷ 23 ∷ 8 ∷ 24 ∷ 9 ∷ 25 ∷ 10 ∷ 26 ∷ 11 ∷ 27 ∷ 12 ∷ 28 ∷ 13 ∷ 29 ∷ 14 ∷ 30 ∷ 15 ∷ 31 ∷ []
-
-near_in_turn : (E O : List ℤ) → Each1 (IsNear 752025600) E → Each1 (IsNear 752025600) O → Each1 (IsNear 752025600) (pick_l (pos 0) (E ++ O) in_turn)
-near_in_turn E O even odd =
-    let none : unsigned_abs (pos 0) ≤ 752025600 = omega arith in
-    each_picked (IsNear 752025600) (E ++ O) in_turn (Each1-append (IsNear 752025600) E O even odd) none
-
-bits_in_turn : (E O : List ℤ) → Each1 (IsNear 752025600) E → Each1 (IsNear 752025600) O → stored (pick_l 0 (map (of_z w32) E ++ map (of_z w32) O) in_turn) ≡ pick_l (pos 0) (E ++ O) in_turn
-bits_in_turn E O even odd = ap stored (picked w32 E O in_turn refl) ∙ stored_bits (pick_l (pos 0) (E ++ O) in_turn) (near_in_turn E O even odd)
-
-runs_in_turn : (g : ℕ → ℤ) → pick_l (pos 0) (run 0 16 (λ i. g (2 * i)) ++ run 0 16 (λ i. g (2 * i + 1))) in_turn ≡ run 0 32 g
-unfolding in_turn
-runs_in_turn g = refl
-
 -- the sums of a block as they are stored
-pub block_stored : (f : ℕ → ℤ) (place : ℕ) (E O : List ℤ) → E ≡ run 0 16 (λ i. f (place + 2 * i)) → O ≡ run 0 16 (λ i. f (place + 1 + 2 * i)) → Each1 (IsNear 752025600) E → Each1 (IsNear 752025600) O
+pub block_stored : (f : ℕ → ℤ) (place : ℕ) (E O : List ℤ) → ((p : ℕ) → FitsSigned w32 (f p)) → E ≡ run 0 16 (λ i. int_wrap w32 (f (place + 2 * i))) → O ≡ run 0 16 (λ i. int_wrap w32 (f (place + 1 + 2 * i)))
     → map (λ b. to_z w32 (of_z w32 (to_z w32 b))) (pick_l 0 (map (of_z w32) E ++ map (of_z w32) O) (0 ∷ 16 ∷ 1 ∷ 17 ∷ 2 ∷ 18 ∷ 3 ∷ 19 ∷ 4 ∷ 20 ∷ 5 ∷ 21 ∷ 6 ∷ 22 ∷ 7 ∷ 23 ∷ 8 ∷ 24 ∷ 9 ∷ 25 ∷ 10 ∷ 26 ∷ 11 ∷ 27 ∷ 12 ∷ 28 ∷ 13 ∷ 29 ∷ 14 ∷ 30 ∷ 15 ∷ 31 ∷ []))
     ≡ run 0 32 (λ i. f (place + i))
-unfolding stored in_turn
-block_stored f place E O e o even odd =
+block_stored f place E O fits e o =
     let at : (k : ℕ) → place + 1 + 2 * k ≡ place + (2 * k + 1) = λ k. omega arith in
-    let others = o ∙ run-same (λ i. f (place + 1 + 2 * i)) (λ i. f (place + (2 * i + 1))) 0 16 (λ k a b. ap f (at k)) in
-    bits_in_turn E O even odd ∙ rw (e, others) (runs_in_turn (λ i. f (place + i)))
+    let even = e ∙ run-same _ (λ i. f (place + 2 * i)) 0 16 (λ k _ _. int_wrap_fits w32 (f (place + 2 * k)) (fits (place + 2 * k))) in
+    let odd = o ∙ run-same _ (λ i. f (place + (2 * i + 1))) 0 16 (λ k _ _. ap (λ j. int_wrap w32 (f j)) (at k) ∙ int_wrap_fits w32 (f (place + (2 * k + 1))) (fits (place + (2 * k + 1)))) in
+    let stored : (k : ℕ) → to_z w32 (of_z w32 (to_z w32 (of_z w32 (f (place + k))))) ≡ f (place + k) = λ k. let same = to_z-of_z w32 (f (place + k)) (fits (place + k)) in ap (λ z. to_z w32 (of_z w32 z)) same ∙ same in
+    rw (even, odd) (same_values (λ k. to_z w32 (of_z w32 (to_z w32 (of_z w32 (f (place + k)))))) (λ k. f (place + k)) stored (range_with_len 0 32))

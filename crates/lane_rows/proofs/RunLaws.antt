@@ -1,5 +1,5 @@
 -- Rows that are written as runs, block by block and item by item.
-use Rattle.std.proofs.Common.{◌≡◌, ℕ, ℤ, ◌+◌, ◌-◌, ◌*◌, ◌/◌, ◌%◌, ◌<◌, ◌≤◌, min, List, length, map, take, drop, get_or, ap, ◌∙◌, sym, arith, zero-add, take-take, take_all}
+use Rattle.std.proofs.Common.{◌≡◌, ℕ, ℤ, ◌+◌, ◌-◌, ◌*◌, ◌≤◌, min, List, length, map, take, drop, get_or, ap, ◌∙◌, sym, arith, zero-add, take-take, take_all}
 use Rattle.lane_rows.proofs.Common.{range_with_len, chunk, length-map, map-append, take-put_mid, put_mid}
 use Rattle.std.proofs.lemmas.Simd.{pick_l-range_with_len}
 use Rattle.vx_base.specs.Image.{run}
@@ -45,14 +45,6 @@ block_written value g out ws k m n e size end begun before long is =
     let more : min (32 * (k + 1)) n ≡ 32 * k + length ws = omega (arith, long, end) in
     part_written value g out ws (32 * k) m (min (32 * (k + 1)) n) (omega (arith, size)) more
     (ap (λ i. map value (take i out)) (sym first) ∙ before ∙ ap (λ i. run 0 i g) first) is
-
--- blocks that are not all written yet begin in the row
-pub block_begins : (n k : ℕ) → k < n / 32 + min 1 (n % 32) → 32 * k ≤ n
-block_begins n k h = omega arith
-
--- after the last block the row ends
-pub blocks_end : (n k : ℕ) → n / 32 + min 1 (n % 32) ≤ k → min (32 * k) n ≡ n
-blocks_end n k h = omega arith
 
 -- the whole row is written
 pub whole_run : {T : Type 0} (value : T → ℤ) (g : ℕ → ℤ) (out : List T) (i n : ℕ) → length out ≡ n → i ≡ n → map value (take i out) ≡ run 0 i g → map value out ≡ run 0 n g

@@ -4,8 +4,9 @@ use Rattle.lane_rows.proofs.Common.{sum, range_with_len, take-add, map-append, s
 use Rattle.std.specs.Simd.Lanes.{zip2, Each1, pick_l, chunk, put_chunk}
 use Rattle.std.proofs.lemmas.List.{take_more_set}
 use Rattle.std.proofs.lemmas.List.FromFn.{map-range_with_len_more}
-use Rattle.std.proofs.lemmas.Simd.{pick_l_whole, Each1-get_or, put_chunk_whole, pick_l-range_with_len}
+use Rattle.std.proofs.lemmas.Simd.{pick_l_whole, Each1-get_or, put_chunk_whole}
 use Rattle.std.proofs.lemmas.Slice.{take-put_mid}
+use Rattle.lane_rows.proofs.RunLaws.{loaded_is}
 use borrow.Rule.Slice.PartMut.{put_mid}
 
 -- each lane plus the lane that `ks` selects for it, or 0
@@ -89,13 +90,6 @@ cut xs i = take (i + 16 - i) (drop i xs)
 cut_is : (xs : List ℕ) (i : ℕ) → cut xs i ≡ take 16 (drop i xs)
 cut_is xs i = let e : i + 16 - i ≡ 16 = omega arith in ap (λ n. take n (drop i xs)) e
 
-loaded_is : (xs : List ℕ) (i : ℕ) → i + 16 ≤ length xs → chunk 0 16 (cut xs i) ≡ map (λ k. get_or xs k 0) (range_with_len i 16)
-loaded_is xs i inside = ap (take 16) (cut_is xs i) ∙ take-take 16 16 (drop i xs) (omega arith) ∙ sym (pick_l-range_with_len 0 xs i 16 inside)
-
--- a sum modulo 2 ^ 32 of a sum modulo 2 ^ 32
-pub sum_wraps : (a b c : ℕ) → a ≡ c % 4294967296 → (a + b) % 4294967296 ≡ (c + b) % 4294967296
-sum_wraps a b c is = omega arith
-
 module _ (row above : List ℕ) (i : ℕ) (inside : i + 16 ≤ length row) where
   sum_after : (j : ℕ) → j ≤ 16 → sum (take j (chunk 0 16 (cut row i))) + sum (take i row) ≡ sum (take (i + j) row)
   sum_after j below =
@@ -123,7 +117,7 @@ module _ (row above : List ℕ) (i : ℕ) (inside : i + 16 ≤ length row) where
   pub block_is : (sums total : List ℕ) → i + 16 ≤ length above → sums ≡ first_sums (chunk 0 16 (cut row i)) → total ≡ replicate 8 (sum (take i row) % 4294967296)
       → plus (chunk 0 16 (cut above i)) (plus sums (doubled total)) ≡ map (sum_below above row) (range_with_len i 16)
   block_is sums total room are is =
-      rw (loaded_is above i room, are, is) (along (λ k. sum (take k (chunk 0 16 (cut row i)))) (sum_below above row) (λ k. get_or above k 0) (sum (take i row) % 4294967296) 1 i 16 lane)
+      rw (loaded_is 16 above i 0 room, are, is) (along (λ k. sum (take k (chunk 0 16 (cut row i)))) (sum_below above row) (λ k. get_or above k 0) (sum (take i row) % 4294967296) 1 i 16 lane)
 
   -- the sums in a row once the block is written
   pub block_written : (block out : List ℕ) (n m : ℕ) → n ≡ i + 16 → length out ≡ length row → block ≡ map (sum_below above row) (range_with_len i 16)
@@ -142,11 +136,7 @@ module _ (row above : List ℕ) (i : ℕ) (inside : i + 16 ≤ length row) where
 -- the sum of the row with one more sample
 pub total_more : (row : List ℕ) (k total x : ℕ) → k < length row → total ≡ sum (take k row) % 4294967296 → x ≡ get_or row k 0 → (total + x) % 4294967296 ≡ sum (take (k + 1) row) % 4294967296
 total_more row k total x below is at =
-    sum_wraps total x (sum (take k row)) is ∙ ap (λ n. n % 4294967296) (omega (arith, at, sum_by_more (λ n. n) row k 0 below))
-
--- the sum below a place
-pub place_sum : (above row : List ℕ) (k total : ℕ) → total ≡ sum (take (k + 1) row) % 4294967296 → (get_or above k 0 + total) % 4294967296 ≡ sum_below above row k
-place_sum above row k total is = omega (arith, is)
+    omega (arith, is, at, sum_by_more (λ n. n) row k 0 below)
 
 pub place_written : (g : ℕ → ℕ) (out : List ℕ) (k v : ℕ) → k < length out → take k out ≡ map g (range_with_len 0 k) → v ≡ g k → take (k + 1) (set out k v) ≡ map g (range_with_len 0 (k + 1))
 place_written g out k v room before is =

@@ -57,16 +57,13 @@ power_small k few =
 ones_left : (k : ℕ) → k ≤ 31 → 1 * 2 ^ k % 4294967296 - 1 ≡ 2 ^ k - 1
 ones_left k few = let small : 2 ^ k ≤ 2147483648 = pow_mono few in omega (arith, small)
 
-ones_are : (k : ℕ) → k ≤ 31 → to_z w32 (1 * 2 ^ k % 4294967296 - 1) ≡ pos (2 ^ k - 1)
-ones_are k few = ap (to_z w32) (ones_left k few) ∙ to_z_pos w32 (2 ^ k - 1) (power_small k few)
-
 -- a number below 0, raised before it is shifted
 pub below_scaled : (z : ℤ) (k : ℕ) → FitsSigned w32 z → k ≤ 31 → int_lt z (pos 0) ≡ true
     → to_z w32 (of_z w32 (shr_z (to_z w32 (of_z w32 (to_z w32 (of_z w32 z) +ℤ to_z w32 (1 * 2 ^ k % 4294967296 - 1)))) (2 ^ k))) ≡ int_div z (pos (2 ^ k))
 below_scaled z k f few below =
     let sum = z +ℤ pos (2 ^ k - 1) in
     let fits : FitsSigned w32 sum = raised_fits z (2 ^ k - 1) below f (power_small k few) in
-    rw (to_z-of_z w32 z f, ones_are k few, to_z-of_z w32 sum fits, to_z-of_z w32 (shr_z sum (2 ^ k)) (shift_fits sum (2 ^ k) fits)) (below_zero z (2 ^ k) below (pow_pos k))
+    rw (to_z-of_z w32 z f, ap (to_z w32) (ones_left k few) ∙ to_z_pos w32 (2 ^ k - 1) (power_small k few), to_z-of_z w32 sum fits, to_z-of_z w32 (shr_z sum (2 ^ k)) (shift_fits sum (2 ^ k) fits)) (below_zero z (2 ^ k) below (pow_pos k))
 
 -- ---- in lanes
 
@@ -83,16 +80,14 @@ summed : (x y : ℤ) (p : ℕ) → FitsSigned w32 x → FitsSigned w32 y → Fit
     → to_z w32 (of_z w32 (shr_z (to_z w32 ((of_z w32 x + of_z w32 y) % 4294967296)) p)) ≡ shr_z (x +ℤ y) p
 summed x y p f g h = rw (wrapping_add_is w32 x y f g, int_wrap_fits w32 (x +ℤ y) h) (to_z-of_z w32 (shr_z (x +ℤ y) p) (shift_fits (x +ℤ y) p h))
 
-kept : (z : ℤ) → z ≡ z +ℤ pos 0
-kept z = omega (arith, ints)
-
 scaled_by : (b : Bool) (z : ℤ) (k : ℕ) → int_lt z (pos 0) ≡ b → FitsSigned w32 z → k ≤ 31
     → to_z w32 (of_z w32 (shr_z (to_z w32 ((of_z w32 z + cond (top 31 (cond b 4294967295 0)) (of_z w32 (pos (2 ^ k - 1))) 0) % 4294967296)) (2 ^ k))) ≡ int_div z (pos (2 ^ k))
 scaled_by true z k below f few =
     let small = power_small k few in
     summed z (pos (2 ^ k - 1)) (2 ^ k) f (record { sfits = small }) (raised_fits z (2 ^ k - 1) below f small) ∙ below_zero z (2 ^ k) below (pow_pos k)
 scaled_by false z k above f few =
-    summed z (pos 0) (2 ^ k) f (record { sfits = omega arith }) (subst (FitsSigned w32) (kept z) f) ∙ from_zero z (2 ^ k) above
+    let same : z ≡ z +ℤ pos 0 = omega (arith, ints) in
+    summed z (pos 0) (2 ^ k) f (record { sfits = omega arith }) (subst (FitsSigned w32) same f) ∙ from_zero z (2 ^ k) above
 
 pub scaled_are : (k s : ℕ) (zs : List ℤ) → s ≡ k → k ≤ 31 → length zs ≡ 16 → Each1 (FitsSigned w32) zs
     → map (to_z w32) ((scaled (1 * 2 ^ k % 4294967296 - 1) s).all 16 zs zs) ≡ map (λ z. int_div z (pos (2 ^ k))) zs

@@ -5,7 +5,6 @@ use Rattle.lane_rows.proofs.Common.{zip2, Each1, ints, clamps, to_z-of_z, int_wr
 use Rattle.std.proofs.lemmas.Int.{wrapping_add_is, wrapping_sub_is}
 use Rattle.vx_base.specs.Sample.{distance}
 use Rattle.vx_base.specs.Pixelwise.{sum, difference, absolute_difference, smaller, greater}
-use Rattle.lane_rows.proofs.LaneLaws.{chosen_w16}
 use Rattle.lane_rows.proofs.ShortLaws.{of_bits, told, wider, widened}
 use Rattle.lane_rows.proofs.Lanewise.{Lanewise, one, other, each, both, chosen, pairs_are, map-zip2, each_of}
 
@@ -43,33 +42,21 @@ shorts_are e w f us vs p q ps qs at =
 
 -- ---- at one lane
 
-least_bits : (b : Bool) (x y : ℤ) → int_lt x y ≡ b → cond b (of_z w16 x) (of_z w16 y) ≡ of_z w16 (int_min x y)
-least_bits true x y h = let e : x ≡ int_min x y = grind (arith, ints, clamps, h) in ap (of_z w16) e
-least_bits false x y h = let e : y ≡ int_min x y = grind (arith, ints, clamps, h) in ap (of_z w16) e
-
-greatest_bits : (b : Bool) (x y : ℤ) → int_lt x y ≡ b → cond b (of_z w16 y) (of_z w16 x) ≡ of_z w16 (int_max x y)
-greatest_bits true x y h = let e : y ≡ int_max x y = grind (arith, ints, clamps, h) in ap (of_z w16) e
-greatest_bits false x y h = let e : x ≡ int_max x y = grind (arith, ints, clamps, h) in ap (of_z w16) e
+chosen_bits : (b : Bool) (x y z : ℤ) → cond b x y ≡ z → cond (top 15 (cond b 65535 0)) (of_z w16 x) (of_z w16 y) ≡ of_z w16 z
+chosen_bits true x y z is = ap (of_z w16) is
+chosen_bits false x y z is = ap (of_z w16) is
 
 smallest_at : (x y : ℤ) → FitsSigned w16 x → FitsSigned w16 y → cond (top 15 (less (of_z w16 x) (of_z w16 y))) (of_z w16 x) (of_z w16 y) ≡ of_z w16 (int_min x y)
-smallest_at x y p q = rw (to_z-of_z w16 x p, to_z-of_z w16 y q, chosen_w16 (int_lt x y) (of_z w16 x) (of_z w16 y)) (least_bits (int_lt x y) x y refl)
+smallest_at x y p q = rw (to_z-of_z w16 x p, to_z-of_z w16 y q) (chosen_bits (int_lt x y) x y (int_min x y) (grind (arith, ints, clamps)))
 
 largest_at : (x y : ℤ) → FitsSigned w16 x → FitsSigned w16 y → cond (top 15 (less (of_z w16 x) (of_z w16 y))) (of_z w16 y) (of_z w16 x) ≡ of_z w16 (int_max x y)
-largest_at x y p q = rw (to_z-of_z w16 x p, to_z-of_z w16 y q, chosen_w16 (int_lt x y) (of_z w16 y) (of_z w16 x)) (greatest_bits (int_lt x y) x y refl)
+largest_at x y p q = rw (to_z-of_z w16 x p, to_z-of_z w16 y q) (chosen_bits (int_lt x y) y x (int_max x y) (grind (arith, ints, clamps)))
 
 pub min_fits : (x y : ℤ) → FitsSigned w16 x → FitsSigned w16 y → FitsSigned w16 (int_min x y)
-min_fits x y p q = by (int_lt x y) refl
-  where
-    by : (b : Bool) → int_lt x y ≡ b → FitsSigned w16 (int_min x y)
-    by true h = let e : x ≡ int_min x y = grind (arith, ints, clamps, h) in subst (FitsSigned w16) e p
-    by false h = let e : y ≡ int_min x y = grind (arith, ints, clamps, h) in subst (FitsSigned w16) e q
+min_fits x y p q = record { sfits = first_of (omega (arith, ints, clamps, p.sfits, q.sfits), grind (arith, ints, clamps, p.sfits, q.sfits)) }
 
 pub max_fits : (x y : ℤ) → FitsSigned w16 x → FitsSigned w16 y → FitsSigned w16 (int_max x y)
-max_fits x y p q = by (int_lt x y) refl
-  where
-    by : (b : Bool) → int_lt x y ≡ b → FitsSigned w16 (int_max x y)
-    by true h = let e : y ≡ int_max x y = grind (arith, ints, clamps, h) in subst (FitsSigned w16) e q
-    by false h = let e : x ≡ int_max x y = grind (arith, ints, clamps, h) in subst (FitsSigned w16) e p
+max_fits x y p q = record { sfits = first_of (omega (arith, ints, clamps, p.sfits, q.sfits), grind (arith, ints, clamps, p.sfits, q.sfits)) }
 
 pub smaller_is : (x y : ℤ) → FitsSigned w16 x → FitsSigned w16 y → to_z w16 (cond (top 15 (less (of_z w16 x) (of_z w16 y))) (of_z w16 x) (of_z w16 y)) ≡ int_min x y
 smaller_is x y p q = ap (to_z w16) (smallest_at x y p q) ∙ to_z-of_z w16 (int_min x y) (min_fits x y p q)

@@ -1,5 +1,5 @@
 -- Numbers of 16 bits in lanes: their products in 32 bits.
-use Rattle.std.proofs.Common.{rules, ◌≡◌, ℕ, ℤ, pos, negsuc, suc, ◌+◌, ◌-◌, ◌*◌, ◌/◌, ◌%◌, ◌^◌, ◌<◌, ◌≤◌, List, [], ◌∷◌, ◌++◌, map, length, take, take_all, refl, ap, ◌∙◌, sym, subst, arith, w16, w32, FitsSigned, to_z, of_z, ◌*ℤ◌, unsigned_abs}
+use Rattle.std.proofs.Common.{rules, ◌≡◌, ℕ, ℤ, pos, negsuc, ◌+◌, ◌*◌, ◌/◌, ◌%◌, ◌^◌, ◌<◌, ◌≤◌, List, [], ◌∷◌, ◌++◌, map, length, take, take_all, refl, ap, ◌∙◌, sym, subst, arith, w16, w32, FitsSigned, to_z, of_z, ◌*ℤ◌, unsigned_abs}
 use Rattle.lane_rows.proofs.Common.{shr_z, range_with_len, zip2, Each1, pick_l, number_l, digits_l, ints, to_z-of_z, int_wrap_fits, fits_signed_from_abs, length-zip2, length-map, swap_quarters, Width}
 use Rattle.std.proofs.lemmas.Int.{of_z-to_z, wrapping_mul_is, unsigned_abs-mul}
 use Rattle.std.proofs.lemmas.Nat.{mul-le, mul-mod}
@@ -68,24 +68,19 @@ product_size a b p q =
 pub size_fits : (z : ℤ) → unsigned_abs z ≤ 1073741824 → FitsSigned w32 z
 size_fits z small = fits_signed_from_abs w32 z (omega (arith, small))
 
-pub left_of_32 : (n : ℕ) → n % 4294967296 < 4294967296
-left_of_32 n = omega arith
-
 pub times_lane : (x y : ℤ) → FitsSigned w32 x → FitsSigned w32 y → FitsSigned w32 (x *ℤ y) → (of_z w32 x * of_z w32 y) % 4294967296 ≡ of_z w32 (x *ℤ y)
 times_lane x y p q r =
-    sym (of_z-to_z w32 ((of_z w32 x * of_z w32 y) % 4294967296) (left_of_32 (of_z w32 x * of_z w32 y)))
+    let less : (of_z w32 x * of_z w32 y) % 4294967296 < 4294967296 = omega arith in
+    sym (of_z-to_z w32 ((of_z w32 x * of_z w32 y) % 4294967296) less)
     ∙ ap (of_z w32) (wrapping_mul_is w32 x y p q ∙ int_wrap_fits w32 (x *ℤ y) r)
 
 low_bits : (x : ℤ) → FitsSigned w16 x → of_z w32 x % 65536 ≡ of_z w16 x
 low_bits (pos n) p = let e = p.sfits in omega (arith, e)
 low_bits (negsuc n) p = let e = p.sfits in omega (arith, e)
 
-below_shifted : (n : ℕ) → n < 2147483648 → 65536 - suc (n / 65536) ≡ (4294967296 - suc n) / 65536
-below_shifted n small = omega (arith, small)
-
 high_of : (z : ℤ) → FitsSigned w32 z → of_z w16 (shr_z z 65536) ≡ of_z w32 z / 65536
 high_of (pos n) p = refl
-high_of (negsuc n) p = let e = p.sfits in below_shifted n (omega (arith, e))
+high_of (negsuc n) p = let e = p.sfits in omega (arith, e)
 
 high_bits : (z : ℤ) → FitsSigned w32 z → of_z w16 (to_z w32 (of_z w32 (shr_z (to_z w32 (of_z w32 z)) 65536))) ≡ of_z w32 z / 65536
 high_bits z p = rw (to_z-of_z w32 z p, to_z-of_z w32 (shr_z z 65536) (shift_fits z 65536 p)) (high_of z p)
@@ -97,13 +92,10 @@ widened a p = ap (of_z w32) (to_z-of_z w16 a p)
 product_bits : (a b : ℤ) → FitsSigned w16 a → FitsSigned w16 b → (of_z w32 (to_z w16 (of_z w16 a)) * of_z w32 (to_z w16 (of_z w16 b))) % 4294967296 ≡ of_z w32 (a *ℤ b)
 product_bits a b p q = rw (widened a p, widened b q) (times_lane a b (wider a p) (wider b q) (size_fits (a *ℤ b) (product_size a b p q)))
 
-twice_left : (n : ℕ) → n % 4294967296 % 65536 ≡ n % 65536
-twice_left n = omega arith
-
 low_half : (a b : ℤ) → FitsSigned w16 a → FitsSigned w16 b → (of_z w16 a * of_z w16 b) % 65536 ≡ of_z w32 (a *ℤ b) % 65536
 low_half a b p q =
     rw (← low_bits a p, ← low_bits b q, ← mul-mod (of_z w32 a) (of_z w32 b) 65536, ← times_lane a b (wider a p) (wider b q) (size_fits (a *ℤ b) (product_size a b p q)))
-    (sym (twice_left (of_z w32 a * of_z w32 b)))
+    (omega arith)
 
 high_half : (a b : ℤ) → FitsSigned w16 a → FitsSigned w16 b
     → of_z w16 (to_z w32 (of_z w32 (shr_z (to_z w32 ((of_z w32 (to_z w16 (of_z w16 a)) * of_z w32 (to_z w16 (of_z w16 b))) % 4294967296)) 65536))) ≡ of_z w32 (a *ℤ b) / 65536

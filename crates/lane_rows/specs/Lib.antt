@@ -5,7 +5,6 @@ pub mod Windows
 pub mod Ranks
 pub mod RankLaws
 pub mod Threes
-pub mod Limits
 pub mod Axpy
 pub mod Chosen
 pub mod Pairs

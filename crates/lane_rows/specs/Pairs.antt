@@ -1,24 +1,14 @@
 -- Sums of samples times coefficients, taken in pairs.
 use Rattle.std.specs.Prelude.{ℕ, zero, suc, ℤ, pos, ◌≡◌, ◌+◌, ◌*◌, ◌≤◌, ◌<◌, ◌+ℤ◌, ◌*ℤ◌, List, [], ◌∷◌, slice_index_or, unsigned_abs}
+use Rattle.std.specs.Int.{w32, int_wrap}
 use Rattle.std.specs.Simd.Lanes.{chunk}
+use Rattle.vx_base.specs.Image.{run}
 
 -- the absolute value is at most the limit. The limit is 8355840 (255 * 32768) for a U8 sample times
 -- an S16 coefficient, and twice that for a pair of products. The sum of 45 pairs, as many as the
 -- nine rows of a matrix can have, has the limit 752025600, which is below 2^31.
 abbrev pub IsNear : ℕ → ℤ → Type 0
 IsNear limit z = unsigned_abs z ≤ limit
-
--- the items at even indices
-abbrev pub evens_of : {A : Type 0} → List A → List A
-evens_of [] = []
-evens_of (x ∷ []) = x ∷ []
-evens_of (x ∷ y ∷ zs) = x ∷ evens_of zs
-
--- the items at odd indices
-abbrev pub odds_of : {A : Type 0} → List A → List A
-odds_of [] = []
-odds_of (x ∷ []) = []
-odds_of (x ∷ y ∷ zs) = y ∷ odds_of zs
 
 -- two numbers in alternation, n times each
 abbrev pub alternation : ℕ → ℤ → ℤ → List ℤ
@@ -50,6 +40,10 @@ IsPairTable n table = (j : ℕ) → j < n → chunk (16 * j) 16 table ≡ altern
 -- the samples at p + 2 j and p + 2 j + 1
 abbrev pub row_sum : List ℤ → List ℤ → ℕ → ℕ → ℤ
 row_sum row table n p = sum_of_first n (λ j. pair_at row (first_of_pair table j) (second_of_pair table j) (p + 2 * j))
+
+-- at 16 indices the values of g are added to sums, modulo 2 ^ 32
+abbrev pub AreAdded : (ℕ → ℤ) → List ℤ → List ℤ → Type 0
+AreAdded g before after = (f : ℕ → ℤ) → before ≡ run 0 16 (λ i. int_wrap w32 (f i)) → after ≡ run 0 16 (λ i. int_wrap w32 (f i +ℤ g i))
 
 -- row l of items that hold rows of length `line`
 abbrev pub line_of : List ℤ → ℕ → ℕ → List ℤ

@@ -2,23 +2,14 @@
 -- numbers.
 use Rattle.std.specs.Prelude.{ℕ, ℤ, ◌≡◌, [], ◌∷◌, pos, min, max}
 use Rattle.std.specs.Int.{int_min, int_max}
-use Rattle.std.proofs.Common.{arith, ap, ◌∙◌}
+use Rattle.std.proofs.Common.{arith}
 use Rattle.vx_base.specs.Window.{least_of, greatest_of}
 use Rattle.lane_rows.specs.Ranks.{chosen_of_nine}
 
 -- for an associative operation `lo` on natural numbers that agrees with `op` on integers
 module _ (lo : ℕ → ℕ → ℕ) (op : ℤ → ℤ → ℤ) (as_number : (x y : ℕ) → pos (lo x y) ≡ op (pos x) (pos y)) (assoc : (x y z : ℕ) → lo x (lo y z) ≡ lo (lo x y) z) where
-  one_after_another : (r d e f : ℕ) → lo r (lo (lo d e) f) ≡ lo (lo (lo r d) e) f
-  one_after_another r d e f = assoc r (lo d e) f ∙ ap (λ z. lo z f) (assoc r d e)
-
-  numbers : (a b c d e f g h i : ℕ) → pos (lo (lo (lo (lo (lo (lo (lo (lo a b) c) d) e) f) g) h) i) ≡ op (op (op (op (op (op (op (op (pos a) (pos b)) (pos c)) (pos d)) (pos e)) (pos f)) (pos g)) (pos h)) (pos i)
-  numbers a b c d e f g h i = simp as_number
-
   by_rows : (a b c d e f g h i : ℕ) → pos (chosen_of_nine lo a b c d e f g h i) ≡ op (op (op (op (op (op (op (op (pos a) (pos b)) (pos c)) (pos d)) (pos e)) (pos f)) (pos g)) (pos h)) (pos i)
-  by_rows a b c d e f g h i =
-      ap (λ z. pos (lo z (lo (lo g h) i))) (one_after_another (lo (lo a b) c) d e f)
-      ∙ ap pos (one_after_another (lo (lo (lo (lo (lo a b) c) d) e) f) g h i)
-      ∙ numbers a b c d e f g h i
+  by_rows a b c d e f g h i = simp assoc (simp as_number)
 
 -- the smaller of two natural numbers is also the smaller of them as integers
 pub lesser_number : (x y : ℕ) → pos (min x y) ≡ int_min (pos x) (pos y)
@@ -30,14 +21,8 @@ greater_number x y = grind arith
 
 -- the least of nine numbers, chosen row by row, is the least of all nine
 pub least_is_least : (a b c d e f g h i : ℕ) → pos (chosen_of_nine min a b c d e f g h i) ≡ least_of (pos a ∷ pos b ∷ pos c ∷ pos d ∷ pos e ∷ pos f ∷ pos g ∷ pos h ∷ pos i ∷ [])
-least_is_least = by_rows min int_min lesser_number assoc
-  where
-    assoc : (x y z : ℕ) → min x (min y z) ≡ min (min x y) z
-    assoc x y z = grind arith
+least_is_least = by_rows min int_min lesser_number (λ x y z. grind arith)
 
 -- the greatest of nine numbers, chosen row by row, is the greatest of all nine
 pub greatest_is_greatest : (a b c d e f g h i : ℕ) → pos (chosen_of_nine max a b c d e f g h i) ≡ greatest_of (pos a ∷ pos b ∷ pos c ∷ pos d ∷ pos e ∷ pos f ∷ pos g ∷ pos h ∷ pos i ∷ [])
-greatest_is_greatest = by_rows max int_max greater_number assoc
-  where
-    assoc : (x y z : ℕ) → max x (max y z) ≡ max (max x y) z
-    assoc x y z = grind arith
+greatest_is_greatest = by_rows max int_max greater_number (λ x y z. grind arith)

@@ -1,11 +1,17 @@
 -- 3 x 3 windows of bytes, held in nine rows.
-use Rattle.std.specs.Prelude.{ℕ, ℤ, pos, ◌+◌, ◌+ℤ◌, ◌-ℤ◌, ◌*ℤ◌, List, [], ◌∷◌, length, slice_index}
+use Rattle.std.specs.Prelude.{ℕ, ℤ, pos, ◌+◌, ◌+ℤ◌, ◌-ℤ◌, ◌*ℤ◌, List, [], ◌∷◌, length, map, slice_index}
+use Rattle.std.specs.List.{range_with_len}
 use Rattle.lane_rows.specs.declared.nine_rows.Three.{Three}
 use Rattle.lane_rows.specs.declared.nine_rows.Nine.{Nine}
 
 -- the items of three rows at one index
 abbrev pub three_of : Three → ℕ → ℕ × ℕ × ℕ
 three_of rows i = (slice_index rows.left.now i, slice_index rows.middle.now i, slice_index rows.right.now i)
+
+-- the 32 items of each of three rows from an index on
+abbrev pub lanes_of : Three → ℕ → List ℕ × List ℕ × List ℕ
+lanes_of rows place =
+    (map (slice_index rows.left.now) (range_with_len place 32), map (slice_index rows.middle.now) (range_with_len place 32), map (slice_index rows.right.now) (range_with_len place 32))
 
 -- nine bytes in row-major order, as numbers
 abbrev pub nine_of : ℕ × ℕ × ℕ → ℕ × ℕ × ℕ → ℕ × ℕ × ℕ → List ℤ

@@ -1,12 +1,11 @@
 //! Sobel gradients of 3 x 3 windows. OpenVX 1.3, "Sobel 3x3".
-ghost use Rattle.std.specs.Prelude.{◌≡◌, ◌+◌, ◌*◌, ◌≤◌, ℕ, map, length};
-ghost use Rattle.std.specs.List.{range_with_len};
+ghost use Rattle.std.specs.Prelude.{◌≡◌, ◌+◌, ◌*◌, ◌≤◌, length};
 ghost use Rattle.vx_base.specs.Image.{run};
 ghost use Rattle.vx_base.specs.Window.{gradient_x, gradient_y};
-ghost use Rattle.lane_rows.specs.Windows.{nine_at, window_count, change};
+ghost use Rattle.lane_rows.specs.Windows.{three_of, nine_at, window_count, change};
 
-use crate::nine::{OfNine, ThreeItems, write_nine};
-use crate::nine_rows::{Nine, three_lanes};
+use crate::nine::{OfNine, ThreeItems, three_lanes, write_nine};
+use crate::nine_rows::{Nine, Three};
 use std::simd::prelude::*;
 
 /// Returns the sum of three samples with weights 1, 2, 1.
@@ -24,15 +23,16 @@ fn change(from: ThreeItems, to: ThreeItems) -> i16
     weighted_sum(to) as i16 - weighted_sum(from) as i16
 }
 
-/// Writes (d - a) + 2 * (e - b) + (f - c) for each of 32 lanes.
-fn write_changes(a: u8x32, b: u8x32, c: u8x32, d: u8x32, e: u8x32, f: u8x32, out: &mut [i16])
+/// Writes, for each of 32 indices, the weighted sum in `to` minus the weighted sum in `from`, with
+/// weights 1, 2, 1.
+fn write_changes(from: &Three<'_>, to: &Three<'_>, place: usize, out: &mut [i16])
+    requires from_room { place + 32 ≤ length from.now.left.now }
+    requires to_room { place + 32 ≤ length to.now.left.now }
     requires out_len { length out.old ≡ 32 }
-    ensures { (g h i j k l : ℕ → ℕ) (place : ℕ) →
-        a ≡ map g (range_with_len place 32) → b ≡ map h (range_with_len place 32) →
-        c ≡ map i (range_with_len place 32) → d ≡ map j (range_with_len place 32) →
-        e ≡ map k (range_with_len place 32) → f ≡ map l (range_with_len place 32) →
-        out.new ≡ run place 32 (λ n. change (g n, h n, i n) (j n, k n, l n)) }
+    ensures { out.new ≡ run place 32 (λ i. change (three_of from.now i) (three_of to.now i)) }
 {
+    let (a, b, c) = three_lanes(from, place);
+    let (d, e, f) = three_lanes(to, place);
     let first = d.cast::<i16>() - a.cast::<i16>();
     let second = e.cast::<i16>() - b.cast::<i16>();
     let third = f.cast::<i16>() - c.cast::<i16>();
@@ -50,10 +50,18 @@ impl OfNine<i16> for GradientX {
     }
 
     fn lanes(&self, nine: &Nine<'_>, place: usize, out: &mut [i16]) {
-        let above = three_lanes(&nine.above, place);
-        let here = three_lanes(&nine.here, place);
-        let below = three_lanes(&nine.below, place);
-        write_changes(above.0, here.0, below.0, above.2, here.2, below.2, out);
+        let (above, here, below) = (nine.above, nine.here, nine.below);
+        let left = Three {
+            left: above.left,
+            middle: here.left,
+            right: below.left,
+        };
+        let right = Three {
+            left: above.right,
+            middle: here.right,
+            right: below.right,
+        };
+        write_changes(&left, &right, place, out);
     }
 }
 
@@ -68,11 +76,7 @@ impl OfNine<i16> for GradientY {
     }
 
     fn lanes(&self, nine: &Nine<'_>, place: usize, out: &mut [i16]) {
-        let (above, below) = (
-            three_lanes(&nine.above, place),
-            three_lanes(&nine.below, place),
-        );
-        write_changes(above.0, above.1, above.2, below.0, below.1, below.2, out);
+        write_changes(&nine.above, &nine.below, place, out);
     }
 }
 

@@ -32,11 +32,11 @@
 //! - `shorts`: S16 numbers in lanes
 //!
 //! The table lists the kernels and their formulas: a and b are the input items, c is the old output
-//! item, and p narrows to the output's format by the policy. Times are in picoseconds per item, for
-//! rows of 1920 items in the cache, on x86-64-v2 (registers of 16 bytes) and x86-64-v3 (32 bytes).
-//! A block of 32 items takes two registers of bytes or four of S16 items on v2, and half as many on
-//! v3. A kernel that updates a row has blocks of 16 items. Kernels without a time were not measured
-//! on their own.
+//! item, and p narrows to the output's format by the policy. The items of three rows are x, y and
+//! z. A window has 3 x 3 samples. Times are in picoseconds per item, for rows of 1920 items in the
+//! cache, on x86-64-v2 (registers of 16 bytes) and x86-64-v3 (32 bytes). A block of 32 items takes
+//! two registers of bytes or four of S16 items on v2, and half as many on v3. A kernel that updates
+//! a row has blocks of 16 items. Kernels without a time were not measured on their own.
 //!
 //! | Kernel | Formula | Conditions | v2 | v3 |
 //! |---|---|---|---|---|
@@ -57,6 +57,22 @@
 //! | `scale_u8`, `scale_s16` | a / 2^n, rounded toward zero, clamped | S32 rows, n up to 31 | | |
 //! | `accumulate` | c + a, at most 32,767 | updates S16 | 90 | 44 |
 //! | `accumulate_square` | c + a * a / 2^n, rounded down, at most 32,767 | n up to 15 | 122 | 62 |
+//! | `axpy_i32` | c + k * a | U8 row, updates S32, abs(c) up to 2,139,127,807 | | |
+//! | `running_sums` | b plus the sum of a and the items before it, modulo 2^32 | U8, U32 rows | | |
+//! | `tally_row` | c plus the count of each byte | updates four histograms | | |
+//! | `extremes_u8`, `extremes_s16` | least and greatest item, with their counts | not empty | | |
+//! | `least_of`, `greatest_of` | least item, greatest item | U8 or S16 row, not empty | | |
+//! | `count_of`, `first_of` | count of an item, its first index | U8 or S16 row | | |
+//! | `Rise` | z - x | U8 rows, or rows of weighted sums | | |
+//! | `Weighted` | x + 2y + z | U8 rows, or rows of differences | | |
+//! | `sum3`, `weighted3` | x + y + z, x + 2y + z | U8 or S16 rows, from 0 to 8,191 | | |
+//! | `Ninth` | (x + y + z) / 9, rounded down | rows of sums, up to 765 | | |
+//! | `Sixteenth` | (x + 2y + z) / 16, rounded down | rows of weighted sums, up to 1,020 | | |
+//! | `ByChoice` | min(x, y, z), max(x, y, z) | U8 rows | | |
+//! | `min9`, `max9`, `median9` | least, greatest, median sample of a window | U8 rows | | |
+//! | `sobel_x` | right column minus left column, with weights 1, 2, 1 | U8 windows | | |
+//! | `sobel_y` | lower row minus upper row, with weights 1, 2, 1 | U8 windows | | |
+//! | `MatrixRows` | s / 2^n, rounded toward zero, clamped | s: matrix times samples, n to 31 | | |
 #![tactic(auto)]
 
 mod accumulation;

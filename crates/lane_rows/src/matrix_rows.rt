@@ -1,8 +1,7 @@
 //! Sums of samples times the coefficients of a matrix, over all rows of the matrix.
 ghost use Rattle.std.specs.Prelude.{◌≡◌, ◌+◌, ◌*◌, ◌<◌, ◌≤◌, ◌^◌, ℕ, pos, int_div, map, length};
 ghost use Rattle.std.specs.Prelude.{FitsSigned, All};
-ghost use Rattle.std.specs.Int.{w16};
-ghost use Rattle.std.specs.Simd.Lanes.{Each1};
+ghost use Rattle.std.specs.Int.{w16, w32, int_wrap};
 ghost use Rattle.vx_base.specs.Image.{run};
 ghost use Rattle.vx_base.specs.Sample.{clamp};
 ghost use Rattle.lane_rows.specs.Pairs.{IsNear, IsPairTable, line_of};
@@ -51,14 +50,14 @@ fn row_of(items: &[i16], line: u16, l: u8) -> &[i16]
 impl MatrixRows<'_> {
     ghost use Rattle.lane_rows.specs.MatrixRows.{matrix_sum};
 
-    /// Returns the sums at the 32 indices from `place` on: first the sums at an even distance from
-    /// `place`, then the sums at an odd distance.
+    /// Returns the sums at the 32 indices from `place` on, modulo 2^32: first the sums at an even
+    /// distance from `place`, then the sums at an odd distance.
     fn sum_rows(&self, place: usize) -> (i32x16, i32x16)
         requires { place + 2 * self.now.pairs + 31 ≤ self.now.line }
-        ensures even { result.0 ≡ run 0 16 (λ i. matrix_sum self.now (place + 2 * i)) }
-        ensures odd { result.1 ≡ run 0 16 (λ i. matrix_sum self.now (place + 1 + 2 * i)) }
-        ensures even_limit { Each1 (IsNear 752025600) result.0 }
-        ensures odd_limit { Each1 (IsNear 752025600) result.1 }
+        ensures even { result.0
+            ≡ run 0 16 (λ i. int_wrap w32 (matrix_sum self.now (place + 2 * i))) }
+        ensures odd { result.1
+            ≡ run 0 16 (λ i. int_wrap w32 (matrix_sum self.now (place + 1 + 2 * i))) }
     {
         let (mut even, mut odd) = (i32x16::splat(0), i32x16::splat(0));
         for l in 0..self.count {

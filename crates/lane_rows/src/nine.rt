@@ -1,12 +1,14 @@
 //! Kernels of the nine samples of 3 x 3 windows.
-ghost use Rattle.std.specs.Prelude.{◌≡◌, ◌+◌, ◌<◌, ◌≤◌, ℕ, ℤ, List, map, length};
+ghost use Rattle.std.specs.Prelude.{◌≡◌, ◌+◌, ◌<◌, ◌≤◌, ℕ, ℤ, List, map, length, slice_index};
+ghost use Rattle.std.specs.List.{range_with_len};
 ghost use Rattle.vx_base.specs.Image.{run};
 ghost use Rattle.lane_rows.specs.Windows.{three_of, nine_of, nine_at, window_count};
-ghost use Rattle.lane_rows.specs.Windows.{three_from, nine_from};
+ghost use Rattle.lane_rows.specs.Windows.{lanes_of, three_from, nine_from};
 
 use crate::indexed::{Indexed, write_indexed};
 use crate::item::Item;
 use crate::nine_rows::{Nine, Three};
+use std::simd::prelude::*;
 
 /// Three samples, from left to right or from top to bottom.
 pub type ThreeItems = (u8, u8, u8);
@@ -69,6 +71,29 @@ impl<'a> Nine<'a> {
             below: Three::along(below),
         }
     }
+}
+
+/// Three neighbours in each of 32 lanes.
+pub type ThreeLanes = (u8x32, u8x32, u8x32);
+
+/// Returns the 32 items of a row from the index `place` on.
+fn lanes_at(row: &[u8], place: usize) -> u8x32
+    requires { place + 32 ≤ length row.now }
+    ensures { result ≡ map (slice_index row.now) (range_with_len place 32) }
+{
+    u8x32::from_slice(&row[place..place + 32])
+}
+
+/// Returns the 32 items of each of three rows from the index `place` on.
+pub fn three_lanes(rows: &Three<'_>, place: usize) -> ThreeLanes
+    requires { place + 32 ≤ length rows.now.left.now }
+    ensures { result ≡ lanes_of rows.now place }
+{
+    (
+        lanes_at(rows.left, place),
+        lanes_at(rows.middle, place),
+        lanes_at(rows.right, place),
+    )
 }
 
 /// A kernel's result for each window in `nine`.

@@ -1,29 +1,31 @@
-//! Sums of samples times coefficients, by the processor's multiply-and-add instruction.
+//! Sums of samples times coefficients modulo 2^32, by the processor's multiply-and-add instruction.
 //!
 //! The instruction multiplies 16 numbers by 16 others and adds the two products of each pair of
 //! neighbours. With two alternating coefficients, it gives the sums at every second index. A second
 //! instruction, one index further on, gives the sums at the indices in between.
-ghost use Rattle.std.specs.Prelude.{◌≡◌, ◌+◌, ◌-◌, ◌*◌, ◌<◌, ◌≤◌, ℕ, ℤ, ◌+ℤ◌, ◌*ℤ◌, length};
-ghost use Rattle.std.specs.Prelude.{FitsSigned};
-ghost use Rattle.std.specs.Int.{w16};
-ghost use Rattle.std.specs.Simd.Lanes.{zip2, chunk, Each1};
+ghost use Rattle.std.specs.Prelude.{◌≡◌, ◌+◌, ◌*◌, ◌≤◌, ℤ, length, FitsSigned};
+ghost use Rattle.std.specs.Int.{w16, w32, int_wrap};
+ghost use Rattle.std.specs.Simd.Lanes.{chunk, Each1};
 ghost use Rattle.vx_base.specs.Image.{run};
-ghost use Rattle.lane_rows.specs.Pairs.{IsNear, IsPairTable, evens_of, odds_of, alternation};
-ghost use Rattle.lane_rows.specs.Pairs.{pair_at, row_sum};
+ghost use Rattle.lane_rows.specs.Pairs.{AreAdded, IsPairTable, alternation, pair_at, row_sum};
 
 use std::simd::prelude::*;
 
-/// Multiplies the samples by the coefficients, and adds the two products of each pair of
-/// neighbours.
-fn pair_products(samples: i16x16, coefficients: i16x16) -> i32x8
-    requires samples_len { length samples ≡ 16 }
-    requires coefficients_len { length coefficients ≡ 16 }
-    requires limit { Each1 (IsNear 255) samples }
-    requires fits { Each1 (FitsSigned w16) coefficients }
-    ensures value { result ≡ zip2 ◌+ℤ◌ (zip2 ◌*ℤ◌ (evens_of samples) (evens_of coefficients))
-        (zip2 ◌*ℤ◌ (odds_of samples) (odds_of coefficients)) }
-    ensures limit { Each1 (IsNear 16711680) result }
+/// Returns a sum for each of eight indices: every second index from `place` on. The sum is the
+/// sample at the index times one coefficient, plus the next sample times another.
+///
+/// The coefficients are read from a table here. If a caller loaded them into vectors before its
+/// loop, the compiler would widen those vectors, and then need a multiplication for each product.
+fn eight_places(row: &[i16], place: usize, table: &[i16], at: usize) -> i32x8
+    requires room { place + 16 ≤ length row.now }
+    requires fit { Each1 (FitsSigned w16) row.now }
+    requires table_room { at + 16 ≤ length table.now }
+    requires table_fits { Each1 (FitsSigned w16) table.now }
+    ensures { (a b : ℤ) → chunk at 16 table.now ≡ alternation 8 a b →
+        result ≡ run 0 8 (λ i. int_wrap w32 (pair_at row.now a b (place + 2 * i))) }
 {
+    let samples = i16x16::from_slice(&row[place..place + 16]);
+    let coefficients = i16x16::from_slice(&table[at..at + 16]);
     samples.swizzle([0, 2, 4, 6, 8, 10, 12, 14]).cast::<i32>()
         * coefficients
             .swizzle([0, 2, 4, 6, 8, 10, 12, 14])
@@ -34,26 +36,6 @@ fn pair_products(samples: i16x16, coefficients: i16x16) -> i32x8
                 .cast::<i32>()
 }
 
-/// Returns a sum for each of eight indices: every second index from `place` on. The sum is the
-/// sample at the index times one coefficient, plus the next sample times another.
-///
-/// The coefficients are read from a table here. If a caller loaded them into vectors before its
-/// loop, the compiler would widen those vectors, and then need a multiplication for each product.
-fn eight_places(row: &[i16], place: usize, table: &[i16], at: usize) -> i32x8
-    requires room { place + 16 ≤ length row.now }
-    requires limit { Each1 (IsNear 255) row.now }
-    requires table_room { at + 16 ≤ length table.now }
-    requires fits { Each1 (FitsSigned w16) table.now }
-    ensures value { (a b : ℤ) → chunk at 16 table.now ≡ alternation 8 a b →
-        result ≡ run 0 8 (λ i. pair_at row.now a b (place + 2 * i)) }
-    ensures len { length result ≡ 8 }
-    ensures limit { Each1 (IsNear 16711680) result }
-{
-    let samples = i16x16::from_slice(&row[place..place + 16]);
-    let coefficients = i16x16::from_slice(&table[at..at + 16]);
-    pair_products(samples, coefficients)
-}
-
 /// Returns the sums that `eight_places` returns, but for 16 indices: every second index from
 /// `place` on.
 ///
@@ -61,13 +43,11 @@ fn eight_places(row: &[i16], place: usize, table: &[i16], at: usize) -> i32x8
 /// the products one by one, which takes twice as many multiplications.
 fn sixteen_places(row: &[i16], place: usize, table: &[i16], at: usize) -> i32x16
     requires room { place + 32 ≤ length row.now }
-    requires limit { Each1 (IsNear 255) row.now }
+    requires fit { Each1 (FitsSigned w16) row.now }
     requires table_room { at + 16 ≤ length table.now }
-    requires fits { Each1 (FitsSigned w16) table.now }
-    ensures value { (a b : ℤ) → chunk at 16 table.now ≡ alternation 8 a b →
-        result ≡ run 0 16 (λ i. pair_at row.now a b (place + 2 * i)) }
-    ensures len { length result ≡ 16 }
-    ensures limit { Each1 (IsNear 16711680) result }
+    requires table_fits { Each1 (FitsSigned w16) table.now }
+    ensures { (a b : ℤ) → chunk at 16 table.now ≡ alternation 8 a b →
+        result ≡ run 0 16 (λ i. int_wrap w32 (pair_at row.now a b (place + 2 * i))) }
 {
     let (first, second) = (
         eight_places(row, place, table, at),
@@ -89,26 +69,14 @@ pub fn add_row(
     even: i32x16,
     odd: i32x16,
 ) -> (i32x16, i32x16)
-    requires some { pairs ≤ 45 }
     requires room { place + 2 * pairs + 31 ≤ length row.now }
-    requires limit { Each1 (IsNear 255) row.now }
+    requires fit { Each1 (FitsSigned w16) row.now }
     requires table_len { 16 * pairs ≤ length table.now }
     requires table { IsPairTable pairs table.now }
-    requires fits { Each1 (FitsSigned w16) table.now }
-    requires even_len { length even ≡ 16 }
-    requires odd_len { length odd ≡ 16 }
-    requires even_limit { Each1 (IsNear ((45 - pairs) * 16711680)) even }
-    requires odd_limit { Each1 (IsNear ((45 - pairs) * 16711680)) odd }
-    ensures even { (f : ℕ → ℤ) → even ≡ run 0 16 f →
-        result.0 ≡ run 0 16 (λ i. f i +ℤ row_sum row.now table.now pairs (place + 2 * i)) }
-    ensures odd { (f : ℕ → ℤ) → odd ≡ run 0 16 f →
-        result.1 ≡ run 0 16 (λ i. f i +ℤ row_sum row.now table.now pairs (place + 1 + 2 * i)) }
-    ensures even_len { length result.0 ≡ 16 }
-    ensures odd_len { length result.1 ≡ 16 }
-    ensures even_limit { (limit : ℕ) → Each1 (IsNear limit) even →
-        Each1 (IsNear (limit + pairs * 16711680)) result.0 }
-    ensures odd_limit { (limit : ℕ) → Each1 (IsNear limit) odd →
-        Each1 (IsNear (limit + pairs * 16711680)) result.1 }
+    requires table_fits { Each1 (FitsSigned w16) table.now }
+    ensures even { AreAdded (λ i. row_sum row.now table.now pairs (place + 2 * i)) even result.0 }
+    ensures odd { AreAdded (λ i. row_sum row.now table.now pairs (place + 1 + 2 * i)) odd
+        result.1 }
 {
     let (mut left, mut right) = (even, odd);
     for j in 0..pairs {

@@ -13,8 +13,8 @@ ghost use Rattle.lane_rows.specs.Threes.{chosen_at};
 
 use crate::columns::OfColumn;
 use crate::indexed::{Indexed, write_indexed};
-use crate::nine::{OfNine, ThreeItems, write_nine};
-use crate::nine_rows::{Nine, Three, ThreeLanes, three_lanes};
+use crate::nine::{OfNine, ThreeItems, ThreeLanes, three_lanes, write_nine};
+use crate::nine_rows::{Nine, Three};
 use crate::stores::store_32_bytes;
 use std::marker::PhantomData;
 use std::simd::prelude::*;

@@ -1,12 +1,12 @@
 //! Sums and means of three rows of non-negative numbers, for separable windows: first down the
 //! columns of three rows of samples, then across three of these sums.
 ghost use Rattle.std.specs.Prelude.{◌≡◌, ◌+◌, ◌≤◌, ◌+ℤ◌, ◌*ℤ◌, ℕ, ℤ, pos, map, length};
+ghost use Rattle.std.specs.Prelude.{nat_le, true, refl};
 ghost use Rattle.std.specs.Int.{int_div_euclid};
 ghost use Rattle.std.specs.List.{range_with_len};
 ghost use Rattle.std.specs.Simd.Lanes.{Each1};
 ghost use Rattle.vx_base.specs.Image.{run};
 ghost use Rattle.lane_rows.specs.Threes.{IsUpTo, AreUpTo, number_at, zip3};
-ghost use Rattle.lane_rows.specs.Limits.{greatest_addend, greatest_sum, greatest_weighted_sum};
 
 use crate::columns::OfColumn;
 use crate::indexed::{Indexed, write_indexed};
@@ -96,7 +96,7 @@ trait OfThree<T: SumItem> {
         ensures value { map pos result ≡ zip3 formula (map pos a) (map pos b) (map pos c) }
         ensures most { Each1 (λ n. n ≤ T.most) result };
 
-    ghost small: { limit ≤ 8191 };
+    ghost small: { nat_le limit 8191 ≡ true };
 }
 
 /// A kernel's results for three rows.
@@ -112,15 +112,6 @@ struct ThreeAt<'a, A: Addend, T: SumItem, K: OfThree<T>> {
         × AreUpTo K.limit (map A.value second.now) × AreUpTo K.limit (map A.value third.now) },
 }
 
-/// Returns the kernel's result for three items.
-fn of_items<A: Addend, T: SumItem, K: OfThree<T>>(a: A, b: A, c: A) -> T
-    requires { IsUpTo K.limit (A.value a) × IsUpTo K.limit (A.value b)
-        × IsUpTo K.limit (A.value c) }
-    ensures { T.value result ≡ K.formula (A.value a) (A.value b) (A.value c) }
-{
-    K::of_three(a.number(), b.number(), c.number())
-}
-
 impl<A: Addend, T: SumItem, K: OfThree<T>> Indexed<T> for ThreeAt<'_, A, T, K> {
     ghost count = { λ s. length s.first.now };
 
@@ -128,7 +119,7 @@ impl<A: Addend, T: SumItem, K: OfThree<T>> Indexed<T> for ThreeAt<'_, A, T, K> {
         (number_at (map A.value s.second.now) i) (number_at (map A.value s.third.now) i) };
 
     fn item(&self, place: usize) -> T {
-        of_items::<A, T, K>(self.first[place], self.second[place], self.third[place])
+        <K as OfColumn<A, T>>::item(self.first[place], self.second[place], self.third[place])
     }
 
     fn lanes(&self, place: usize, out: &mut [T]) {
@@ -147,7 +138,7 @@ impl<A: Addend, T: SumItem, K: OfThree<T>> OfColumn<A, T> for K {
     ghost takes = { IsUpTo K.limit };
 
     fn item(first: A, second: A, third: A) -> T {
-        of_items::<A, T, K>(first, second, third)
+        K::of_three(first.number(), second.number(), third.number())
     }
 
     fn write(first: &[A], second: &[A], third: &[A], out: &mut [T]) {
@@ -178,7 +169,7 @@ impl OfThree<i16> for SumOfThree {
         a + b + c
     }
 
-    ghost small = { greatest_addend };
+    ghost small = { refl };
 }
 
 /// The sum of three numbers with weights 1, 2, 1.
@@ -198,7 +189,7 @@ impl OfThree<i16> for WeightedSumOfThree {
         a + (b + b) + c
     }
 
-    ghost small = { greatest_addend };
+    ghost small = { refl };
 }
 
 /// A ninth of the sum of three numbers, rounded down.
@@ -218,7 +209,7 @@ impl OfThree<u8> for Ninth {
         (a + b + c) / u16x32::splat(9)
     }
 
-    ghost small = { greatest_sum };
+    ghost small = { refl };
 }
 
 /// A sixteenth of the sum of three numbers with weights 1, 2, 1, rounded down.
@@ -238,7 +229,7 @@ impl OfThree<u8> for Sixteenth {
         (a + (b + b) + c) >> 4
     }
 
-    ghost small = { greatest_weighted_sum };
+    ghost small = { refl };
 }
 
 /// Writes the sum of the three numbers at each index. The numbers are from 0 to 8,191.

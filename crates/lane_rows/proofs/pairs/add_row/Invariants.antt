@@ -1,9 +1,10 @@
-use Rattle.std.proofs.Common.{◌+◌}
-use Rattle.lane_rows.proofs.PairLaws.{AreAdded}
+use Rattle.std.proofs.Common.{◌+◌, ◌*◌}
+use Rattle.lane_rows.proofs.Common.{row_sum}
+use Rattle.lane_rows.proofs.PairLaws.{Added}
 use Rattle.lane_rows.proofs.pairs.add_row.Given as goal
 
 abbrev pub invariant-loop-j : goal.invariant-loop-j
 invariant-loop-j l = record {
-  left : AreAdded l.row l.table l.place l.j l.fn.even l.left;
-  right : AreAdded l.row l.table (l.place + 1) l.j l.fn.odd l.right;
+  left : Added (λ i. row_sum l.row l.table l.j (l.place + 2 * i)) l.fn.even l.left;
+  right : Added (λ i. row_sum l.row l.table l.j (l.place + 1 + 2 * i)) l.fn.odd l.right;
 }

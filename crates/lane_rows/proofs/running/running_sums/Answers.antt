@@ -1,6 +1,6 @@
 use Rattle.std.proofs.Common.{◌≡◌, ◌+◌, ◌%◌, ◌<◌, ◌∙◌, length, get_or, arith}
 use Rattle.lane_rows.proofs.Common.{sum_below}
-use Rattle.lane_rows.proofs.RunningLaws.{total_more, place_sum, place_written, all_written}
+use Rattle.lane_rows.proofs.RunningLaws.{total_more, place_written, all_written}
 use Rattle.lane_rows.proofs.running.running_sums.Goals as goal
 
 pub loop-k-preserved : goal.loop-k-preserved
@@ -12,7 +12,7 @@ loop-k-preserved c =
     let room : k < length c.loop-k.out = omega (arith, c.loop-k.auto.out, c.write_block_sums-total.auto.out, c.requires.out_len, c.loop-k-test.true) in
     let more = total_more row k c.loop-k.total c.from-total.result c.loop-k-test.true c.loop-k.invariant.total c.from-total.ensures in
     record {
-      written = place_written (sum_below above row) c.loop-k.out k ((get_or above k 0 + total) % 4294967296) room c.loop-k.invariant.written (place_sum above row k total more);
+      written = place_written (sum_below above row) c.loop-k.out k ((get_or above k 0 + total) % 4294967296) room c.loop-k.invariant.written (omega (arith, more));
       total = more;
     }
 

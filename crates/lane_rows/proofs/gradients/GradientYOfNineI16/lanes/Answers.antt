@@ -1,5 +1,4 @@
 use Rattle.std.proofs.Common.{◌∙◌, map-id}
-use Rattle.std.specs.Prelude.{slice_index}
 use Rattle.vx_base.proofs.TableLaws.{run-same}
 use Rattle.lane_rows.specs.Windows.{three_of}
 use Rattle.lane_rows.proofs.GradientLaws.{y_is_y}
@@ -8,7 +7,4 @@ use Rattle.lane_rows.proofs.gradients.GradientYOfNineI16.lanes.Goals as goal
 pub returns : goal.returns
 returns c =
     let nine = c.args.nine.now in
-    map-id _
-    ∙ c.write_changes.ensures (slice_index nine.above.left.now) (slice_index nine.above.middle.now) (slice_index nine.above.right.now) (slice_index nine.below.left.now) (slice_index nine.below.middle.now) (slice_index nine.below.right.now) c.args.place
-    c.three_lanes-above.ensures.left c.three_lanes-above.ensures.middle c.three_lanes-above.ensures.right c.three_lanes-below.ensures.left c.three_lanes-below.ensures.middle c.three_lanes-below.ensures.right
-    ∙ run-same _ _ c.args.place 32 (λ k _ _. y_is_y (three_of nine.above k) (three_of nine.here k) (three_of nine.below k))
+    map-id _ ∙ c.write_changes.ensures ∙ run-same _ _ c.args.place 32 (λ k _ _. y_is_y (three_of nine.above k) (three_of nine.here k) (three_of nine.below k))

@@ -1,9 +1,9 @@
-use Rattle.std.proofs.Common.{◌+◌}
-use Rattle.lane_rows.proofs.MatrixSumLaws.{AreSums}
+use Rattle.std.proofs.Common.{◌≡◌, ◌+◌}
+use Rattle.lane_rows.proofs.MatrixSumLaws.{first_rows}
 use Rattle.lane_rows.proofs.matrix_rows.MatrixRows.sum_rows.Given as goal
 
 abbrev pub invariant-loop-l : goal.invariant-loop-l
 invariant-loop-l l = record {
-  even : AreSums l.self l.place l.l l.even;
-  odd : AreSums l.self (l.place + 1) l.l l.odd;
+  even : l.even ≡ first_rows l.self l.l l.place;
+  odd : l.odd ≡ first_rows l.self l.l (l.place + 1);
 }

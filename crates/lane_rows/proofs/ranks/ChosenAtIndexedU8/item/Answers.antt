@@ -1,5 +1,5 @@
 use Rattle.std.proofs.Common.{ℕ, pos, ap, ◌∙◌}
-use Rattle.lane_rows.proofs.ChoiceLaws.{chosen_number}
+use Rattle.lane_rows.proofs.NineLaws.{chosen_number}
 use Rattle.lane_rows.proofs.ranks.ChosenAtIndexedU8.item.Goals as goal
 
 pub returns : goal.returns

@@ -1,7 +1,14 @@
-use Rattle.lane_rows.proofs.ChoiceLaws.{choice_made}
+use Rattle.std.proofs.Common.{ℕ}
+use Rattle.lane_rows.proofs.Common.{range_with_len}
+use Rattle.lane_rows.specs.Ranks.{chosen_of_three}
+use Rattle.lane_rows.specs.Threes.{chosen_at}
+use Rattle.lane_rows.specs.Windows.{three_of}
+use Rattle.lane_rows.proofs.NineLaws.{three_by_lanes, numbers_at, chosen_number}
 use Rattle.lane_rows.proofs.ranks.ChosenAtIndexedU8.lanes.Goals as goal
 
 pub returns : goal.returns
 returns g c =
-    choice_made g.C.Choice.choice g.C.Choice.of_numbers g.met.C.Choice.same c.args.self.now.rows.now c.args.place c.store_32_bytes.new.out c.chosen_lanes.result _ _ _ c.store_32_bytes.ensures
-    c.three_lanes.ensures.left c.three_lanes.ensures.middle c.three_lanes.ensures.right c.chosen_lanes.ensures
+    let rows = c.args.self.now.rows.now in
+    let items : ℕ → ℕ × ℕ × ℕ = three_of rows in
+    numbers_at (λ k. chosen_of_three g.C.Choice.choice (items k).0 (items k).1 (items k).2) (chosen_at g.C.Choice.of_numbers rows) c.args.place _
+    (rw (c.store_32_bytes.ensures, c.chosen_lanes.ensures, c.three_lanes.ensures) (three_by_lanes g.C.Choice.choice (λ k. (items k).0) (λ k. (items k).1) (λ k. (items k).2) (range_with_len c.args.place 32))) (chosen_number g.C.Choice.choice g.C.Choice.of_numbers g.met.C.Choice.same rows)

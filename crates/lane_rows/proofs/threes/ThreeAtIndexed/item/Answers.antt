@@ -3,8 +3,8 @@ use Rattle.lane_rows.specs.Threes.{IsUpTo}
 use Rattle.lane_rows.proofs.ThreeLaws.{item_taken}
 use Rattle.lane_rows.proofs.threes.ThreeAtIndexed.item.Goals as goal
 
-pub of_items-requires : goal.of_items-requires
-of_items-requires g c =
+pub item-requires : goal.item-requires
+item-requires g c =
     let rows = c.args.self.now in
     let takes = IsUpTo g.K.OfThree.limit in
     let value = g.A.Item.value in
