@@ -1,6 +1,7 @@
 -- Arithmetic on bytes in lanes.
-use Rattle.std.proofs.Common.{◌≡◌, inl, inr, ℕ, ℤ, pos, negsuc, suc, ◌+◌, ◌-◌, ◌%◌, ◌<◌, ◌≤◌, ◌-ℤ◌, unsigned_abs, List, length, map, Bool, true, false, cond, min, max, ltb, w8, Fits, bit_and, bit_or, bit_xor, refl, ap, ◌∙◌, arith}
+use Rattle.std.proofs.Common.{◌≡◌, inl, inr, ℕ, ℤ, pos, negsuc, suc, ◌+◌, ◌-◌, ◌%◌, ◌<◌, ◌≤◌, ◌-ℤ◌, unsigned_abs, List, length, map, get_or, Bool, true, false, cond, min, max, ltb, w8, Fits, bit_and, bit_or, bit_xor, refl, ap, ◌∙◌, arith}
 use Rattle.lane_rows.proofs.Common.{zip2, Each1, ints, clamps, cases_lt, U8, Wrap, Saturate, narrow, top}
+use Rattle.std.proofs.lemmas.Simd.{Each1-from_get_or}
 use Rattle.vx_base.specs.Pixelwise.{sum, difference, absolute_difference, smaller, greater, and_bits, or_bits, xor_bits, not_bits}
 use Rattle.lane_rows.proofs.LaneLaws.{clamp_pos, smaller_lane}
 use Rattle.lane_rows.proofs.Lanewise.{Lanewise, one, other, each, both, chosen, pairs_are, items_are, same_pairs, lanes_are}
@@ -27,13 +28,10 @@ smallest e f = where_less e f e f
 abbrev pub largest : Lanewise ℕ ℕ ℕ → Lanewise ℕ ℕ ℕ → Lanewise ℕ ℕ ℕ
 largest e f = where_less e f f e
 
--- the results for two vectors of bytes, and for one
+-- the results for two vectors of bytes
 bytes_are : (e : Lanewise ℕ ℕ ℕ) (f : ℤ → ℤ → ℤ) (xs ys : List ℕ) → length xs ≡ 32 → length ys ≡ 32 → Each1 (Fits w8) xs → Each1 (Fits w8) ys
     → ((x y : ℕ) → Fits w8 x → Fits w8 y → pos (e.at x y) ≡ f (pos x) (pos y)) → map pos (e.all 32 xs ys) ≡ zip2 f (map pos xs) (map pos ys)
 bytes_are e f = pairs_are e (Fits w8) (Fits w8) pos pos pos f 32
-
-row_is : (e : Lanewise ℕ ℕ ℕ) (f : ℤ → ℤ) (xs : List ℕ) → length xs ≡ 32 → Each1 (Fits w8) xs → ((x : ℕ) → Fits w8 x → pos (e.at x x) ≡ f (pos x)) → map pos (e.all 32 xs xs) ≡ map f (map pos xs)
-row_is e f = items_are e (Fits w8) pos pos f 32
 
 -- ---- at one lane
 
@@ -148,8 +146,8 @@ ors_are = same_pairs pos pos pos bit_or or_bits (λ x y. refl)
 pub xors_are : (xs ys : List ℕ) → map pos (zip2 bit_xor xs ys) ≡ zip2 xor_bits (map pos xs) (map pos ys)
 xors_are = same_pairs pos pos pos bit_xor xor_bits (λ x y. refl)
 
-pub turned_are : (xs : List ℕ) → length xs ≡ 32 → Each1 (Fits w8) xs → map pos (map turned xs) ≡ map not_bits (map pos xs)
-turned_are xs p f = row_is (each turned one) not_bits xs p f turned_is
+pub turned_are : (xs : List ℕ) → length xs ≡ 32 → ((i : ℕ) → Fits w8 (get_or xs i 0)) → map pos (map turned xs) ≡ map not_bits (map pos xs)
+turned_are xs p f = items_are (each turned one) (Fits w8) pos pos not_bits 32 xs p (Each1-from_get_or (Fits w8) xs 0 (λ i _. f i)) turned_is
 
 pub ruleset sum_lanes = (sums_wrapped, sums_clamped)
 

@@ -1,4 +1,6 @@
 //! Writes or updates rows block by block, each block in lanes.
+#![tactic(auto, using(crate::proofs::BlockLaws::blocks))]
+
 ghost use Rattle.std.specs.Prelude.{◌≡◌, ◌*◌, map, length};
 ghost use Rattle.std.specs.Simd.Lanes.{zip2};
 

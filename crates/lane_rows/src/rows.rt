@@ -1,4 +1,6 @@
 //! Writes or updates whole rows: complete blocks in lanes, and the remaining items one by one.
+#![tactic(auto, using(crate::proofs::BlockLaws::parts))]
+
 ghost use Rattle.std.specs.Prelude.{◌≡◌, map, length};
 ghost use Rattle.std.specs.Simd.Lanes.{zip2};
 
