@@ -25,14 +25,15 @@ block_written xs ws rest i j room next = rw (← append_assoc) (take_at (take i 
 pub block_left : {A : Type 0} (xs ws rest : List A) (i j : ℕ) → i ≤ length xs → j ≡ i + length ws → drop j (take i xs ++ (ws ++ rest)) ≡ rest
 block_left xs ws rest i j room next = rw (← append_assoc) (drop_at (take i xs ++ ws) rest j (omega (arith, length-append (take i xs) ws, length-take-le i xs room)))
 
--- one more block
-pub ruleset blocks = (items, block_read, block_written, block_left)
-
 -- the two parts of a row, joined
 pub parts_joined : {A : Type 0} (xs : List A) (n : ℕ) → (take n xs ≡ take n xs) × (xs ≡ take n xs ++ drop n xs)
 parts_joined xs n = (refl, sym (take-append-drop n xs))
 
+-- the two parts of a row
 pub ruleset parts = (items, parts_joined)
+
+-- one more block
+pub ruleset blocks = (items, block_read, block_written, block_left)
 
 -- blocks and the rest, of one row
 pub rest_written : {A T : Type 0} (of : A → ℤ) (value : T → ℤ) (f : ℤ → ℤ) (xs us us' : List A) (ws rs : List T) (n : ℕ)

@@ -1,0 +1,6 @@
+use Rattle.std.proofs.Common.{arith}
+use Rattle.lane_rows.proofs.BlockLaws.{blocks}
+use Rattle.lane_rows.proofs.rows.zip_rows.Goals as goal
+
+pub loop-k-preserved : goal.loop-k-preserved
+loop-k-preserved g c = grind (arith, blocks)
