@@ -1,7 +1,6 @@
 -- Rows that are written item by item, block by block, and in two parts.
 use Rattle.std.proofs.Common.{◌≡◌, ℕ, ℤ, ◌+◌, ◌≤◌, List, [], ◌∷◌, ◌++◌, length, map, take, drop, ap, sym, refl, arith, append_assoc, length-append, length-take-le, take-append-drop}
-use Rattle.lane_rows.proofs.Common.{take-add, map-append, zip2}
-use Rattle.std.proofs.lemmas.Grind.{common_steps}
+use Rattle.lane_rows.proofs.Common.{take-add, map-append, zip2, common_steps}
 use Rattle.std.proofs.lemmas.List.{take_at, drop_at}
 
 pub zip2-append : (f : ℤ → ℤ → ℤ) (xs ys us vs : List ℤ) → length xs ≡ length ys → zip2 f (xs ++ us) (ys ++ vs) ≡ zip2 f xs ys ++ zip2 f us vs

@@ -1,8 +1,6 @@
 -- Bit depths: samples times a power of two, and over one.
 use Rattle.std.proofs.Common.{◌≡◌, ℕ, ℤ, pos, negsuc, suc, ◌-◌, ◌*◌, ◌%◌, ◌^◌, ◌<◌, ◌≤◌, ◌*ℤ◌, unsigned_abs, List, [], ◌∷◌, length, map, w8, w16, Fits, FitsSigned, to_z, of_z, bit_and, refl, ap, ◌∙◌, sym, subst, arith}
-use Rattle.std.specs.Int.{int_div_euclid, int_min, int_max}
-use Rattle.lane_rows.proofs.Common.{shr_z, Each1, pow-le-pow_right, mod-eq_of_lt, to_z_pos, to_z-of_z, U8, Wrap, Saturate, narrow, top}
-use Rattle.std.proofs.lemmas.Nat.{and_mask}
+use Rattle.lane_rows.proofs.Common.{shr_z, Each1, pow-le-pow_right, mod-eq_of_lt, to_z_pos, to_z-of_z, U8, Wrap, Saturate, narrow, top, and_mask, int_div_euclid, int_min, int_max}
 use Rattle.std.specs.Int.Signed.{mag_shr}
 use Rattle.lane_rows.proofs.LaneLaws.{chosen_w16}
 use Rattle.lane_rows.proofs.NarrowLaws.{IsByte, nearest, nearest_at, raised_first, clamped_is_byte}

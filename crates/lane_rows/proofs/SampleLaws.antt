@@ -1,7 +1,6 @@
 -- S16 samples as numbers of 16 bits.
 use Rattle.std.proofs.Common.{rules, ◌≡◌, ℕ, ℤ, pos, List, length, map, get_or, All, w16, FitsSigned, to_z, of_z, arith, map-id, take_all}
-use Rattle.lane_rows.proofs.Common.{Each1, chunk, IsSample, S16, ints}
-use Rattle.std.proofs.lemmas.Simd.{Each1-from_get_or}
+use Rattle.lane_rows.proofs.Common.{Each1, chunk, IsSample, S16, ints, Each1-from_get_or}
 use Rattle.std.proofs.lemmas.List.Elements.{All-get_or}
 use Rattle.lane_rows.proofs.ShortLaws.{read_whole}
 

@@ -1,8 +1,7 @@
 -- Sums that bytes, or their squares, are added to in lanes.
 use Rattle.std.proofs.Common.{◌≡◌, inl, inr, ℕ, ℤ, pos, negsuc, suc, ◌+◌, ◌-◌, ◌%◌, ◌^◌, ◌<◌, ◌+ℤ◌, ◌*ℤ◌, List, [], ◌∷◌, length, map, cond, min, ltb, w8, w16, Fits, FitsSigned, to_z, of_z, refl, ap, ◌∙◌, sym, subst, arith, map-id}
-use Rattle.std.specs.Int.{int_div_euclid}
 use Rattle.std.specs.Simd.Lanes.{put_chunk}
-use Rattle.lane_rows.proofs.Common.{zip2, Each1, length-map, length-zip2, put_chunk_whole, sel_l, number_l, digits_l, ints, clamps, cases_lt, to_z-of_z, to_z_pos, S16, Saturate, narrow, top}
+use Rattle.lane_rows.proofs.Common.{zip2, Each1, length-map, length-zip2, put_chunk_whole, sel_l, number_l, digits_l, ints, clamps, cases_lt, to_z-of_z, to_z_pos, S16, Saturate, narrow, top, int_div_euclid}
 use Rattle.vx_base.specs.Pixelwise.{accumulated_sum, accumulated_square}
 use Rattle.lane_rows.proofs.LaneLaws.{products, product_lane, chosen_w16, smaller_lane}
 use Rattle.lane_rows.proofs.DigitLaws.{recast}
@@ -81,9 +80,6 @@ added_below a c small = subst (λ n. n < 65536) (sym (min_at a (left (of_z w16 c
 after_is : (a : ℕ) (c : ℤ) → Fits w16 a → FitsSigned w16 c → to_z w16 (plus (of_z w16 c) (cond (top 15 (less a (left (of_z w16 c)))) a (left (of_z w16 c)))) ≡ accumulated_sum S16 (pos a) c
 after_is a c p f = ap (λ n. to_z w16 (plus (of_z w16 c) n)) (min_at a (left (of_z w16 c))) ∙ sum_is a c p.fits f
 
-left_below : (y : ℕ) → left y < 65536
-left_below y = omega arith
-
 -- ---- in lanes
 
 module _ (xs : List ℕ) (cs : List ℤ) (p : (length xs ≡ 16) × Each1 (Fits w16) xs) (long : length cs ≡ 16) (fs : Each1 (FitsSigned w16) cs) where
@@ -96,7 +92,7 @@ module _ (xs : List ℕ) (cs : List ℤ) (p : (length xs ≡ 16) × Each1 (Fits 
   room_same : in_bytes (room.all 16 xs cs) ≡ room.all 16 xs cs
   room_same =
       same_bytes (room.all 16 xs cs) (length-all room 16 xs cs p.0 long)
-      (each_is room (Fits w16) (FitsSigned w16) (λ x. x < 65536) 16 xs cs p.0 long p.1 fs (λ a c f g. left_below (of_z w16 c)))
+      (each_is room (Fits w16) (FitsSigned w16) (λ x. x < 65536) 16 xs cs p.0 long p.1 fs (λ a c f g. omega arith))
 
   accumulated_are : map (to_z w16) (sums (in_bytes (least (in_bytes (room.all 16 xs cs))))) ≡ zip2 (accumulated_sum S16) (map pos xs) cs
   accumulated_are =
