@@ -1,6 +1,9 @@
 -- Signed lanes as bits, and as the numbers that the bits represent.
 use Rattle.std.proofs.Common.{◌≡◌, ℕ, ℤ, pos, zero, suc, ◌+◌, ◌*◌, ◌%◌, ◌≤◌, List, [], ◌∷◌, ◌++◌, map, length, get_or, take, drop, ◌-◌, refl, ap, ◌∙◌, sym, subst, arith, w16, w32, FitsSigned, to_z, of_z, ◌+ℤ◌, ◌*ℤ◌, unsigned_abs, take-take, length-append}
-use Rattle.lane_rows.proofs.Common.{range_with_len, zip2, Each1, pick_l, chunk, ints, to_z-of_z, fits_signed_from_abs, Each1-chunk, map-append, length-map, evens_of, odds_of, IsNear, of_z-to_z, wrapping_add_is, int_wrap_fits, unsigned_abs-mul, mul-le, pick_l_whole, Each1-weaker, length-zip2}
+use Rattle.lane_rows.proofs.Common.{range_with_len, zip2, Each1, pick_l, chunk, ints, to_z-of_z, fits_signed_from_abs, Each1-chunk, map-append, length-map, evens_of, odds_of, IsNear}
+use Rattle.std.proofs.lemmas.Int.{of_z-to_z, wrapping_add_is, int_wrap_fits, unsigned_abs-mul}
+use Rattle.std.proofs.lemmas.Nat.{mul-le}
+use Rattle.std.proofs.lemmas.Simd.{pick_l_whole, Each1-weaker, length-zip2}
 pub use Rattle.lane_rows.proofs.QuarterLaws.{Each1-append}
 use Rattle.lane_rows.proofs.Lanewise.{alike, each_of}
 use Rattle.lane_rows.proofs.ShortLaws.{of_bits, wider, abs_16, left_of_32, times_lane}

@@ -50,10 +50,7 @@ clamp_negative n small = grind (arith, ints, clamps, small)
 abbrev left : ℕ → ℕ
 left y = (32767 + (65536 - y)) % 65536
 
-abbrev sum_with : ℕ → ℤ → ℕ
-sum_with a c = plus (of_z w16 c) (min a (left (of_z w16 c)))
-
-sum_is : (a : ℕ) (c : ℤ) → a < 65536 → FitsSigned w16 c → to_z w16 (sum_with a c) ≡ accumulated_sum S16 (pos a) c
+sum_is : (a : ℕ) (c : ℤ) → a < 65536 → FitsSigned w16 c → to_z w16 (plus (of_z w16 c) (min a (left (of_z w16 c)))) ≡ accumulated_sum S16 (pos a) c
 sum_is a (pos n) small f =
     let e = f.sfits in
     let v : (n + min a ((32767 + (65536 - n)) % 65536)) % 65536 ≡ min (n + a) 32767 = omega (arith, small, e) in
