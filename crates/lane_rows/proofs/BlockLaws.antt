@@ -1,6 +1,6 @@
 -- Rows that are written item by item, block by block, and in two parts.
 use Rattle.std.proofs.Common.{◌≡◌, ℕ, ℤ, ◌+◌, ◌≤◌, List, [], ◌∷◌, ◌++◌, length, map, take, drop, ap, sym, refl, arith, append_assoc, length-append, length-take-le, take-append-drop}
-use Rattle.lane_rows.proofs.Common.{take-add, map-append, zip2, common_steps}
+use Rattle.lane_rows.proofs.Common.{take-add, map-append, zip2, common_steps, run, run-append}
 use Rattle.std.proofs.lemmas.List.{take_at, drop_at}
 
 pub zip2-append : (f : ℤ → ℤ → ℤ) (xs ys us vs : List ℤ) → length xs ≡ length ys → zip2 f (xs ++ us) (ys ++ vs) ≡ zip2 f xs ys ++ zip2 f us vs
@@ -33,6 +33,12 @@ pub ruleset parts = (items, parts_joined)
 
 -- one more block
 pub ruleset blocks = (items, block_read, block_written, block_left)
+
+-- one more item of a run
+pub run_next : (f : ℕ → ℤ) (i : ℕ) → (run 0 i f ≡ run 0 i f) × (run 0 (i + 1) f ≡ run 0 i f ++ f i ∷ [])
+run_next f i = let here : 0 + i ≡ i = omega arith in (refl, rw (run-append f 0 i 1, here) refl)
+
+pub ruleset runs = (common_steps, run_next)
 
 -- blocks and the rest, of one row
 pub rest_written : {A T : Type 0} (of : A → ℤ) (value : T → ℤ) (f : ℤ → ℤ) (xs us us' : List A) (ws rs : List T) (n : ℕ)

@@ -1,16 +1,11 @@
 -- Sums that bytes, or their squares, are added to in lanes.
-use Rattle.std.proofs.Common.{◌≡◌, inl, inr, ℕ, ℤ, pos, negsuc, suc, ◌+◌, ◌-◌, ◌%◌, ◌^◌, ◌<◌, ◌+ℤ◌, ◌*ℤ◌, List, [], ◌∷◌, length, map, cond, min, ltb, w8, w16, Fits, FitsSigned, to_z, of_z, refl, ap, ◌∙◌, sym, subst, arith, map-id}
+use Rattle.std.proofs.Common.{◌≡◌, inl, inr, ℕ, ℤ, pos, negsuc, suc, ◌+◌, ◌-◌, ◌%◌, ◌^◌, ◌<◌, ◌+ℤ◌, ◌*ℤ◌, List, [], ◌∷◌, length, map, cond, min, ltb, w8, w16, Fits, FitsSigned, to_z, of_z, refl, ap, ◌∙◌, sym, subst, arith, map-id, get_or, take_all}
 use Rattle.std.specs.Simd.Lanes.{put_chunk}
-use Rattle.lane_rows.proofs.Common.{zip2, Each1, length-map, length-zip2, put_chunk_whole, sel_l, number_l, digits_l, ints, clamps, cases_lt, to_z-of_z, to_z_pos, S16, Saturate, narrow, top, int_div_euclid}
+use Rattle.lane_rows.proofs.Common.{zip2, chunk, Each1, Each1-from_get_or, length-map, length-zip2, put_chunk_whole, sel_l, number_l, digits_l, ints, clamps, cases_lt, to_z-of_z, to_z_pos, S16, Saturate, narrow, top, int_div_euclid}
 use Rattle.vx_base.specs.Pixelwise.{accumulated_sum, accumulated_square}
 use Rattle.lane_rows.proofs.LaneLaws.{products, product_lane, chosen_w16, smaller_lane}
 use Rattle.lane_rows.proofs.DigitLaws.{recast}
 use Rattle.lane_rows.proofs.Lanewise.{Lanewise, one, other, constant, each, both, chosen, items_are, pairs_are, each_is, length-all}
-
--- ---- squares
-
-pub squares_are : (s k : ℕ) (xs : List ℕ) → s ≡ k → (length xs ≡ 16) × Each1 (Fits w8) xs → map pos ((products s).all 16 xs xs) ≡ map (λ a. int_div_euclid (a *ℤ a) (pos (2 ^ k))) (map pos xs)
-squares_are s k xs is p = items_are (products s) (Fits w8) pos pos (λ a. int_div_euclid (a *ℤ a) (pos (2 ^ k))) 16 xs p.0 p.1 (λ x f. ap pos (product_lane x x s k is f f))
 
 -- ---- sums that can grow
 
@@ -106,8 +101,17 @@ module _ (xs : List ℕ) (cs : List ℤ) (p : (length xs ≡ 16) × Each1 (Fits 
       let made = ap length accumulated_are ∙ length-zip2 (accumulated_sum S16) (map pos xs) cs (length-map xs pos ∙ p.0 ∙ sym long) ∙ length-map xs pos ∙ p.0 in
       put_chunk_whole old _ (ap length (sym same) ∙ long ∙ sym made) ∙ accumulated_are ∙ ap (zip2 (accumulated_sum S16) (map pos xs)) same
 
--- of squares
-pub of_squares : (k : ℕ) (zs cs : List ℤ) → zip2 (accumulated_sum S16) (map (λ a. int_div_euclid (a *ℤ a) (pos (2 ^ k))) zs) cs ≡ zip2 (accumulated_square S16 k) zs cs
+-- ---- squares of bytes over a power of two
+
+of_squares : (k : ℕ) (zs cs : List ℤ) → zip2 (accumulated_sum S16) (map (λ a. int_div_euclid (a *ℤ a) (pos (2 ^ k))) zs) cs ≡ zip2 (accumulated_square S16 k) zs cs
 of_squares k [] cs = refl
 of_squares k (z ∷ zs) [] = refl
 of_squares k (z ∷ zs) (c ∷ cs) = ap (λ l. accumulated_square S16 k z c ∷ l) (of_squares k zs cs)
+
+pub squares_added : (s k : ℕ) (xs : List ℕ) (cs : List ℤ) → s ≡ k → length xs ≡ 16 → ((i : ℕ) → Fits w8 (get_or xs i 0))
+    → zip2 (accumulated_sum S16) (map pos ((products s).all 16 (chunk 0 16 xs) (chunk 0 16 xs))) cs ≡ zip2 (accumulated_square S16 k) (map pos xs) cs
+squares_added s k xs cs is long fits =
+    ap (λ l. zip2 (accumulated_sum S16) (map pos ((products s).all 16 l l)) cs) (take_all 16 xs (omega (arith, long)))
+    ∙ ap (λ l. zip2 (accumulated_sum S16) l cs)
+    (items_are (products s) (Fits w8) pos pos (λ a. int_div_euclid (a *ℤ a) (pos (2 ^ k))) 16 xs long (Each1-from_get_or (Fits w8) xs 0 (λ i _. fits i)) (λ x f. ap pos (product_lane x x s k is f f)))
+    ∙ of_squares k (map pos xs) cs

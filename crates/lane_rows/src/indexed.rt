@@ -38,6 +38,7 @@ fn write_last<T: Item, R: Indexed<T>>(row: &R, out: &mut [T])
 }
 
 /// Writes all items one by one.
+#[tactic(auto, using(crate::proofs::BlockLaws::runs))]
 fn write_items<T: Item, R: Indexed<T>>(row: &R, out: &mut [T])
     requires count { R.count row.now ≡ length out.old }
     ensures { map T.value out.new ≡ run 0 (length out.old) (R.at row.now) }
