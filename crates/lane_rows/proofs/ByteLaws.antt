@@ -1,6 +1,6 @@
 -- Arithmetic on bytes in lanes.
-use Rattle.std.proofs.Common.{◌≡◌, inl, inr, ℕ, ℤ, pos, negsuc, suc, ◌+◌, ◌-◌, ◌%◌, ◌<◌, ◌≤◌, ◌-ℤ◌, unsigned_abs, List, length, map, get_or, Bool, true, false, cond, min, max, ltb, w8, Fits, bit_and, bit_or, bit_xor, refl, ap, ◌∙◌, arith}
-use Rattle.lane_rows.proofs.Common.{zip2, Each1, ints, clamps, cases_lt, U8, Wrap, Saturate, narrow, top, Each1-from_get_or}
+use Rattle.std.proofs.Common.{◌≡◌, inl, inr, ℕ, ℤ, pos, negsuc, suc, ◌+◌, ◌-◌, ◌%◌, ◌<◌, ◌≤◌, ◌-ℤ◌, unsigned_abs, List, length, map, get_or, take_all, Bool, true, false, cond, min, max, ltb, w8, Fits, bit_and, bit_or, bit_xor, refl, ap, ◌∙◌, arith}
+use Rattle.lane_rows.proofs.Common.{zip2, chunk, Each1, ints, clamps, cases_lt, U8, Wrap, Saturate, narrow, top, Each1-from_get_or}
 use Rattle.vx_base.specs.Pixelwise.{sum, difference, absolute_difference, smaller, greater, and_bits, or_bits, xor_bits, not_bits}
 use Rattle.lane_rows.proofs.LaneLaws.{clamp_pos, smaller_lane}
 use Rattle.lane_rows.proofs.Lanewise.{Lanewise, one, other, each, both, chosen, pairs_are, items_are, same_pairs, lanes_are}
@@ -130,8 +130,10 @@ ors_are = same_pairs pos pos pos bit_or or_bits (λ x y. refl)
 pub xors_are : (xs ys : List ℕ) → map pos (zip2 bit_xor xs ys) ≡ zip2 xor_bits (map pos xs) (map pos ys)
 xors_are = same_pairs pos pos pos bit_xor xor_bits (λ x y. refl)
 
-pub turned_are : (xs : List ℕ) → length xs ≡ 32 → ((i : ℕ) → Fits w8 (get_or xs i 0)) → map pos (map turned xs) ≡ map not_bits (map pos xs)
-turned_are xs p f = items_are (each turned one) (Fits w8) pos pos not_bits 32 xs p (Each1-from_get_or (Fits w8) xs 0 (λ i _. f i)) (λ x p. let e = p.fits in omega (arith, ints, e))
+pub turned_are : (xs : List ℕ) → length xs ≡ 32 → ((i : ℕ) → Fits w8 (get_or xs i 0)) → map pos (map turned (chunk 0 32 xs)) ≡ map not_bits (map pos xs)
+turned_are xs p f =
+    ap (λ l. map pos (map turned l)) (take_all 32 xs (omega (arith, p)))
+    ∙ items_are (each turned one) (Fits w8) pos pos not_bits 32 xs p (Each1-from_get_or (Fits w8) xs 0 (λ i _. f i)) (λ x q. let e = q.fits in omega (arith, ints, e))
 
 pub ruleset sum_lanes = (sums_wrapped, sums_clamped)
 

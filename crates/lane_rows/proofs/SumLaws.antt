@@ -108,10 +108,12 @@ of_squares k [] cs = refl
 of_squares k (z ∷ zs) [] = refl
 of_squares k (z ∷ zs) (c ∷ cs) = ap (λ l. accumulated_square S16 k z c ∷ l) (of_squares k zs cs)
 
-pub squares_added : (s k : ℕ) (xs : List ℕ) (cs : List ℤ) → s ≡ k → length xs ≡ 16 → ((i : ℕ) → Fits w8 (get_or xs i 0))
-    → zip2 (accumulated_sum S16) (map pos ((products s).all 16 (chunk 0 16 xs) (chunk 0 16 xs))) cs ≡ zip2 (accumulated_square S16 k) (map pos xs) cs
-squares_added s k xs cs is long fits =
-    ap (λ l. zip2 (accumulated_sum S16) (map pos ((products s).all 16 l l)) cs) (take_all 16 xs (omega (arith, long)))
+pub squares_added : (k : ℕ) (xs : List ℕ) (cs : List ℤ) → length xs ≡ 16 → ((i : ℕ) → Fits w8 (get_or xs i 0))
+    → zip2 (accumulated_sum S16) (map pos ((products k).all 16 (chunk 0 16 xs) (chunk 0 16 xs))) cs ≡ zip2 (accumulated_square S16 k) (map pos xs) cs
+squares_added k xs cs long fits =
+    ap (λ l. zip2 (accumulated_sum S16) (map pos ((products k).all 16 l l)) cs) (take_all 16 xs (omega (arith, long)))
     ∙ ap (λ l. zip2 (accumulated_sum S16) l cs)
-    (items_are (products s) (Fits w8) pos pos (λ a. int_div_euclid (a *ℤ a) (pos (2 ^ k))) 16 xs long (Each1-from_get_or (Fits w8) xs 0 (λ i _. fits i)) (λ x f. ap pos (product_lane x x s k is f f)))
+    (items_are (products k) (Fits w8) pos pos (λ a. int_div_euclid (a *ℤ a) (pos (2 ^ k))) 16 xs long (Each1-from_get_or (Fits w8) xs 0 (λ i _. fits i)) (λ x f. ap pos (product_lane x x k k refl f f)))
     ∙ of_squares k (map pos xs) cs
+
+pub ruleset square_lanes = (squares_added, map-id)
