@@ -1,5 +1,5 @@
 -- The items of a list of samples: the number that equal an item, and their least or greatest.
-use Rattle.std.proofs.Common.{◌≡◌, ℕ, ℤ, pos, ◌+◌, ◌-◌, ◌%◌, ◌^◌, ◌<◌, ◌≤◌, List, [], ◌∷◌, ◌++◌, length, map, take, get_or, cond, true, false, eqb, replicate, ap, ◌∙◌, sym, subst, refl, arith, rules, inl, inr, to_z, of_z, w8, w16, FitsSigned, count_by, slice_range, eq-eqb, ne_eqb, map-id}
+use Rattle.std.proofs.Common.{◌≡◌, ℕ, ℤ, pos, ◌+◌, ◌-◌, ◌%◌, ◌^◌, ◌<◌, ◌≤◌, List, [], ◌∷◌, ◌++◌, length, map, take, get_or, cond, true, false, eqb, replicate, ap, ◌∙◌, sym, refl, arith, rules, inl, inr, to_z, of_z, w8, w16, FitsSigned, count_by, slice_range, eq-eqb, ne_eqb, map-id}
 use Rattle.lane_rows.proofs.Common.{Each1, Width, cases_Bool, cases_eq, fold, int_eq, int_max, int_min, ints, length-map, ones, take-map, to_z-of_z, top, zip2, sum_by-append, sum_by-cons, count_by-le-length, best_of, count_of, common_steps, Each1-all}
 use Rattle.std.proofs.lemmas.Bool.Decides.{Decides-int_eq}
 use Rattle.lane_rows.proofs.BlockLaws.{block_read}
