@@ -1,6 +1,6 @@
 -- Arithmetic on bytes in lanes.
-use Rattle.std.proofs.Common.{◌≡◌, inl, inr, ℕ, ℤ, pos, negsuc, suc, ◌+◌, ◌-◌, ◌%◌, ◌<◌, ◌≤◌, ◌-ℤ◌, unsigned_abs, List, length, map, Bool, true, false, cond, min, max, ltb, w8, Fits, bit_and, bit_or, bit_xor, refl, ap, ◌∙◌, arith}
-use Rattle.lane_rows.proofs.Common.{zip2, Each1, ints, clamps, cases_lt, U8, Wrap, Saturate, narrow, top}
+use Rattle.std.proofs.Common.{◌≡◌, inl, inr, ℕ, ℤ, pos, negsuc, suc, ◌+◌, ◌-◌, ◌%◌, ◌<◌, ◌≤◌, ◌-ℤ◌, unsigned_abs, List, length, map, get_or, take_all, Bool, true, false, cond, min, max, ltb, w8, Fits, bit_and, bit_or, bit_xor, refl, ap, ◌∙◌, arith}
+use Rattle.lane_rows.proofs.Common.{zip2, chunk, Each1, ints, clamps, cases_lt, U8, Wrap, Saturate, narrow, top, Each1-from_get_or}
 use Rattle.vx_base.specs.Pixelwise.{sum, difference, absolute_difference, smaller, greater, and_bits, or_bits, xor_bits, not_bits}
 use Rattle.lane_rows.proofs.LaneLaws.{clamp_pos, smaller_lane}
 use Rattle.lane_rows.proofs.Lanewise.{Lanewise, one, other, each, both, chosen, pairs_are, items_are, same_pairs, lanes_are}
@@ -27,27 +27,21 @@ smallest e f = where_less e f e f
 abbrev pub largest : Lanewise ℕ ℕ ℕ → Lanewise ℕ ℕ ℕ → Lanewise ℕ ℕ ℕ
 largest e f = where_less e f f e
 
--- the results for two vectors of bytes, and for one
+-- the results for two vectors of bytes
 bytes_are : (e : Lanewise ℕ ℕ ℕ) (f : ℤ → ℤ → ℤ) (xs ys : List ℕ) → length xs ≡ 32 → length ys ≡ 32 → Each1 (Fits w8) xs → Each1 (Fits w8) ys
     → ((x y : ℕ) → Fits w8 x → Fits w8 y → pos (e.at x y) ≡ f (pos x) (pos y)) → map pos (e.all 32 xs ys) ≡ zip2 f (map pos xs) (map pos ys)
 bytes_are e f = pairs_are e (Fits w8) (Fits w8) pos pos pos f 32
-
-row_is : (e : Lanewise ℕ ℕ ℕ) (f : ℤ → ℤ) (xs : List ℕ) → length xs ≡ 32 → Each1 (Fits w8) xs → ((x : ℕ) → Fits w8 x → pos (e.at x x) ≡ f (pos x)) → map pos (e.all 32 xs xs) ≡ map f (map pos xs)
-row_is e f = items_are e (Fits w8) pos pos f 32
 
 -- ---- at one lane
 
 pub where_w8 : (t : Bool) (a b : ℕ) → cond (top 7 (cond t 255 0)) a b ≡ cond t a b
 where_w8 t a b = elim t as (λ v. cond (top 7 (cond v 255 0)) a b ≡ cond v a b) [ true ↦ refl | false ↦ refl ]
 
-greater_lane : (x y : ℕ) → cond (ltb x y) y x ≡ max x y
-greater_lane x y = grind arith
-
 smallest_at : (x y : ℕ) → cond (top 7 (less x y)) x y ≡ min x y
 smallest_at x y = where_w8 (ltb x y) x y ∙ smaller_lane x y
 
 largest_at : (x y : ℕ) → cond (top 7 (less x y)) y x ≡ max x y
-largest_at x y = where_w8 (ltb x y) y x ∙ greater_lane x y
+largest_at x y = where_w8 (ltb x y) y x ∙ grind arith
 
 below : (x y : ℕ) → x < y → pos x -ℤ pos y ≡ negsuc (y - suc x)
 below x y small = omega (arith, ints, small)
@@ -55,20 +49,14 @@ below x y small = omega (arith, ints, small)
 from : (x y : ℕ) → y ≤ x → pos x -ℤ pos y ≡ pos (x - y)
 from x y large = omega (arith, ints, large)
 
-pub turned_is : (x : ℕ) → Fits w8 x → pos (turned x) ≡ not_bits (pos x)
-turned_is x p = let e = p.fits in omega (arith, ints, e)
-
-pub sum_wrapped : (x y : ℕ) → Fits w8 x → Fits w8 y → pos (plus x y) ≡ sum U8 Wrap (pos x) (pos y)
-sum_wrapped x y p q = refl
-
-pub sum_clamped : (x y : ℕ) → Fits w8 x → Fits w8 y → pos (plus x (cond (top 7 (less y (turned x))) y (turned x))) ≡ sum U8 Saturate (pos x) (pos y)
+sum_clamped : (x y : ℕ) → Fits w8 x → Fits w8 y → pos (plus x (cond (top 7 (less y (turned x))) y (turned x))) ≡ sum U8 Saturate (pos x) (pos y)
 sum_clamped x y p q =
     let a = p.fits in
     let b = q.fits in
     let e : (x + min y (255 - x)) % 256 ≡ min (x + y) 255 = omega (arith, a, b) in
     rw (smallest_at y (255 - x), e) (clamp_pos (x + y))
 
-pub difference_wrapped : (x y : ℕ) → Fits w8 x → Fits w8 y → pos (minus x y) ≡ difference U8 Wrap (pos x) (pos y)
+difference_wrapped : (x y : ℕ) → Fits w8 x → Fits w8 y → pos (minus x y) ≡ difference U8 Wrap (pos x) (pos y)
 difference_wrapped x y p q =
     let a = p.fits in
     let b = q.fits in
@@ -80,7 +68,7 @@ difference_wrapped x y p q =
 clamp_negative : (n : ℕ) → pos 0 ≡ narrow U8 Saturate (negsuc n)
 clamp_negative n = grind (arith, ints, clamps)
 
-pub difference_clamped : (x y : ℕ) → Fits w8 x → Fits w8 y → pos (minus (cond (top 7 (less x y)) y x) y) ≡ difference U8 Saturate (pos x) (pos y)
+difference_clamped : (x y : ℕ) → Fits w8 x → Fits w8 y → pos (minus (cond (top 7 (less x y)) y x) y) ≡ difference U8 Saturate (pos x) (pos y)
 difference_clamped x y p q =
     let a = p.fits in
     let b = q.fits in
@@ -96,24 +84,18 @@ apart x y = elim (cases_lt x y) [
   | inr large ↦ (let e : x - y ≡ max x y - min x y = omega (arith, large) in rw (from x y large) e)
 ]
 
-pub distance_is : (x y : ℕ) → Fits w8 x → Fits w8 y → pos (minus (cond (top 7 (less x y)) y x) (cond (top 7 (less x y)) x y)) ≡ absolute_difference U8 (pos x) (pos y)
+distance_is : (x y : ℕ) → Fits w8 x → Fits w8 y → pos (minus (cond (top 7 (less x y)) y x) (cond (top 7 (less x y)) x y)) ≡ absolute_difference U8 (pos x) (pos y)
 distance_is x y p q =
     let a = p.fits in
     let b = q.fits in
     let e : (max x y + (256 - min x y)) % 256 ≡ min (max x y - min x y) 255 = omega (arith, a, b) in
     rw (largest_at x y, smallest_at x y, e, apart x y) (clamp_pos (max x y - min x y))
 
-pub smaller_is : (x y : ℕ) → Fits w8 x → Fits w8 y → pos (cond (top 7 (less x y)) x y) ≡ smaller (pos x) (pos y)
-smaller_is x y p q = ap pos (smallest_at x y) ∙ grind (arith, ints, clamps)
-
-pub greater_is : (x y : ℕ) → Fits w8 x → Fits w8 y → pos (cond (top 7 (less x y)) y x) ≡ greater (pos x) (pos y)
-greater_is x y p q = ap pos (largest_at x y) ∙ grind (arith, ints, clamps)
-
 -- ---- the results for two vectors
 
 module _ (xs ys : List ℕ) (p : length xs ≡ 32) (q : length ys ≡ 32) (f : Each1 (Fits w8) xs) (h : Each1 (Fits w8) ys) where
   pub sums_wrapped : map pos ((both plus one other).all 32 xs ys) ≡ zip2 (sum U8 Wrap) (map pos xs) (map pos ys)
-  sums_wrapped = bytes_are (both plus one other) (sum U8 Wrap) xs ys p q f h sum_wrapped
+  sums_wrapped = bytes_are (both plus one other) (sum U8 Wrap) xs ys p q f h (λ x y _ _. refl)
 
   pub sums_clamped : map pos ((both plus one (smallest other (each turned one))).all 32 xs ys) ≡ zip2 (sum U8 Saturate) (map pos xs) (map pos ys)
   sums_clamped = bytes_are (both plus one (smallest other (each turned one))) (sum U8 Saturate) xs ys p q f h sum_clamped
@@ -128,10 +110,10 @@ module _ (xs ys : List ℕ) (p : length xs ≡ 32) (q : length ys ≡ 32) (f : E
   distances_are = bytes_are (both minus (largest one other) (smallest one other)) (absolute_difference U8) xs ys p q f h distance_is
 
   pub smallest_are : map pos ((smallest one other).all 32 xs ys) ≡ zip2 smaller (map pos xs) (map pos ys)
-  smallest_are = bytes_are (smallest one other) smaller xs ys p q f h smaller_is
+  smallest_are = bytes_are (smallest one other) smaller xs ys p q f h (λ x y _ _. ap pos (smallest_at x y) ∙ grind (arith, ints, clamps))
 
   pub largest_are : map pos ((largest one other).all 32 xs ys) ≡ zip2 greater (map pos xs) (map pos ys)
-  largest_are = bytes_are (largest one other) greater xs ys p q f h greater_is
+  largest_are = bytes_are (largest one other) greater xs ys p q f h (λ x y _ _. ap pos (largest_at x y) ∙ grind (arith, ints, clamps))
 
   pub least_lanes : (smallest one other).all 32 xs ys ≡ zip2 min xs ys
   least_lanes = lanes_are (smallest one other) (Fits w8) (Fits w8) min 32 xs ys p q f h (λ x y _ _. smallest_at x y)
@@ -148,8 +130,10 @@ ors_are = same_pairs pos pos pos bit_or or_bits (λ x y. refl)
 pub xors_are : (xs ys : List ℕ) → map pos (zip2 bit_xor xs ys) ≡ zip2 xor_bits (map pos xs) (map pos ys)
 xors_are = same_pairs pos pos pos bit_xor xor_bits (λ x y. refl)
 
-pub turned_are : (xs : List ℕ) → length xs ≡ 32 → Each1 (Fits w8) xs → map pos (map turned xs) ≡ map not_bits (map pos xs)
-turned_are xs p f = row_is (each turned one) not_bits xs p f turned_is
+pub turned_are : (xs : List ℕ) → length xs ≡ 32 → ((i : ℕ) → Fits w8 (get_or xs i 0)) → map pos (map turned (chunk 0 32 xs)) ≡ map not_bits (map pos xs)
+turned_are xs p f =
+    ap (λ l. map pos (map turned l)) (take_all 32 xs (omega (arith, p)))
+    ∙ items_are (each turned one) (Fits w8) pos pos not_bits 32 xs p (Each1-from_get_or (Fits w8) xs 0 (λ i _. f i)) (λ x q. let e = q.fits in omega (arith, ints, e))
 
 pub ruleset sum_lanes = (sums_wrapped, sums_clamped)
 

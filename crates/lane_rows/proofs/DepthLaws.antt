@@ -1,8 +1,6 @@
 -- Bit depths: samples times a power of two, and over one.
-use Rattle.std.proofs.Common.{◌≡◌, ℕ, ℤ, pos, negsuc, suc, ◌-◌, ◌*◌, ◌%◌, ◌^◌, ◌<◌, ◌≤◌, ◌*ℤ◌, unsigned_abs, List, [], ◌∷◌, length, map, w8, w16, Fits, FitsSigned, to_z, of_z, bit_and, refl, ap, ◌∙◌, sym, subst, arith}
-use Rattle.std.specs.Int.{int_div_euclid, int_min, int_max}
-use Rattle.lane_rows.proofs.Common.{shr_z, Each1, pow-le-pow_right, mod-eq_of_lt, to_z_pos, to_z-of_z, U8, Wrap, Saturate, narrow, top}
-use Rattle.std.proofs.lemmas.Nat.{and_mask}
+use Rattle.std.proofs.Common.{◌≡◌, ℕ, ℤ, pos, negsuc, suc, ◌-◌, ◌*◌, ◌%◌, ◌^◌, ◌<◌, ◌≤◌, ◌*ℤ◌, unsigned_abs, List, [], ◌∷◌, length, map, w8, w16, Fits, FitsSigned, to_z, of_z, bit_and, refl, ap, ◌∙◌, sym, subst, arith, map-id}
+use Rattle.lane_rows.proofs.Common.{shr_z, Each1, pow-le-pow_right, mod-eq_of_lt, to_z_pos, to_z-of_z, U8, Wrap, Saturate, narrow, top, and_mask, int_div_euclid, int_min, int_max}
 use Rattle.std.specs.Int.Signed.{mag_shr}
 use Rattle.lane_rows.proofs.LaneLaws.{chosen_w16}
 use Rattle.lane_rows.proofs.NarrowLaws.{IsByte, nearest, nearest_at, raised_first, clamped_is_byte}
@@ -36,6 +34,8 @@ pub up_by_none : (xs : List ℕ) → map (λ a. a *ℤ pos (2 ^ 0)) (map pos xs)
 up_by_none [] = refl
 up_by_none (x ∷ xs) = let e : x * 1 ≡ x = omega arith in ap (λ n. pos n ∷ map (λ a. a *ℤ pos (2 ^ 0)) (map pos xs)) e ∙ ap (λ l. pos x ∷ l) (up_by_none xs)
 
+pub ruleset widening = (up_by_none, map-id)
+
 -- ---- down
 
 abbrev down : ℕ → ℕ → ℕ
@@ -58,12 +58,6 @@ natural x = unsigned_abs (to_z w16 x)
 
 bytes : (m : ℕ) → m < 256 → to_z w16 m ≡ pos m
 bytes m small = to_z_pos w16 m (omega (arith, small))
-
-is_byte : (m : ℕ) → m < 256 → IsByte (to_z w16 m)
-is_byte m small = rw (bytes m small) (tt, record { fits = small })
-
-natural_is : (m : ℕ) → m < 256 → natural m ≡ m
-natural_is m small = ap unsigned_abs (bytes m small)
 
 -- ---- at one lane
 
@@ -88,7 +82,7 @@ masked_below : (n : ℕ) → bit_and n 255 < 256
 masked_below n = let e : n % 256 < 256 = omega arith in subst (λ m. m < 256) (sym (and_mask n 8)) e
 
 left_is : (y : ℤ) → FitsSigned w16 y → pos (natural (bit_and (of_z w16 y) 255)) ≡ narrow U8 Wrap y
-left_is y f = ap pos (natural_is (bit_and (of_z w16 y) 255) (masked_below (of_z w16 y)) ∙ and_mask (of_z w16 y) 8) ∙ rest_of y f
+left_is y f = ap pos (ap unsigned_abs (bytes (bit_and (of_z w16 y) 255) (masked_below (of_z w16 y))) ∙ and_mask (of_z w16 y) 8) ∙ rest_of y f
 
 nearest_is : (z : ℤ) (s k : ℕ) → s ≡ k → FitsSigned w16 z → to_z w16 ((nearest_ones s).at z z) ≡ narrow U8 Saturate (over k z)
 nearest_is z s k is f =
@@ -99,7 +93,9 @@ nearest_is z s k is f =
 
 module _ (s k : ℕ) (zs : List ℤ) (is : s ≡ k) (long : length zs ≡ 32) (ps : Each1 (FitsSigned w16) zs) where
   pub lefts_fit : Each1 (λ x. IsByte (to_z w16 x)) ((lefts s).all 32 zs zs)
-  lefts_fit = each_is (lefts s) (FitsSigned w16) (FitsSigned w16) (λ x. IsByte (to_z w16 x)) 32 zs zs long long ps ps (λ x y p q. is_byte (bit_and (down (of_z w16 x) s) 255) (masked_below (down (of_z w16 x) s)))
+  lefts_fit =
+      each_is (lefts s) (FitsSigned w16) (FitsSigned w16) (λ x. IsByte (to_z w16 x)) 32 zs zs long long ps ps
+      (λ x y p q. let below = masked_below (down (of_z w16 x) s) in rw (bytes (bit_and (down (of_z w16 x) s) 255) below) (tt, record { fits = below }))
 
   pub nearest_fit : Each1 (λ x. IsByte (to_z w16 x)) ((nearest_ones s).all 32 zs zs)
   nearest_fit =

@@ -1,8 +1,6 @@
 -- Arithmetic on unsigned numbers, lane by lane.
 use Rattle.std.proofs.Common.{◌≡◌, ℕ, pos, ◌*◌, ◌/◌, ◌%◌, ◌^◌, ◌<◌, List, length, map, w16, Bool, true, false, cond, min, ltb, w8, Fits, refl, ap, ◌∙◌, sym, subst, arith, bit_and}
-use Rattle.lane_rows.proofs.Common.{zip2, Each1, ints, clamps, U8, Policy, Wrap, Saturate, narrow, product, top}
-use Rattle.std.proofs.lemmas.Nat.{and_mask}
-use Rattle.std.proofs.lemmas.Simd.{map-map}
+use Rattle.lane_rows.proofs.Common.{zip2, Each1, ints, clamps, U8, Policy, Wrap, Saturate, narrow, product, top, and_mask, map-map}
 use Rattle.lane_rows.proofs.Lanewise.{Lanewise, one, other, constant, each, both, chosen, items_are, pairs_are, each_is}
 
 -- products of bytes in 16 bits, over a power of two
@@ -35,18 +33,8 @@ pub smaller_lane : (x y : ℕ) → cond (ltb x y) x y ≡ min x y
 smaller_lane x y = grind arith
 
 -- the smaller of a number and 255
-pub clamped_lane : (x : ℕ) → cond (top 15 (cond (ltb x 255) 65535 0)) x 255 ≡ min x 255
+clamped_lane : (x : ℕ) → cond (top 15 (cond (ltb x 255) 65535 0)) x 255 ≡ min x 255
 clamped_lane x = chosen_w16 (ltb x 255) x 255 ∙ smaller_lane x 255
-
-pub clamped_fits : (x : ℕ) → Fits w8 (cond (top 15 (cond (ltb x 255) 65535 0)) x 255)
-clamped_fits x = let e : min x 255 < 256 = omega arith in subst (Fits w8) (sym (clamped_lane x)) (record { fits = e })
-
--- the last eight bits of a number
-pub wrapped_lane : (x : ℕ) → bit_and x 255 ≡ x % 256
-wrapped_lane x = and_mask x 8
-
-pub wrapped_fits : (x : ℕ) → Fits w8 (bit_and x 255)
-wrapped_fits x = let e : x % 256 < 256 = omega arith in subst (Fits w8) (sym (wrapped_lane x)) (record { fits = e })
 
 -- ---- numbers that become bytes
 
@@ -58,13 +46,13 @@ module _ (ns : List ℕ) (p : length ns ≡ 32) (f : Each1 (Fits w16) ns) where
   clamped_are = items_are (each (λ n. n) clamped_ones) (Fits w16) pos pos (narrow U8 Saturate) 32 ns p f (λ x _. ap pos (clamped_lane x) ∙ clamp_pos x)
 
   pub clamped_fit : Each1 (Fits w8) (clamped_ones.all 32 ns ns)
-  clamped_fit = each_is clamped_ones (Fits w16) (Fits w16) (Fits w8) 32 ns ns p p f f (λ x _ _ _. clamped_fits x)
+  clamped_fit = each_is clamped_ones (Fits w16) (Fits w16) (Fits w8) 32 ns ns p p f f (λ x _ _ _. let e : min x 255 < 256 = omega arith in subst (Fits w8) (sym (clamped_lane x)) (record { fits = e }))
 
   pub wrapped_are : map pos ((each (λ n. n) wrapped_ones).all 32 ns ns) ≡ map (narrow U8 Wrap) (map pos ns)
-  wrapped_are = items_are (each (λ n. n) wrapped_ones) (Fits w16) pos pos (narrow U8 Wrap) 32 ns p f (λ x _. ap pos (wrapped_lane x))
+  wrapped_are = items_are (each (λ n. n) wrapped_ones) (Fits w16) pos pos (narrow U8 Wrap) 32 ns p f (λ x _. ap pos (and_mask x 8))
 
   pub wrapped_fit : Each1 (Fits w8) (wrapped_ones.all 32 ns ns)
-  wrapped_fit = each_is wrapped_ones (Fits w16) (Fits w16) (Fits w8) 32 ns ns p p f f (λ x _ _ _. wrapped_fits x)
+  wrapped_fit = each_is wrapped_ones (Fits w16) (Fits w16) (Fits w8) 32 ns ns p p f f (λ x _ _ _. let e : x % 256 < 256 = omega arith in subst (Fits w8) (sym (and_mask x 8)) (record { fits = e }))
 
 pub ruleset narrow_lanes = (clamped_are, clamped_fit, wrapped_are, wrapped_fit)
 

@@ -1,7 +1,7 @@
 -- Branch-free code over the lanes of two vectors: all lanes, and a single one.
 use Rattle.std.proofs.Common.{◌≡◌, ℕ, List, [], ◌∷◌, length, map, Bool, cond, replicate, refl, ap, ◌∙◌, sym, subst, arith, map-id}
 use Rattle.lane_rows.proofs.Common.{zip2, Each1, sel_l, length-zip2}
-use Rattle.std.proofs.lemmas.Simd.{splat_is_map}
+use Rattle.std.proofs.lemmas.Simd.{splat_is_map, Each1-all}
 
 pub record Lanewise (A B C : Type 0) : Type 0 where
   pub all : ℕ → List A → List B → List C
@@ -78,32 +78,27 @@ length-all e n xs ys p q = ap length (e.same n xs ys p q) ∙ length-zip2 e.at x
 
 -- ---- from one place to all
 
-pub same_pairs : {A B C D E F : Type 0} (u : C → F) (v : A → D) (w : B → E) (g : A → B → C) (f : D → E → F) → ((a : A) (b : B) → u (g a b) ≡ f (v a) (w b)) → (xs : List A) (ys : List B)
-    → map u (zip2 g xs ys) ≡ zip2 f (map v xs) (map w ys)
-same_pairs u v w g f at [] ys = refl
-same_pairs u v w g f at (x ∷ xs) [] = refl
-same_pairs u v w g f at (x ∷ xs) (y ∷ ys) = cc (at x y, same_pairs u v w g f at xs ys)
-
 pub alike : {A B C D E F : Type 0} (P : A → Type 0) (Q : B → Type 0) (u : C → F) (v : A → D) (w : B → E) (g : A → B → C) (f : D → E → F) (xs : List A) (ys : List B)
     → Each1 P xs → Each1 Q ys → ((a : A) (b : B) → P a → Q b → u (g a b) ≡ f (v a) (w b)) → map u (zip2 g xs ys) ≡ zip2 f (map v xs) (map w ys)
 alike P Q u v w g f [] ys ps qs at = refl
 alike P Q u v w g f (x ∷ xs) [] ps qs at = refl
 alike P Q u v w g f (x ∷ xs) (y ∷ ys) ps qs at = cc (at x y ps.0 qs.0, alike P Q u v w g f xs ys ps.1 qs.1 at)
 
+pub same_pairs : {A B C D E F : Type 0} (u : C → F) (v : A → D) (w : B → E) (g : A → B → C) (f : D → E → F) → ((a : A) (b : B) → u (g a b) ≡ f (v a) (w b)) → (xs : List A) (ys : List B)
+    → map u (zip2 g xs ys) ≡ zip2 f (map v xs) (map w ys)
+same_pairs u v w g f at xs ys = alike (λ _. Unit {0}) (λ _. Unit {0}) u v w g f xs ys (Each1-all _ (λ _. tt) xs) (Each1-all _ (λ _. tt) ys) (λ a b _ _. at a b)
+
 -- the code's result for two vectors, as numbers
 pub pairs_are : {A B C D E F : Type 0} (e : Lanewise A B C) (P : A → Type 0) (Q : B → Type 0) (u : C → F) (v : A → D) (w : B → E) (f : D → E → F) (n : ℕ) (xs : List A) (ys : List B)
     → length xs ≡ n → length ys ≡ n → Each1 P xs → Each1 Q ys → ((a : A) (b : B) → P a → Q b → u (e.at a b) ≡ f (v a) (w b)) → map u (e.all n xs ys) ≡ zip2 f (map v xs) (map w ys)
 pairs_are e P Q u v w f n xs ys p q ps qs at = ap (map u) (e.same n xs ys p q) ∙ alike P Q u v w e.at f xs ys ps qs at
 
-pub alike_lanes : {A B C : Type 0} (P : A → Type 0) (Q : B → Type 0) (g f : A → B → C) (xs : List A) (ys : List B) → Each1 P xs → Each1 Q ys → ((a : A) (b : B) → P a → Q b → g a b ≡ f a b) → zip2 g xs ys ≡ zip2 f xs ys
-alike_lanes P Q g f [] ys ps qs at = refl
-alike_lanes P Q g f (x ∷ xs) [] ps qs at = refl
-alike_lanes P Q g f (x ∷ xs) (y ∷ ys) ps qs at = cc (at x y ps.0 qs.0, alike_lanes P Q g f xs ys ps.1 qs.1 at)
-
 -- its result for two vectors, as lanes
 pub lanes_are : {A B C : Type 0} (e : Lanewise A B C) (P : A → Type 0) (Q : B → Type 0) (f : A → B → C) (n : ℕ) (xs : List A) (ys : List B)
     → length xs ≡ n → length ys ≡ n → Each1 P xs → Each1 Q ys → ((a : A) (b : B) → P a → Q b → e.at a b ≡ f a b) → e.all n xs ys ≡ zip2 f xs ys
-lanes_are e P Q f n xs ys p q ps qs at = e.same n xs ys p q ∙ alike_lanes P Q e.at f xs ys ps qs at
+lanes_are e P Q f n xs ys p q ps qs at =
+    sym (map-id (e.all n xs ys)) ∙ pairs_are e P Q (λ c. c) (λ a. a) (λ b. b) f n xs ys p q ps qs at
+    ∙ ap (λ l. zip2 f l (map (λ b. b) ys)) (map-id xs) ∙ ap (zip2 f xs) (map-id ys)
 
 one_alike : {A C D F : Type 0} (P : A → Type 0) (u : C → F) (v : A → D) (g : A → A → C) (f : D → F) (xs : List A)
     → Each1 P xs → ((a : A) → P a → u (g a a) ≡ f (v a)) → map u (zip2 g xs xs) ≡ map f (map v xs)

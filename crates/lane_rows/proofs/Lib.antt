@@ -1,5 +1,4 @@
 mod Common
-mod RowLaws
 mod BlockLaws
 mod Lanewise
 mod LaneLaws

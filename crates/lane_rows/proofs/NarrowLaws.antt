@@ -1,13 +1,12 @@
 -- Numbers in lanes, narrowed.
 use Rattle.std.proofs.Common.{◌≡◌, Bool, true, false, cond, inl, inr, ℕ, ℤ, pos, negsuc, suc, ◌-◌, ◌*◌, ◌/◌, ◌%◌, ◌^◌, ◌<◌, ◌≤◌, int_lt, int_div, unsigned_abs, List, [], ◌∷◌, map, length, refl, ap, ◌∙◌, sym, subst, arith, w8, w16, w32, Fits, FitsSigned, to_z, of_z, ◌*ℤ◌, pow_pos}
-use Rattle.lane_rows.proofs.Common.{shr_z, zip2, Each1, cases_lt, nat_tests, ints, clamps, to_z-of_z, to_z_pos, U8, S16, Policy, Wrap, Saturate, narrow, product, top, Width, swap_quarters, length-zip2}
-use Rattle.std.specs.Int.{int_rem_euclid, int_min, int_max}
+use Rattle.lane_rows.proofs.Common.{shr_z, zip2, Each1, cases_lt, nat_tests, ints, clamps, to_z-of_z, to_z_pos, U8, S16, Policy, Wrap, Saturate, narrow, product, top, Width, swap_quarters, length-zip2, map-map, int_min, int_max}
+use Rattle.std.specs.Int.{int_rem_euclid}
 use Rattle.std.proofs.lemmas.Int.{quot_fits}
 use Rattle.vx_base.specs.Sample.{signed_of, clamp}
 use Rattle.lane_rows.proofs.Lanewise.{Lanewise, one, constant, each, both, chosen, numbers_are, each_is, map-zip2}
 use Rattle.lane_rows.proofs.ShortLaws.{of_bits, fit_as_bits, wider}
 use Rattle.lane_rows.proofs.QuarterLaws.{written_out}
-use Rattle.std.proofs.lemmas.Simd.{map-map}
 use lib.Dec.{T}
 use lib.Signed.{non_neg}
 

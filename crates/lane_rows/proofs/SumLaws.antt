@@ -1,17 +1,11 @@
 -- Sums that bytes, or their squares, are added to in lanes.
-use Rattle.std.proofs.Common.{◌≡◌, inl, inr, ℕ, ℤ, pos, negsuc, suc, ◌+◌, ◌-◌, ◌%◌, ◌^◌, ◌<◌, ◌+ℤ◌, ◌*ℤ◌, List, [], ◌∷◌, length, map, cond, min, ltb, w8, w16, Fits, FitsSigned, to_z, of_z, refl, ap, ◌∙◌, sym, subst, arith, map-id}
-use Rattle.std.specs.Int.{int_div_euclid}
+use Rattle.std.proofs.Common.{◌≡◌, inl, inr, ℕ, ℤ, pos, negsuc, suc, ◌+◌, ◌-◌, ◌%◌, ◌^◌, ◌<◌, ◌+ℤ◌, ◌*ℤ◌, List, [], ◌∷◌, length, map, cond, min, ltb, w8, w16, Fits, FitsSigned, to_z, of_z, refl, ap, ◌∙◌, sym, subst, arith, map-id, get_or, take_all}
 use Rattle.std.specs.Simd.Lanes.{put_chunk}
-use Rattle.lane_rows.proofs.Common.{zip2, Each1, length-map, length-zip2, put_chunk_whole, sel_l, number_l, digits_l, ints, clamps, cases_lt, to_z-of_z, to_z_pos, S16, Saturate, narrow, top}
+use Rattle.lane_rows.proofs.Common.{zip2, chunk, Each1, Each1-from_get_or, length-map, length-zip2, put_chunk_whole, sel_l, number_l, digits_l, ints, clamps, cases_lt, to_z-of_z, to_z_pos, S16, Saturate, narrow, top, int_div_euclid}
 use Rattle.vx_base.specs.Pixelwise.{accumulated_sum, accumulated_square}
 use Rattle.lane_rows.proofs.LaneLaws.{products, product_lane, chosen_w16, smaller_lane}
 use Rattle.lane_rows.proofs.DigitLaws.{recast}
 use Rattle.lane_rows.proofs.Lanewise.{Lanewise, one, other, constant, each, both, chosen, items_are, pairs_are, each_is, length-all}
-
--- ---- squares
-
-pub squares_are : (s k : ℕ) (xs : List ℕ) → s ≡ k → (length xs ≡ 16) × Each1 (Fits w8) xs → map pos ((products s).all 16 xs xs) ≡ map (λ a. int_div_euclid (a *ℤ a) (pos (2 ^ k))) (map pos xs)
-squares_are s k xs is p = items_are (products s) (Fits w8) pos pos (λ a. int_div_euclid (a *ℤ a) (pos (2 ^ k))) 16 xs p.0 p.1 (λ x f. ap pos (product_lane x x s k is f f))
 
 -- ---- sums that can grow
 
@@ -51,10 +45,7 @@ clamp_negative n small = grind (arith, ints, clamps, small)
 abbrev left : ℕ → ℕ
 left y = (32767 + (65536 - y)) % 65536
 
-abbrev sum_with : ℕ → ℤ → ℕ
-sum_with a c = plus (of_z w16 c) (min a (left (of_z w16 c)))
-
-sum_is : (a : ℕ) (c : ℤ) → a < 65536 → FitsSigned w16 c → to_z w16 (sum_with a c) ≡ accumulated_sum S16 (pos a) c
+sum_is : (a : ℕ) (c : ℤ) → a < 65536 → FitsSigned w16 c → to_z w16 (plus (of_z w16 c) (min a (left (of_z w16 c)))) ≡ accumulated_sum S16 (pos a) c
 sum_is a (pos n) small f =
     let e = f.sfits in
     let v : (n + min a ((32767 + (65536 - n)) % 65536)) % 65536 ≡ min (n + a) 32767 = omega (arith, small, e) in
@@ -81,9 +72,6 @@ added_below a c small = subst (λ n. n < 65536) (sym (min_at a (left (of_z w16 c
 after_is : (a : ℕ) (c : ℤ) → Fits w16 a → FitsSigned w16 c → to_z w16 (plus (of_z w16 c) (cond (top 15 (less a (left (of_z w16 c)))) a (left (of_z w16 c)))) ≡ accumulated_sum S16 (pos a) c
 after_is a c p f = ap (λ n. to_z w16 (plus (of_z w16 c) n)) (min_at a (left (of_z w16 c))) ∙ sum_is a c p.fits f
 
-left_below : (y : ℕ) → left y < 65536
-left_below y = omega arith
-
 -- ---- in lanes
 
 module _ (xs : List ℕ) (cs : List ℤ) (p : (length xs ≡ 16) × Each1 (Fits w16) xs) (long : length cs ≡ 16) (fs : Each1 (FitsSigned w16) cs) where
@@ -96,7 +84,7 @@ module _ (xs : List ℕ) (cs : List ℤ) (p : (length xs ≡ 16) × Each1 (Fits 
   room_same : in_bytes (room.all 16 xs cs) ≡ room.all 16 xs cs
   room_same =
       same_bytes (room.all 16 xs cs) (length-all room 16 xs cs p.0 long)
-      (each_is room (Fits w16) (FitsSigned w16) (λ x. x < 65536) 16 xs cs p.0 long p.1 fs (λ a c f g. left_below (of_z w16 c)))
+      (each_is room (Fits w16) (FitsSigned w16) (λ x. x < 65536) 16 xs cs p.0 long p.1 fs (λ a c f g. omega arith))
 
   accumulated_are : map (to_z w16) (sums (in_bytes (least (in_bytes (room.all 16 xs cs))))) ≡ zip2 (accumulated_sum S16) (map pos xs) cs
   accumulated_are =
@@ -113,8 +101,19 @@ module _ (xs : List ℕ) (cs : List ℤ) (p : (length xs ≡ 16) × Each1 (Fits 
       let made = ap length accumulated_are ∙ length-zip2 (accumulated_sum S16) (map pos xs) cs (length-map xs pos ∙ p.0 ∙ sym long) ∙ length-map xs pos ∙ p.0 in
       put_chunk_whole old _ (ap length (sym same) ∙ long ∙ sym made) ∙ accumulated_are ∙ ap (zip2 (accumulated_sum S16) (map pos xs)) same
 
--- of squares
-pub of_squares : (k : ℕ) (zs cs : List ℤ) → zip2 (accumulated_sum S16) (map (λ a. int_div_euclid (a *ℤ a) (pos (2 ^ k))) zs) cs ≡ zip2 (accumulated_square S16 k) zs cs
+-- ---- squares of bytes over a power of two
+
+of_squares : (k : ℕ) (zs cs : List ℤ) → zip2 (accumulated_sum S16) (map (λ a. int_div_euclid (a *ℤ a) (pos (2 ^ k))) zs) cs ≡ zip2 (accumulated_square S16 k) zs cs
 of_squares k [] cs = refl
 of_squares k (z ∷ zs) [] = refl
 of_squares k (z ∷ zs) (c ∷ cs) = ap (λ l. accumulated_square S16 k z c ∷ l) (of_squares k zs cs)
+
+pub squares_added : (k : ℕ) (xs : List ℕ) (cs : List ℤ) → length xs ≡ 16 → ((i : ℕ) → Fits w8 (get_or xs i 0))
+    → zip2 (accumulated_sum S16) (map pos ((products k).all 16 (chunk 0 16 xs) (chunk 0 16 xs))) cs ≡ zip2 (accumulated_square S16 k) (map pos xs) cs
+squares_added k xs cs long fits =
+    ap (λ l. zip2 (accumulated_sum S16) (map pos ((products k).all 16 l l)) cs) (take_all 16 xs (omega (arith, long)))
+    ∙ ap (λ l. zip2 (accumulated_sum S16) l cs)
+    (items_are (products k) (Fits w8) pos pos (λ a. int_div_euclid (a *ℤ a) (pos (2 ^ k))) 16 xs long (Each1-from_get_or (Fits w8) xs 0 (λ i _. fits i)) (λ x f. ap pos (product_lane x x k k refl f f)))
+    ∙ of_squares k (map pos xs) cs
+
+pub ruleset square_lanes = (squares_added, map-id)

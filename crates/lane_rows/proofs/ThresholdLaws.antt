@@ -1,7 +1,7 @@
 -- Thresholds in lanes: a test of each lane, and the choice of one of two bytes.
 use Rattle.std.proofs.Common.{◌≡◌, ℕ, ℤ, pos, int_lt, int_le, ◌&&◌, if◌then◌else◌, List, length, map, Bool, true, false, cond, ltb, w8, w16, FitsSigned, to_z, of_z, refl, ap, ◌∙◌, arith, map-id}
-use Rattle.lane_rows.proofs.Common.{zip2, Each1, ints, nat_tests, to_z-of_z, top}
-use Rattle.std.proofs.lemmas.Simd.{Each1-all, Each1-zip2, Each2-all}
+use Rattle.lane_rows.proofs.Common.{zip2, Each1, ints, nat_tests, put_chunk_whole, to_z-of_z, top, common_steps, Each1-all}
+use Rattle.std.proofs.lemmas.Simd.{Each1-zip2, Each2-all}
 use Rattle.vx_base.specs.declared.threshold.ThresholdKind.TheVariants.{Binary, Range}
 use Rattle.lane_rows.specs.Chosen as spec
 use Rattle.lane_rows.proofs.ByteLaws.{where_w8, where_less}
@@ -74,3 +74,5 @@ module _ (t f : ℕ) (zs : List ℤ) (p : length zs ≡ 32) (ps : Each1 (FitsSig
       (λ z s. ap pos (at_lane z lower f _ s q ∙ ap (λ n. cond (int_lt z lower) f n) (at_lane upper z f t r s)) ∙ between (int_lt z lower) (int_lt upper z) lower upper z t f refl refl)
 
 pub ruleset short_thresholds = (shorts_above, shorts_between, map-id)
+
+pub ruleset stores = (common_steps, put_chunk_whole)

@@ -63,9 +63,10 @@ impl OfSum<u8, i16> for Squared {
         sum.saturating_add_unsigned(scaled_square(a, self.amount))
     }
 
+    #[tactic(auto, using(crate::proofs::SumLaws::square_lanes))]
     fn lanes(&self, row: &[u8], sums: &mut [i16]) {
         let bytes = u8x16::from_slice(row).cast::<u16>();
-        add_lanes((bytes * bytes) >> u16::from(self.amount), sums);
+        add_lanes((bytes * bytes) >> self.amount as u16, sums);
     }
 }
 

@@ -81,6 +81,7 @@ impl<A: Short, B: Short, K: Arithmetic> OfPair<A, B, i16> for OfSamples<'_, K> {
         self.0.of_shorts(a.short(), b.short())
     }
 
+    #[tactic(auto, using(crate::proofs::BlockLaws::parts))]
     fn lanes(&self, first: &[A], second: &[B], out: &mut [i16]) {
         let (first, first_rest) = first.split_at(16);
         let (second, second_rest) = second.split_at(16);

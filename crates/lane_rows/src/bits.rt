@@ -72,7 +72,7 @@ impl OfItem<u8, u8> for Not {
 
 impl LanesOfItem<u8, u8> for Not {
     fn lanes(&self, row: &[u8], out: &mut [u8]) {
-        store_32_bytes((!bytes_of(row)).to_array(), out);
+        store_32_bytes((!u8x32::from_slice(row)).to_array(), out);
     }
 }
 

@@ -4,9 +4,8 @@ ghost use Rattle.std.specs.Int.{int_min, int_max};
 ghost use Rattle.std.specs.Ordering.{int_eq};
 ghost use Rattle.vx_base.specs.Statistics.{count_of};
 
-use crate::item::Short;
+use crate::item::{Short, bytes_of, shorts_of};
 use std::simd::prelude::*;
-use vx_base::prove_shorts;
 
 /// An item type with an order: `u8` or `i16`.
 pub trait Compared: Short {
@@ -40,7 +39,7 @@ impl Compared for u8 {
     }
 
     fn count_in(self, block: &[u8]) -> u32 {
-        let matches = u8x32::from_slice(block).simd_eq(u8x32::splat(self));
+        let matches = bytes_of(block).simd_eq(u8x32::splat(self));
         matches.to_bitmask().count_ones()
     }
 }
@@ -59,8 +58,7 @@ impl Compared for i16 {
     }
 
     fn count_in(self, block: &[i16]) -> u32 {
-        prove_shorts(block);
-        let matches = i16x32::from_slice(block).simd_eq(i16x32::splat(self));
+        let matches = shorts_of(block).simd_eq(i16x32::splat(self));
         matches.to_bitmask().count_ones()
     }
 }

@@ -69,6 +69,7 @@ impl<P: Overflow> LanesOfItem<i16, u8> for Narrowed<P> {
 }
 
 /// Writes the items as S16 samples of the same values.
+#[tactic(auto, using(crate::proofs::DepthLaws::widening))]
 pub fn widen(row: &[u8], out: &mut [i16])
     requires { length row.now ≡ length out.old }
     ensures { out.new ≡ map pos row.now }

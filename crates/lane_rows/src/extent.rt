@@ -2,6 +2,8 @@
 //!
 //! The loops are plain and have no branches, so that the compiler computes them in lanes. Lanes of
 //! `std::simd` take 1.4 to 1.8 times as long on processors with registers of 16 bytes.
+#![tactic(auto, using(crate::proofs::CountLaws::extents))]
+
 ghost use Rattle.std.specs.Prelude.{◌≡◌, ◌<◌, ◌^◌, pos, map, length};
 ghost use Rattle.std.specs.Int.{int_min, int_max};
 ghost use Rattle.vx_base.specs.Statistics.{best_of, count_of};

@@ -1,6 +1,6 @@
 //! Writes rows in blocks of 32 items. The last block may overlap the block before. A row shorter
 //! than a block is written item by item.
-ghost use Rattle.std.specs.Prelude.{◌≡◌, ◌+◌, ◌-◌, ◌*◌, ◌<◌, ◌≤◌, ℕ, ℤ, map, take, length};
+ghost use Rattle.std.specs.Prelude.{◌≡◌, ◌+◌, ◌-◌, ◌<◌, ◌≤◌, ℕ, ℤ, map, take, length};
 ghost use Rattle.vx_base.specs.Image.{run};
 
 use crate::item::Item;
@@ -25,18 +25,6 @@ pub trait Indexed<T: Item> {
         ensures { map T.value out.new ≡ run place 32 (at self.now) };
 }
 
-/// Writes the first blocks of 32 items.
-fn write_blocks<T: Item, R: Indexed<T>>(row: &R, blocks: usize, out: &mut [T])
-    requires count { R.count row.now ≡ length out.old }
-    requires inside { 32 * blocks ≤ length out.old }
-    ensures { map T.value (take (32 * blocks) out.new) ≡ run 0 (32 * blocks) (R.at row.now) }
-{
-    for k in 0..blocks {
-        let start = 32 * k;
-        row.lanes(start, &mut out[start..start + 32]);
-    }
-}
-
 /// Writes the last 32 items. The items before them have already been written, and some of the 32
 /// may have been, too.
 fn write_last<T: Item, R: Indexed<T>>(row: &R, out: &mut [T])
@@ -50,6 +38,7 @@ fn write_last<T: Item, R: Indexed<T>>(row: &R, out: &mut [T])
 }
 
 /// Writes all items one by one.
+#[tactic(auto, using(crate::proofs::BlockLaws::runs))]
 fn write_items<T: Item, R: Indexed<T>>(row: &R, out: &mut [T])
     requires count { R.count row.now ≡ length out.old }
     ensures { map T.value out.new ≡ run 0 (length out.old) (R.at row.now) }
@@ -67,8 +56,11 @@ pub fn write_indexed<T: Item, R: Indexed<T>>(row: &R, out: &mut [T])
     let count = out.len();
     if count < 32 {
         write_items(row, out);
-    } else {
-        write_blocks(row, count / 32, out);
-        write_last(row, out);
+        return;
     }
+    for k in 0..count / 32 {
+        let start = 32 * k;
+        row.lanes(start, &mut out[start..start + 32]);
+    }
+    write_last(row, out);
 }

@@ -1,4 +1,6 @@
 //! The number types of a row's items.
+#![tactic(auto, using(crate::proofs::SampleLaws::samples))]
+
 ghost use Rattle.std.specs.Prelude.{◌≡◌, ℤ, pos, map, length, FitsSigned};
 ghost use Rattle.std.specs.Int.{w16};
 ghost use Rattle.std.specs.Simd.Lanes.{Each1};

@@ -16,6 +16,7 @@ pub fn map_items<A: Item, T: Item, K: OfItem<A, T>>(kernel: &K, row: &[A], out: 
 }
 
 /// Writes the kernel's result for each pair of items of two rows.
+#[tactic(auto, using(crate::proofs::BlockLaws::items))]
 pub fn zip_items<A: Item, B: Item, T: Item, K: OfPair<A, B, T>>(
     kernel: &K,
     first: &[A],
@@ -33,6 +34,7 @@ pub fn zip_items<A: Item, B: Item, T: Item, K: OfPair<A, B, T>>(
 }
 
 /// Updates each sum with the row's item at the same index.
+#[tactic(auto, using(crate::proofs::BlockLaws::items))]
 pub fn update_items<A: Item, T: Item, K: OfSum<A, T>>(kernel: &K, row: &[A], sums: &mut [T])
     requires { length row.now ≡ length sums.old }
     ensures { map T.value sums.new ≡ zip2 (K.formula kernel.now) (map A.value row.now)

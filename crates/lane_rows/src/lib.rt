@@ -9,7 +9,7 @@
 //!
 //! - `item`: the number types of items
 //! - `kernel`: the traits of kernels, for one row, for two rows, and for updates
-//! - `rows`: writes whole rows, by `blocks` and by `items`
+//! - `rows`: writes whole rows: blocks in lanes, then the remaining `items`
 //! - `stores`: stores of lanes, and kernels without vector instructions
 //! - `overflow`: policies as types, so that no loop tests the policy
 //! - `arithmetic`: kernels of two U8 or S16 items
@@ -79,7 +79,6 @@ mod accumulation;
 mod arithmetic;
 mod axpy;
 mod bits;
-mod blocks;
 mod columns;
 mod compared;
 mod depths;

@@ -55,8 +55,9 @@ impl<P: Overflow> Arithmetic for Product<P> {
         narrow_s16(scaled_product(a, b, self.amount), self.overflow.policy())
     }
 
+    #[tactic(auto, using(crate::proofs::LaneLaws::products_narrowed))]
     fn bytes(&self, a: u8x32, b: u8x32) -> u8x32 {
-        let products = (a.cast::<u16>() * b.cast::<u16>()) >> u16::from(self.amount);
+        let products = (a.cast::<u16>() * b.cast::<u16>()) >> self.amount as u16;
         narrowed_bytes(products, self.overflow.policy())
     }
 

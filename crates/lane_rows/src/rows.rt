@@ -1,8 +1,9 @@
 //! Writes or updates whole rows: complete blocks in lanes, and the remaining items one by one.
+#![tactic(auto, using(crate::proofs::BlockLaws::parts))]
+
 ghost use Rattle.std.specs.Prelude.{◌≡◌, map, length};
 ghost use Rattle.std.specs.Simd.Lanes.{zip2};
 
-use crate::blocks::{map_blocks, update_blocks, zip_blocks};
 use crate::item::Item;
 use crate::items::{map_items, update_items, zip_items};
 use crate::kernel::{LanesOfItem, OfPair, OfSum};
@@ -15,7 +16,10 @@ pub fn map_row<A: Item, T: Item, K: LanesOfItem<A, T>>(kernel: &K, row: &[A], ou
     let blocks = out.len() / 32;
     let (row, row_rest) = row.split_at(32 * blocks);
     let (out, out_rest) = out.split_at_mut(32 * blocks);
-    map_blocks(kernel, row, blocks, out);
+    for k in 0..blocks {
+        let start = 32 * k;
+        kernel.lanes(&row[start..start + 32], &mut out[start..start + 32]);
+    }
     map_items(kernel, row_rest, out_rest);
 }
 
@@ -35,7 +39,14 @@ pub fn zip_rows<A: Item, B: Item, T: Item, K: OfPair<A, B, T>>(
     let (first, first_rest) = first.split_at(32 * blocks);
     let (second, second_rest) = second.split_at(32 * blocks);
     let (out, out_rest) = out.split_at_mut(32 * blocks);
-    zip_blocks(kernel, first, second, blocks, out);
+    for k in 0..blocks {
+        let start = 32 * k;
+        kernel.lanes(
+            &first[start..start + 32],
+            &second[start..start + 32],
+            &mut out[start..start + 32],
+        );
+    }
     zip_items(kernel, first_rest, second_rest, out_rest);
 }
 
@@ -48,6 +59,9 @@ pub fn update_row<A: Item, T: Item, K: OfSum<A, T>>(kernel: &K, row: &[A], sums:
     let blocks = sums.len() / 16;
     let (row, row_rest) = row.split_at(16 * blocks);
     let (sums, sums_rest) = sums.split_at_mut(16 * blocks);
-    update_blocks(kernel, row, blocks, sums);
+    for k in 0..blocks {
+        let start = 16 * k;
+        kernel.lanes(&row[start..start + 16], &mut sums[start..start + 16]);
+    }
     update_items(kernel, row_rest, sums_rest);
 }

@@ -16,6 +16,7 @@ fn count_one(counts: &mut [u32; 256], value: u8)
 /// Adds the histogram of a row to the counts. The count of a value is the sum of its entries in
 /// four tables. Successive items go to different tables, so that equal neighbours don't wait for
 /// each other.
+#[tactic(auto, using(crate::proofs::TallyLaws::tallies))]
 pub fn tally_row(
     row: &[u8],
     first: &mut [u32; 256],

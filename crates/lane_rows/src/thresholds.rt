@@ -159,6 +159,7 @@ impl<A: Tested> OfItem<A, u8> for Between<A> {
 }
 
 impl<A: Tested> LanesOfItem<A, u8> for Between<A> {
+    #[tactic(auto, using(crate::proofs::ThresholdLaws::stores))]
     fn lanes(&self, row: &[A], out: &mut [u8]) {
         A::between(
             row,

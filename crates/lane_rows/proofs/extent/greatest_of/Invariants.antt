@@ -1,6 +1,6 @@
-use Rattle.std.proofs.Common.{◌≡◌, pos, map, take, get_or}
+use Rattle.std.proofs.Common.{◌≡◌, map, take}
 use Rattle.lane_rows.proofs.Common.{fold, int_max}
 use Rattle.lane_rows.proofs.extent.greatest_of.Given as goal
 
 abbrev pub invariant-loop-item : goal.invariant-loop-item
-invariant-loop-item g l = g.T.Item.value l.greatest ≡ fold int_max (get_or (map g.T.Item.value l.row) 0 (pos 0)) (take l.item-index (map g.T.Item.value l.row))
+invariant-loop-item g l = g.T.Item.value l.greatest ≡ fold int_max (g.T.Item.value l.initial.greatest) (map g.T.Item.value (take l.item-index l.row))

@@ -3,4 +3,4 @@ use Rattle.lane_rows.proofs.Common.{count_of}
 use Rattle.lane_rows.proofs.occurrences.first_of.Given as goal
 
 abbrev pub invariant-loop-i : goal.invariant-loop-i
-invariant-loop-i g l = count_of (g.T.Item.value l.item) (take l.i (map g.T.Item.value l.row)) ≡ 0
+invariant-loop-i g l = count_of (g.T.Item.value l.item) (map g.T.Item.value (take l.i l.row)) ≡ 0

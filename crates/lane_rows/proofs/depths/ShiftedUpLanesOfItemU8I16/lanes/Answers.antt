@@ -1,5 +1,5 @@
 use Rattle.std.proofs.Common.{ap, ◌∙◌, w8, w16, of_z, Fits, map-id}
-use Rattle.std.proofs.lemmas.Simd.{Each1-from_get_or}
+use Rattle.lane_rows.proofs.Common.{Each1-from_get_or}
 use Rattle.lane_rows.proofs.DepthLaws.{up_is}
 use Rattle.lane_rows.proofs.depths.ShiftedUpLanesOfItemU8I16.lanes.Goals as goal
 

@@ -1,6 +1,6 @@
 use Rattle.std.proofs.Common.{◌≡◌, ◌*◌, map, take, drop}
 use Rattle.lane_rows.proofs.Common.{zip2}
-use Rattle.lane_rows.proofs.blocks.update_blocks.Given as goal
+use Rattle.lane_rows.proofs.rows.update_row.Given as goal
 
 abbrev pub invariant-loop-k : goal.invariant-loop-k
 invariant-loop-k g l = record {
