@@ -1,5 +1,5 @@
 -- Rows that are written item by item, block by block, and in two parts.
-use Rattle.std.proofs.Common.{◌≡◌, ℕ, ℤ, ◌+◌, ◌≤◌, List, [], ◌∷◌, ◌++◌, length, map, take, drop, ap, sym, refl, arith, append_assoc, length-append, length-take-le, take-append-drop}
+use Rattle.std.proofs.Common.{◌≡◌, ℕ, ℤ, ◌+◌, ◌≤◌, List, [], ◌∷◌, ◌++◌, length, take, drop, ap, sym, refl, arith, append_assoc, length-append, length-take-le, take-append-drop}
 use Rattle.lane_rows.proofs.Common.{take-add, map-append, zip2, common_steps, run, run-append}
 use Rattle.std.proofs.lemmas.List.{take_at, drop_at}
 
@@ -39,11 +39,3 @@ pub run_next : (f : ℕ → ℤ) (i : ℕ) → (run 0 i f ≡ run 0 i f) × (run
 run_next f i = let here : 0 + i ≡ i = omega arith in (refl, rw (run-append f 0 i 1, here) refl)
 
 pub ruleset runs = (common_steps, run_next)
-
--- blocks and the rest, of one row
-pub rest_written : {A T : Type 0} (of : A → ℤ) (value : T → ℤ) (f : ℤ → ℤ) (xs us us' : List A) (ws rs : List T) (n : ℕ)
-    → us ≡ take n xs → us' ≡ drop n xs → map value ws ≡ map f (map of us) → map value rs ≡ map f (map of us')
-    → map value (ws ++ rs) ≡ map f (map of xs)
-rest_written of value f xs us us' ws rs n a a' first last =
-    let whole : us ++ us' ≡ xs = rw (a, a') (take-append-drop n xs) in
-    rw (← whole, map-append value ws rs, first, last, map-append of us us', map-append) refl

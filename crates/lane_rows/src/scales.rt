@@ -130,6 +130,7 @@ impl<T: Clamped> OfItem<i32, T> for Scale {
 }
 
 impl<T: Clamped> LanesOfItem<i32, T> for Scale {
+    #[tactic(auto, using(crate::proofs::BlockLaws::parts))]
     fn lanes(&self, row: &[i32], out: &mut [T]) {
         let (row, row_rest) = row.split_at(16);
         let (out, out_rest) = out.split_at_mut(16);

@@ -24,6 +24,7 @@ fn store_sixteen<K: OfItem<u8, u8>>(kernel: &K, row: &[u8], out: &mut [u8])
 
 /// Writes the kernel's results for a block of 32 bytes. The processor has no vector instruction for
 /// the kernel, but storing 16 bytes together is faster than storing them one by one.
+#[tactic(auto, using(crate::proofs::BlockLaws::parts))]
 pub fn store_bytes<K: OfItem<u8, u8>>(kernel: &K, row: &[u8], out: &mut [u8])
     requires row_len { length row.now ≡ 32 }
     requires out_len { length out.old ≡ 32 }
