@@ -1,12 +1,11 @@
 -- The samples of bands of rows, and what is counted of them.
 use Rattle.std.proofs.Common.{Bool, ◌≡◌, ℕ, zero, suc, ℤ, ◌+◌, ◌-◌, ◌*◌, ◌<◌, ◌≤◌, List, [], ◌++◌, length, map, slice_index, cond, replicate, inl, inr, refl, ap, sym, ◌∙◌, arith, ◌&&◌, nat_le, nat_lt, if◌then◌else◌, min, max, unsigned_abs, append-nil, append_assoc}
 use Rattle.vx_base.specs.Image.{description_of}
-use Rattle.stat_kernels.proofs.Common.{Description, int_min, int_max, cases_Bool, cases_lt, nat_tests, side, rectangle_ordered, length-map, map-append, get_or_past, length-replicate, get_or-replicate, length-map-range_with_len, get_or-map-range_with_len, fill_by_all, count_by-le-length, sum_by-append, ImageValue, IsImage, pixel_at, Rectangle, BinsValue, bin_of, is_bin, histogram, samples_in, tallies, valid_samples, rectangle_pixels, row_pixels, extremes, Band, all_rows, bin_sums, band_of, valid_in, extremes_of, found_in}
+use Rattle.stat_kernels.proofs.Common.{Description, int_min, int_max, cases_Bool, cases_lt, nat_tests, side, rectangle_ordered, length-map, map-append, get_or_past, length-replicate, get_or-replicate, length-map-range_with_len, get_or-map-range_with_len, fill_by_all, count_by-le-length, sum_by-append, ImageValue, IsImage, pixel_at, Rectangle, BinsValue, bin_of, is_bin, histogram, samples_in, tallies, valid_samples, rectangle_pixels, row_pixels, extremes, Band, all_rows, bin_sums, band_of, valid_in, columns_in, valid_run, extremes_of, found_in}
 use Rattle.std.specs.List.{count_by}
-use Rattle.stat_kernels.proofs.PlaceLaws.{length-samples, places_more, places_none}
+use Rattle.stat_kernels.proofs.PlaceLaws.{above, length-places, places_more, places_none, samples_joined}
 use Rattle.vx_base.specs.Object.{no_extremes}
-use Rattle.stat_kernels.proofs.FirstPixelLaws.{at_most, AreLowered, lowered_more, lowered_none}
-use Rattle.stat_kernels.proofs.Rows.{above}
+use Rattle.stat_kernels.proofs.MergeLaws.{at_most}
 
 abbrev pub rows_at : ℕ → ℕ → Band
 rows_at start count = record { start = start; count = count }
@@ -16,6 +15,10 @@ rows_at start count = record { start = start; count = count }
 -- the places of a rectangle in one row
 abbrev pub row_of : Rectangle → ℕ → List (ℕ × ℕ)
 row_of r y = if nat_le r.y0 y && nat_lt y r.y1 then row_pixels r.x0 (r.x1 - r.x0) y else []
+
+-- the pixels of a row by their number
+pub row_is : (r : Rectangle) (y : ℕ) → row_of r y ≡ row_pixels r.x0 (columns_in r y) y
+row_is r y = elim (cases_Bool (nat_le r.y0 y && nat_lt y r.y1)) [ inl some ↦ rw some refl | inr none ↦ rw none refl ]
 
 -- no rows have no places
 pub no_places : (r : Rectangle) (start : ℕ) → rectangle_pixels (band_of (rows_at start 0) r) ≡ []
@@ -45,6 +48,9 @@ one_row r start count =
           ∙ ap (λ b. rectangle_pixels (band_of (rows_at start count) r) ++ row b) (sym outside)
     ]
 
+pub rows_more : (r : Rectangle) (start count : ℕ) → rectangle_pixels (band_of (rows_at start (count + 1)) r) ≡ rectangle_pixels (band_of (rows_at start count) r) ++ row_pixels r.x0 (columns_in r (start + count)) (start + count)
+rows_more r start count = one_row r start count ∙ ap (λ l. rectangle_pixels (band_of (rows_at start count) r) ++ l) (row_is r (start + count))
+
 -- rows after others
 pub rows_follow : (r : Rectangle) (start first second : ℕ)
     → rectangle_pixels (band_of (rows_at start (first + second)) r) ≡ rectangle_pixels (band_of (rows_at start first) r) ++ rectangle_pixels (band_of (rows_at (start + first) second) r)
@@ -65,6 +71,11 @@ rows_follow r start first (suc second) =
 pub samples_none : (r : Rectangle) (image : ImageValue) (start : ℕ) → samples_in (band_of (rows_at start 0) r) image ≡ []
 samples_none r image start = ap (map (λ p. pixel_at image p.0 p.1)) (no_places r start)
 
+-- one more row
+pub samples_more : (image : ImageValue) (start count : ℕ) → valid_samples (valid_in (rows_at start (count + 1)) image) ≡ valid_samples (valid_in (rows_at start count) image) ++ valid_run image (start + count)
+samples_more image start count =
+    samples_joined (pixel_at image) _ _ image.valid.x0 (columns_in image.valid (start + count)) (start + count) (rows_more image.valid start count)
+
 -- rows after others
 pub samples_after : (r : Rectangle) (image : ImageValue) (start first second : ℕ)
     → samples_in (band_of (rows_at start (first + second)) r) image
@@ -80,9 +91,6 @@ all_valid image is =
     let bottom : max (max r.y0 0) (min r.y1 (0 + image.height)) ≡ r.y1 = grind (arith, nat_tests, (rectangle_ordered r is.canonical).rows, is.room.rows) in
     let top : max r.y0 0 ≡ r.y0 = grind (arith, nat_tests) in
     rw (bottom, top) refl
-
-pub whole_valid : (image : ImageValue) (rows : Band) (d : Description) → IsImage image → rows ≡ all_rows d.height → d ≡ description_of image → valid_in rows image ≡ image
-whole_valid image rows d is whole same = ap (λ (b : Band). valid_in b image) (whole ∙ ap (λ (d : Description). all_rows d.height) same) ∙ all_valid image is
 
 -- ---- counts of bands
 
@@ -122,26 +130,19 @@ tally_few b zs k =
     ]
 
 -- no rows of an image have more valid samples than an image has at most
-pub few_samples : (image : ImageValue) → IsImage image → (rows : Band) → length (valid_samples (valid_in rows image)) ≤ 67108864
-few_samples image is rows =
+pub few_places : (image : ImageValue) → IsImage image → (rows : Band) → length (rectangle_pixels (band_of rows image.valid)) ≤ 67108864
+few_places image is rows =
     let r = band_of rows image.valid in
     let high : r.y1 - r.y0 ≤ 8192 = grind (arith, nat_tests, is.sides.height, is.room.rows, (rectangle_ordered image.valid is.canonical).rows) in
-    omega (arith, length-samples r image, all_few (r.y1 - r.y0) (r.x1 - r.x0) high (omega (arith, side image.width is.sides.width, is.room.columns)))
+    omega (arith, length-places r, all_few (r.y1 - r.y0) (r.x1 - r.x0) high (omega (arith, side image.width is.sides.width, is.room.columns)))
   where
     all_few : (m k : ℕ) → m ≤ 8192 → k ≤ 8192 → m * k ≤ 67108864
     all_few m k rows columns = grind arith
 
--- ---- extremes of bands
+pub few_samples : (image : ImageValue) → IsImage image → (rows : Band) → length (valid_samples (valid_in rows image)) ≤ 67108864
+few_samples image is rows = omega (arith, length-map (rectangle_pixels (band_of rows image.valid)) (λ p. pixel_at image p.0 p.1), few_places image is rows)
 
--- bands of two images with the same valid columns and samples in each row, the second `down` rows lower
-pub places_lowered : (a b : ImageValue) (down one other count : ℕ)
-    → ((j : ℕ) → j < count → AreLowered down (pixel_at a) (pixel_at b) (row_of a.valid (one + j)) (row_of b.valid (other + j)))
-    → AreLowered down (pixel_at a) (pixel_at b) (rectangle_pixels (band_of (rows_at one count) a.valid)) (rectangle_pixels (band_of (rows_at other count) b.valid))
-places_lowered a b down one other zero rows = rw (no_places a.valid one, no_places b.valid other) (lowered_none down (pixel_at a) (pixel_at b))
-places_lowered a b down one other (suc count) rows =
-    let next : suc count ≡ count + 1 = omega arith in
-    let first = places_lowered a b down one other count (λ j below. rows j (omega (arith, below))) in
-    rw (next, one_row a.valid one count, one_row b.valid other count) (lowered_more down (pixel_at a) (pixel_at b) _ _ _ _ first (rows count (omega arith)))
+-- ---- extremes of bands
 
 -- nothing is found in no rows
 pub none_located : (image : ImageValue) (start : ℕ) → extremes (valid_in (rows_at start 0) image) ≡ no_extremes

@@ -5,10 +5,10 @@ pub use Rattle.lane_rows.specs.Running.{sum_below, sums_below}
 pub use Rattle.lane_rows.specs.Tallies.{count_at, count_in_all}
 pub use Rattle.stat_kernels.specs.Counts.{bin_sums}
 pub use Rattle.stat_kernels.specs.Extreme.{extremes_of, found_in}
-pub use Rattle.stat_kernels.specs.Part.{IsValidPart, band_of, valid_in}
+pub use Rattle.stat_kernels.specs.Part.{band_of, columns_in, valid_in, valid_run}
 pub use Rattle.stat_kernels.specs.Sums.{IsRowAbove, last_row, sums_row}
 pub use Rattle.stat_kernels.specs.declared.extreme.Found.{Found}
-pub use Rattle.stat_kernels.specs.declared.part.Part.{Part}
+pub use Rattle.vx_base.specs.declared.extremes.Extremes.{Extremes}
 pub use Rattle.std.proofs.lemmas.Bool.{cases_Bool, cases_eq, cases_lt}
 pub use Rattle.std.proofs.lemmas.Bool.Decides.{nat_tests}
 pub use Rattle.std.proofs.lemmas.Int.{ints, to_z-of_z}

@@ -77,13 +77,6 @@ counted_all b zs before now size small are =
 pub zero_at : (n v : ℕ) → get_or (replicate {A = ℕ} n 0) v 0 ≡ 0
 zero_at n v = grind (arith, cases_lt v n, get_or-replicate {A = ℕ} n v 0 0, get_or_past (replicate {A = ℕ} n 0) v 0, length-replicate {A = ℕ} n 0)
 
--- counts that are added to none
-pub added_to_none : (b : BinsValue) (zs : List ℤ) (n : ℕ) → n ≡ b.bins → bin_sums (replicate n 0) (tallies b zs) ≡ tallies b zs
-added_to_none b zs n size =
-    let long = length-map-range_with_len (λ k. count_by (λ z. is_bin k (bin_of b (unsigned_abs z))) zs) 0 b.bins in
-    sym (fill_by_all (λ k. get_or (replicate {A = ℕ} n 0) k 0 + get_or (tallies b zs) k 0) (tallies b zs) (length (replicate {A = ℕ} n 0)) 0 (long ∙ sym (length-replicate n 0 ∙ size))
-    (λ k below. omega (arith, zero_at n k)))
-
 -- ---- four tables
 
 -- nothing is counted yet

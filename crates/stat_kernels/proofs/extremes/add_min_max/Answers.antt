@@ -1,26 +1,80 @@
-use Rattle.std.proofs.Common.{◌+◌, ◌-◌, ◌≤◌, ap, arith, ℤ}
-use Rattle.stat_kernels.proofs.Common.{int_min, int_max, nat_tests, rectangle_ordered, ImageValue, IsImage, pixel_at, best_of, rectangle_pixels, samples_in, first_of, Band, band_of, Found}
-use Rattle.image_core.specs.Bands.{IsInRows}
-use Rattle.stat_kernels.proofs.FirstPixelLaws.{first_within}
+use Rattle.std.proofs.Common.{◌≡◌, ℕ, ℤ, ◌+◌, ◌≤◌, ◌++◌, List, map, ◌∙◌, ap, sym, arith}
+use Rattle.std.proofs.lemmas.Simd.{map-map}
+use Rattle.stat_kernels.proofs.Common.{int_min, int_max, side, length-map, map-append, range_with_len, ImageValue, IsImage, pixel_at, best_of, count_of, rectangle_pixels, row_pixels, Band, band_of, columns_in, extremes_of, found_in, Found}
+use Rattle.stat_kernels.specs.Extreme.{extreme_among, found_of, merge_found, pixel_above}
+use Rattle.stat_kernels.proofs.MergeLaws.{at_most, found_joined, found_lowered, lower, samples_lowered}
+use Rattle.stat_kernels.proofs.BandLaws.{few_places, no_places, rows_at, rows_more}
 use Rattle.stat_kernels.proofs.extremes.add_min_max.Goals as goal
 
--- the first of some places of a band of an image is within it
-first_in : (image : ImageValue) (rows : Band) (v : ℤ) → IsImage image → IsInRows image.height rows → (first_of (pixel_at image) v (rectangle_pixels (band_of rows image.valid))).1 ≤ image.height
-first_in image rows v is within =
-    let r = band_of rows image.valid in
-    let ends : r.y0 + (r.y1 - r.y0) ≤ image.height = grind (arith, nat_tests, (rectangle_ordered image.valid is.canonical).rows, is.room.rows, within) in
-    omega (arith, first_within (pixel_at image) v r, ends)
+-- the pixels of a band, `down` rows lower
+abbrev lowered : ImageValue → Band → ℕ → List (ℕ × ℕ)
+lowered image rows down = map (lower down) (rectangle_pixels (band_of rows image.valid))
 
-pub shift_down-found-requires-clause-least : goal.shift_down-found-requires-clause-least
-shift_down-found-requires-clause-least c =
-    let image = c.args.image.now in
-    let first = first_in image c.args.rows (best_of int_min (samples_in (band_of c.args.rows image.valid) image))
-    c.valid-valid.ensures.image c.requires.rows in
-    omega (arith, ap (λ (f : Found). f.least.at.1) c.found_in.ensures, first, c.requires.down)
+lowered_more : (image : ImageValue) (start k down : ℕ)
+    → lowered image (rows_at start k) down ++ row_pixels image.valid.x0 (columns_in image.valid (start + k)) (start + k + down) ≡ lowered image (rows_at start (k + 1)) down
+lowered_more image start k down =
+    let r = image.valid in
+    let n = columns_in r (start + k) in
+    ap (λ l. lowered image (rows_at start k) down ++ l) (sym (map-map (lower down) (λ x. (x, start + k)) (range_with_len r.x0 n)))
+    ∙ sym (ap (map (lower down)) (rows_more r start k) ∙ map-append (lower down) (rectangle_pixels (band_of (rows_at start k) r)) (row_pixels r.x0 n (start + k)))
 
-pub shift_down-found-requires-clause-greatest : goal.shift_down-found-requires-clause-greatest
-shift_down-found-requires-clause-greatest c =
+lowered_count : (choose : ℤ → ℤ → ℤ) (image : ImageValue) (rows : Band) (down : ℕ)
+    → (extreme_among choose (pixel_above down image) (lowered image rows down)).count ≡ (extreme_among choose (pixel_at image) (rectangle_pixels (band_of rows image.valid))).count
+lowered_count choose image rows down = ap (λ zs. count_of (best_of choose zs) zs) (sym (samples_lowered image down (rectangle_pixels (band_of rows image.valid))))
+
+few_lowered : (choose : ℤ → ℤ → ℤ) (image : ImageValue) (is : IsImage image) (rows : Band) (down : ℕ) → (extreme_among choose (pixel_above down image) (lowered image rows down)).count ≤ 67108864
+few_lowered choose image is rows down =
+    omega (arith, at_most choose (pixel_above down image) (lowered image rows down), length-map (rectangle_pixels (band_of rows image.valid)) (lower down), few_places image is rows)
+
+-- at the end of the loop
+ended : (image : ImageValue) (rows : Band) (down k : ℕ) (found : Found) → found ≡ found_in (pixel_above down image) (lowered image (rows_at rows.start k) down) → k ≡ rows.count
+    → found ≡ found_in (pixel_above down image) (lowered image rows down)
+ended image rows down k found is last = is ∙ ap (λ n. found_in (pixel_above down image) (lowered image (rows_at rows.start n) down)) last
+
+pub loop-k-init : goal.loop-k-init
+loop-k-init c =
     let image = c.args.image.now in
-    let first = first_in image c.args.rows (best_of int_max (samples_in (band_of c.args.rows image.valid) image))
-    c.valid-valid.ensures.image c.requires.rows in
-    omega (arith, ap (λ (f : Found). f.greatest.at.1) c.found_in.ensures, first, c.requires.down)
+    let f = pixel_above c.args.down image in
+    c.nowhere-found.ensures f ∙ ap (λ ps. found_in f (map (lower c.args.down) ps)) (sym (no_places image.valid c.args.rows.start))
+
+pub with_row-found-requires-clause-least_room : goal.with_row-found-requires-clause-least_room
+with_row-found-requires-clause-least_room c =
+    let few = few_lowered int_min c.args.image.now c.valid-valid.ensures.image (rows_at c.args.rows.start c.loop-k.k) c.args.down in
+    omega (arith, ap (λ (f : Found). f.least.count) c.loop-k.invariant, few, side c.args.image.now.width c.valid-valid.ensures.image.sides.width)
+
+pub with_row-found-requires-clause-greatest_room : goal.with_row-found-requires-clause-greatest_room
+with_row-found-requires-clause-greatest_room c =
+    let few = few_lowered int_max c.args.image.now c.valid-valid.ensures.image (rows_at c.args.rows.start c.loop-k.k) c.args.down in
+    omega (arith, ap (λ (f : Found). f.greatest.count) c.loop-k.invariant, few, side c.args.image.now.width c.valid-valid.ensures.image.sides.width)
+
+pub loop-k-preserved : goal.loop-k-preserved
+loop-k-preserved c =
+    let image = c.args.image.now in
+    let f = pixel_above c.args.down image in
+    let start = c.args.rows.start in
+    let k = c.loop-k.k in
+    let row = row_pixels image.valid.x0 (columns_in image.valid (start + k)) (start + k + c.args.down) in
+    c.with_row-found.ensures ∙ ap (λ (a : Found). merge_found a (found_in f row)) c.loop-k.invariant
+    ∙ found_joined f (lowered image (rows_at start k) c.args.down) row ∙ ap (found_in f) (lowered_more image start k c.args.down)
+
+pub merge-requires-clause-least_room : goal.merge-requires-clause-least_room
+merge-requires-clause-least_room c =
+    let found = ended c.args.image.now c.args.rows c.args.down c.loop-k.k c.loop-k.found c.loop-k.invariant (omega arith) in
+    omega (arith, ap (λ (f : Found). f.least.count) c.of.ensures, ap (λ (f : Found). f.least.count) found, lowered_count int_min c.args.image.now c.args.rows c.args.down, c.requires.least_room)
+
+pub merge-requires-clause-greatest_room : goal.merge-requires-clause-greatest_room
+merge-requires-clause-greatest_room c =
+    let found = ended c.args.image.now c.args.rows c.args.down c.loop-k.k c.loop-k.found c.loop-k.invariant (omega arith) in
+    omega (arith, ap (λ (f : Found). f.greatest.count) c.of.ensures, ap (λ (f : Found). f.greatest.count) found, lowered_count int_max c.args.image.now c.args.rows c.args.down, c.requires.greatest_room)
+
+pub returns : goal.returns
+returns c =
+    let image = c.args.image.now in
+    let rows = c.args.rows in
+    let a = found_of c.args.above in
+    let ps = rectangle_pixels (band_of rows image.valid) in
+    let found = ended image rows c.args.down c.loop-k.k c.loop-k.found c.loop-k.invariant (omega arith) in
+    c.extremes_of.ensures
+    ∙ ap extremes_of
+    (c.merge.ensures ∙ ap (λ (b : Found). merge_found b c.loop-k.found) c.of.ensures ∙ ap (merge_found a) found
+    ∙ found_lowered (pixel_at image) (pixel_above c.args.down image) c.args.down a ps (samples_lowered image c.args.down ps))

@@ -1,0 +1,177 @@
+-- Extremes of pixels, merged with those of later pixels.
+use Rattle.std.proofs.Common.{zero, suc, ◌≡◌, ℕ, ℤ, ◌+◌, ◌-◌, ◌<◌, ◌≤◌, List, [], ◌∷◌, ◌++◌, length, map, cond, Bool, true, false, inl, inr, ap, ◌∙◌, sym, refl, arith, int_lt, to_z, of_z, w16, FitsSigned}
+use Rattle.stat_kernels.proofs.Common.{fold, int_eq, int_min, int_max, cases_Bool, cases_eq, ints, to_z-of_z, length-map, sum_by-cons, count_by-le-length, nat_tests, ImageValue, pixel_at, run, row_pixels, best_of, count_of, first_of, found_in}
+use Rattle.stat_kernels.specs.declared.extreme.Extreme.{Extreme}
+use Rattle.stat_kernels.specs.declared.extreme.Found.{Found}
+use Rattle.lane_rows.proofs.CountLaws.{eq_from_test, test_same, test_other}
+use Rattle.stat_kernels.specs.Extreme.{extreme_among, merge_found, pixel_above, shift_down, shift_found, merge}
+
+-- `choose` takes the sample that is beyond the other one, by the strict order `beyond`
+pub record IsDirection (choose : ℤ → ℤ → ℤ) (beyond : ℤ → ℤ → Bool) : Type 0 where
+  pub takes : (v z : ℤ) → beyond z v ≡ true → choose v z ≡ z
+  pub keeps : (v z : ℤ) → beyond z v ≡ false → choose v z ≡ v
+  pub irreflexive : (z : ℤ) → beyond z z ≡ false
+  pub total : (z v : ℤ) → beyond z v ≡ false → (z ≡ v → ⊥) → beyond v z ≡ true
+  pub associative : (v z w : ℤ) → choose (choose v z) w ≡ choose v (choose z w)
+  pub transitive : (w z v : ℤ) → beyond w z ≡ true → beyond z v ≡ true → beyond w v ≡ true
+
+pub downwards : IsDirection int_min int_lt
+downwards = grind (arith, ints)
+
+pub upwards : IsDirection int_max (λ z v. int_lt v z)
+upwards = grind (arith, ints)
+
+abbrev pub samples : (f : ℕ → ℕ → ℤ) → List (ℕ × ℕ) → List ℤ
+samples f ps = map (λ p. f p.0 p.1) ps
+
+-- the extreme of one pixel
+abbrev one : (f : ℕ → ℕ → ℤ) → ℕ × ℕ → Extreme
+one f p = record { value = f p.0 p.1; count = 1; at = p }
+
+-- the pixel `down` rows lower
+abbrev pub lower : ℕ → ℕ × ℕ → ℕ × ℕ
+lower down p = (p.0, p.1 + down)
+
+count_cons : (v a : ℤ) (zs : List ℤ) → count_of v (a ∷ zs) ≡ cond (int_eq a v) 1 0 + count_of v zs
+count_cons v a zs = sum_by-cons (λ s. cond (int_eq s v) 1 0) a zs
+
+shift_merge : (beyond : ℤ → ℤ → Bool) (down : ℕ) (a b : Extreme) → shift_down down (merge beyond a b) ≡ merge beyond (shift_down down a) (shift_down down b)
+shift_merge beyond down a b = grind arith
+
+module _ (choose : ℤ → ℤ → ℤ) (beyond : ℤ → ℤ → Bool) (d : IsDirection choose beyond) where
+  merge_assoc : (a b c : Extreme) → merge beyond (merge beyond a b) c ≡ merge beyond a (merge beyond b c)
+  merge_assoc a b c = elim (cases_eq c.count 0) [
+    | inl none ↦ rw none refl
+    | inr some ↦ elim (cases_eq b.count 0) [
+      | inl none ↦ grind (arith, nat_tests)
+      | inr more ↦ elim (cases_Bool (beyond b.value a.value)) [
+        | inl is ↦ grind (arith, nat_tests, eq_from_test, d.transitive c.value b.value a.value)
+        | inr not ↦ elim (cases_Bool (int_eq b.value a.value)) [
+          | inl same ↦ let equal = eq_from_test b.value a.value same in grind (arith, nat_tests)
+          | inr other ↦
+              let first = d.total b.value a.value not (λ e. cc (other, e, test_same a.value)) in
+              let last : beyond c.value b.value ≡ false → int_eq c.value b.value ≡ false → (beyond c.value a.value ≡ false) × (int_eq c.value a.value ≡ false) =
+              λ below differ. (
+              let between = d.transitive a.value b.value c.value first (d.total c.value b.value below (λ e. cc (differ, e, test_same b.value))) in
+              (grind (arith, between, d.transitive c.value a.value c.value, d.irreflexive c.value), test_other c.value a.value (λ e. cc (between, e, d.irreflexive a.value)))) in
+              grind (arith, nat_tests, last, eq_from_test c.value b.value)
+        ]
+      ]
+    ]
+  ]
+
+  fold_joined : (a z : ℤ) (zs : List ℤ) → fold choose (choose a z) zs ≡ choose a (fold choose z zs)
+  fold_joined a z [] = refl
+  fold_joined a z (w ∷ zs) = ap (λ b. fold choose b zs) (d.associative a z w) ∙ fold_joined a (choose z w) zs
+
+  -- the sample that is chosen is one of them
+  fold_counted : (a : ℤ) (zs : List ℤ) → 0 < count_of (fold choose a zs) (a ∷ zs)
+  fold_counted a [] = grind (arith, count_cons a a [], test_same a)
+  fold_counted a (z ∷ zs) =
+      let v = fold choose (choose a z) zs in
+      grind (arith, fold_counted (choose a z) zs, cases_Bool (beyond z a), d.takes a z, d.keeps a z, count_cons v a (z ∷ zs), count_cons v z zs, count_cons v (choose a z) zs)
+
+  pub chosen_among : (zs : List ℤ) (v : ℤ) → 0 < length zs → v ≡ best_of choose zs → 0 < count_of v zs
+  chosen_among [] v some is = absurd (omega (arith, some))
+  chosen_among (a ∷ zs) v some is = omega (arith, fold_counted a zs, ap (λ w. count_of w (a ∷ zs)) is)
+
+  -- a sample beyond the one that is chosen is none of them
+  count_beyond : (z : ℤ) (zs : List ℤ) → beyond z (best_of choose zs) ≡ true → count_of z zs ≡ 0
+  count_beyond z [] is = refl
+  count_beyond z (a ∷ []) is = grind (arith, count_cons z a [], test_other a z (λ e. cc (is, e, d.irreflexive z)))
+  count_beyond z (a ∷ w ∷ zs) is =
+      let v = fold choose w zs in
+      let both : (beyond z a ≡ true) × (beyond z v ≡ true) =
+      grind (arith, eq_from_test v a, fold_joined a w zs, is, cases_Bool (beyond v a), cases_Bool (int_eq v a), d.takes a v, d.keeps a v, d.total v a, test_same a, d.transitive z v a, d.transitive z a v) in
+      grind (arith, count_cons z a (w ∷ zs), test_other a z (λ e. cc (both.0, e, d.irreflexive z)), count_beyond z (w ∷ zs) both.1)
+
+  module _ (f : ℕ → ℕ → ℤ) where
+    extreme_at : (ps : List (ℕ × ℕ)) (v : ℤ) → best_of choose (samples f ps) ≡ v → extreme_among choose f ps ≡ record { value = v; count = count_of v (samples f ps); at = first_of f v ps }
+    extreme_at ps v is = rw is refl
+
+    -- one more pixel, before the others
+    extreme_cons : (p : ℕ × ℕ) (ps : List (ℕ × ℕ)) → extreme_among choose f (p ∷ ps) ≡ merge beyond (one f p) (extreme_among choose f ps)
+    extreme_cons p [] = grind (arith, count_cons (f p.0 p.1) (f p.0 p.1) [], test_same (f p.0 p.1))
+    extreme_cons p (q ∷ ps) =
+        let z = f p.0 p.1 in
+        let zs = samples f (q ∷ ps) in
+        let v = best_of choose zs in
+        let some = fold_counted (f q.0 q.1) (samples f ps) in
+        let joined : best_of choose (z ∷ zs) ≡ choose z v = fold_joined z (f q.0 q.1) (samples f ps) in
+        elim (cases_Bool (beyond v z)) [
+          | inl is ↦
+              let other = test_other z v (λ e. cc (is, e, d.irreflexive z)) in
+              extreme_at (p ∷ q ∷ ps) v (joined ∙ d.takes z v is) ∙ grind (arith, nat_tests, some, count_cons v z zs)
+          | inr not ↦ elim (cases_Bool (int_eq v z)) [
+            | inl same ↦
+                let equal = eq_from_test v z same in
+                extreme_at (p ∷ q ∷ ps) z (joined ∙ d.keeps z v not) ∙ grind (arith, nat_tests, some, count_cons z z zs, test_same z)
+            | inr other ↦
+                let none = count_beyond z zs (d.total v z not (λ e. cc (other, e, test_same z))) in
+                extreme_at (p ∷ q ∷ ps) z (joined ∙ d.keeps z v not) ∙ grind (arith, nat_tests, some, count_cons z z zs, test_same z)
+          ]
+        ]
+
+    pub extremes_joined : (ps qs : List (ℕ × ℕ)) → merge beyond (extreme_among choose f ps) (extreme_among choose f qs) ≡ extreme_among choose f (ps ++ qs)
+    extremes_joined [] [] = refl
+    extremes_joined [] (q ∷ qs) = grind (arith, nat_tests, fold_counted (f q.0 q.1) (samples f qs))
+    extremes_joined (p ∷ ps) qs =
+        cc (extreme_cons p ps, merge_assoc (one f p) (extreme_among choose f ps) (extreme_among choose f qs), extremes_joined ps qs, extreme_cons p (ps ++ qs))
+
+  -- merging the extreme of lower pixels equals merging the extreme moved down
+  pub extreme_lowered : (f g : ℕ → ℕ → ℤ) (down : ℕ) (a : Extreme) (ps : List (ℕ × ℕ)) → samples f ps ≡ samples g (map (lower down) ps)
+      → merge beyond a (extreme_among choose g (map (lower down) ps)) ≡ merge beyond a (shift_down down (extreme_among choose f ps))
+  extreme_lowered f g down a [] same = refl
+  extreme_lowered f g down a (p ∷ ps) same =
+      let here : f p.0 p.1 ≡ g p.0 (p.1 + down) = cc in
+      let rest : samples f ps ≡ samples g (map (lower down) ps) = cc in
+      cc (
+        here,
+        extreme_cons g (lower down p) (map (lower down) ps),
+        extreme_cons f p ps,
+        extreme_lowered f g down (one g (lower down p)) ps rest,
+        shift_merge beyond down (one f p) (extreme_among choose f ps),
+      )
+
+-- ---- both extremes
+
+-- samples of 16 bits in their order
+pub same_order : (a b : ℤ) → FitsSigned w16 a → FitsSigned w16 b → int_lt (to_z w16 (of_z w16 a)) (to_z w16 (of_z w16 b)) ≡ int_lt a b
+same_order a b fits other_fits = rw (to_z-of_z w16 a fits, to_z-of_z w16 b other_fits) refl
+
+-- the extreme of a row, merged
+pub row_merged : (choose : ℤ → ℤ → ℤ) (beyond : ℤ → ℤ → Bool) (f : ℕ → ℕ → ℤ) (ps : List (ℕ × ℕ)) (ws : List ℤ) (v : ℤ) (is : Bool) (a : Extreme) → ws ≡ samples f ps → v ≡ best_of choose ws → is ≡ beyond v a.value
+    → merge (λ _ _. is) a (record { value = v; count = count_of v ws; at = first_of f v ps }) ≡ merge beyond a (extreme_among choose f ps)
+row_merged choose beyond f ps ws v is a row best test = rw (test, best, row) refl
+
+pub found_joined : (f : ℕ → ℕ → ℤ) (ps qs : List (ℕ × ℕ)) → merge_found (found_in f ps) (found_in f qs) ≡ found_in f (ps ++ qs)
+found_joined f ps qs = cc (extremes_joined int_min int_lt downwards f ps qs, extremes_joined int_max (λ z v. int_lt v z) upwards f ps qs)
+
+pub found_lowered : (f g : ℕ → ℕ → ℤ) (down : ℕ) (a : Found) (ps : List (ℕ × ℕ)) → samples f ps ≡ samples g (map (lower down) ps)
+    → merge_found a (found_in g (map (lower down) ps)) ≡ merge_found a (shift_found down (found_in f ps))
+found_lowered f g down a ps same =
+    cc (extreme_lowered int_min int_lt downwards f g down a.least ps same, extreme_lowered int_max (λ z v. int_lt v z) upwards f g down a.greatest ps same)
+
+-- no count is above the number of pixels
+pub at_most : (choose : ℤ → ℤ → ℤ) (f : ℕ → ℕ → ℤ) (ps : List (ℕ × ℕ)) → (extreme_among choose f ps).count ≤ length ps
+at_most choose f ps = omega (arith, count_by-le-length (λ s. int_eq s (best_of choose (samples f ps))) (samples f ps), length-map ps (λ p. f p.0 p.1))
+
+-- the samples of an image at lower pixels
+pub samples_lowered : (image : ImageValue) (down : ℕ) (ps : List (ℕ × ℕ)) → samples (pixel_at image) ps ≡ samples (pixel_above down image) (map (lower down) ps)
+samples_lowered image down [] = refl
+samples_lowered image down (p ∷ ps) = let back : p.1 + down - down ≡ p.1 = omega arith in cc (back, samples_lowered image down ps)
+
+-- the first pixel of a row with v
+pub first_in_row : (f : ℕ → ℕ → ℤ) (v : ℤ) (x y n i : ℕ) → i < n → f (x + i) y ≡ v → count_of v (run x i (λ k. f k y)) ≡ 0 → first_of f v (row_pixels x n y) ≡ (x + i, y)
+first_in_row f v x y zero i below here none = absurd (omega arith)
+first_in_row f v x y (suc n) zero below here none =
+    let first : x + 0 ≡ x = omega arith in
+    let at : f x y ≡ v = rw first at here in
+    grind (arith, at, test_same v, first)
+first_in_row f v x y (suc n) (suc i) below here none =
+    let next : x + 1 + i ≡ x + suc i = omega arith in
+    let at : f (x + 1 + i) y ≡ v = ap (λ k. f k y) next ∙ here in
+    let counted = count_cons v (f x y) (run (x + 1) i (λ k. f k y)) in
+    let other : int_eq (f x y) v ≡ false = grind (arith, counted, none, cases_Bool (int_eq (f x y) v)) in
+    let rest = first_in_row f v (x + 1) y n i (omega arith) at (omega (arith, counted, none)) in
+    grind (arith, other, rest, next)
