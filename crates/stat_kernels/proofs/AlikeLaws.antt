@@ -7,17 +7,12 @@ use Rattle.stat_kernels.specs.Extreme.{added_extremes, merge_found}
 use Rattle.stat_kernels.specs.Sums.{AreRowsOf}
 use Rattle.stat_kernels.proofs.MergeLaws.{found_joined, found_lowered, lower, samples}
 use Rattle.stat_kernels.proofs.BandLaws.{no_places, rows_at, rows_follow, rows_more}
-use Rattle.stat_kernels.proofs.PlaceLaws.{row_samples}
+use Rattle.stat_kernels.proofs.PlaceLaws.{range_from, row_samples}
 
 -- pixels, and the same pixels `down` rows lower with the same samples
 record AreLowered (down : ℕ) (f g : ℕ → ℕ → ℤ) (ps qs : List (ℕ × ℕ)) : Type 0 where
   pub places_same : qs ≡ map (lower down) ps
   pub samples_same : samples f ps ≡ samples g qs
-
--- as many pixels of a row from one column as from another, if these columns are the same
-row_from : (a b n y : ℕ) → (0 < n → a ≡ b) → row_pixels a n y ≡ row_pixels b n y
-row_from a b zero y same = refl
-row_from a b (suc n) y same = ap (λ x. row_pixels x (suc n) y) (same (omega arith))
 
 -- rows with the same valid columns and the same samples there
 row_lowered : (r s : Rectangle) (f g : ℕ → ℕ → ℤ) (y line down width : ℕ) → line ≡ y + down → ((x : ℕ) → has_pixel r x y ≡ has_pixel s x line) → ((x : ℕ) → x < width → f x y ≡ g x line) → s.x1 ≤ width
@@ -26,7 +21,7 @@ row_lowered r s f g y line down width at same values within =
     let n = columns_in r y in
     let columns : columns_in s line ≡ n = grind (arith, nat_tests, same r.x0, same s.x0, same (r.x1 - 1), same (s.x1 - 1)) in
     let first : 0 < n → s.x0 ≡ r.x0 = λ some. grind (arith, nat_tests, same r.x0, same s.x0, some) in
-    let row = ap (λ n. row_pixels s.x0 n line) columns ∙ row_from s.x0 r.x0 n line first in
+    let row = ap (λ n. row_pixels s.x0 n line) columns ∙ ap (map (λ x. (x, line))) (range_from s.x0 r.x0 n first) in
     let inside : (x : ℕ) → r.x0 ≤ x → x < r.x0 + n → x < width = λ x from to. grind (arith, nat_tests, same x, within) in
     record {
       places_same = row ∙ ap (row_pixels r.x0 n) at ∙ sym (map-map (lower down) (λ x. (x, y)) (range_with_len r.x0 n));

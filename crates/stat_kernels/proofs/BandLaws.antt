@@ -1,9 +1,9 @@
 -- The samples of bands of rows, and what is counted of them.
 use Rattle.std.proofs.Common.{Bool, ◌≡◌, ℕ, zero, suc, ℤ, ◌+◌, ◌-◌, ◌*◌, ◌<◌, ◌≤◌, List, [], ◌++◌, length, map, slice_index, cond, replicate, inl, inr, refl, ap, sym, ◌∙◌, arith, ◌&&◌, nat_le, nat_lt, if◌then◌else◌, min, max, unsigned_abs, append-nil, append_assoc}
 use Rattle.vx_base.specs.Image.{description_of}
-use Rattle.stat_kernels.proofs.Common.{Description, int_min, int_max, cases_Bool, cases_lt, nat_tests, side, rectangle_ordered, length-map, map-append, get_or_past, length-replicate, get_or-replicate, length-map-range_with_len, get_or-map-range_with_len, fill_by_all, count_by-le-length, sum_by-append, ImageValue, IsImage, pixel_at, Rectangle, BinsValue, bin_of, is_bin, histogram, samples_in, tallies, valid_samples, rectangle_pixels, row_pixels, extremes, Band, all_rows, bin_sums, band_of, valid_in, columns_in, valid_run, extremes_of, found_in}
+use Rattle.stat_kernels.proofs.Common.{Description, int_min, int_max, cases_Bool, cases_lt, nat_tests, side, rectangle_ordered, length-map, map-append, get_or_past, length-replicate, get_or-replicate, length-map-range_with_len, get_or-map-range_with_len, fill_by_all, count_by-le-length, sum_by-append, ImageValue, IsImage, pixel_at, Rectangle, BinsValue, bin_of, is_bin, histogram, samples_in, tallies, valid_samples, rectangle_pixels, row_pixels, flat_map, range_with_len, extremes, Band, all_rows, bin_sums, band_of, valid_in, columns_in, valid_run, extremes_of, found_in}
 use Rattle.std.specs.List.{count_by}
-use Rattle.stat_kernels.proofs.PlaceLaws.{above, length-places, places_more, places_none, samples_joined}
+use Rattle.stat_kernels.proofs.PlaceLaws.{length-places, range_from, rows_joined, samples_joined}
 use Rattle.vx_base.specs.Object.{no_extremes}
 use Rattle.stat_kernels.proofs.MergeLaws.{at_most}
 
@@ -20,50 +20,42 @@ row_of r y = if nat_le r.y0 y && nat_lt y r.y1 then row_pixels r.x0 (r.x1 - r.x0
 pub row_is : (r : Rectangle) (y : ℕ) → row_of r y ≡ row_pixels r.x0 (columns_in r y) y
 row_is r y = elim (cases_Bool (nat_le r.y0 y && nat_lt y r.y1)) [ inl some ↦ rw some refl | inr none ↦ rw none refl ]
 
+-- the number of a band's rows that have pixels of a rectangle
+abbrev rows_of : Rectangle → ℕ → ℕ → ℕ
+rows_of r start count = max (max r.y0 start) (min r.y1 (start + count)) - max r.y0 start
+
+abbrev rows_from : Rectangle → ℕ → ℕ → List (ℕ × ℕ)
+rows_from r y n = flat_map (row_pixels r.x0 (r.x1 - r.x0)) (range_with_len y n)
+
 -- no rows have no places
 pub no_places : (r : Rectangle) (start : ℕ) → rectangle_pixels (band_of (rows_at start 0) r) ≡ []
-no_places r start =
-    let t : Rectangle = record r { y0 = max r.y0 start } in
-    let none : max (max r.y0 start) (min r.y1 (start + 0)) ≡ max r.y0 start = grind (arith, nat_tests) in
-    ap (λ n. rectangle_pixels (above t n)) none ∙ places_none t
-
--- one more row
-pub one_row : (r : Rectangle) (start count : ℕ) → rectangle_pixels (band_of (rows_at start (count + 1)) r) ≡ rectangle_pixels (band_of (rows_at start count) r) ++ row_of r (start + count)
-one_row r start count =
-    let y = start + count in
-    let top = max r.y0 start in
-    let t : Rectangle = record r { y0 = top } in
-    let upto : ℕ → ℕ = λ n. max top (min r.y1 (start + n)) in
-    let row : Bool → List (ℕ × ℕ) = λ b. if b then row_pixels r.x0 (r.x1 - r.x0) y else [] in
-    elim (cases_Bool (nat_le r.y0 y && nat_lt y r.y1)) [
-      | inl inside ↦
-          let now : upto (count + 1) ≡ y + 1 = grind (arith, nat_tests) in
-          let was : upto count ≡ y = grind (arith, nat_tests) in
-          ap (λ n. rectangle_pixels (above t n)) now ∙ places_more t y (grind (arith, nat_tests))
-          ∙ ap (λ n. rectangle_pixels (above t n) ++ row_pixels r.x0 (r.x1 - r.x0) y) (sym was)
-          ∙ ap (λ b. rectangle_pixels (band_of (rows_at start count) r) ++ row b) (sym inside)
-      | inr outside ↦
-          let same : upto (count + 1) ≡ upto count = grind (arith, nat_tests) in
-          ap (λ n. rectangle_pixels (above t n)) same ∙ sym (append-nil (rectangle_pixels (band_of (rows_at start count) r)))
-          ∙ ap (λ b. rectangle_pixels (band_of (rows_at start count) r) ++ row b) (sym outside)
-    ]
-
-pub rows_more : (r : Rectangle) (start count : ℕ) → rectangle_pixels (band_of (rows_at start (count + 1)) r) ≡ rectangle_pixels (band_of (rows_at start count) r) ++ row_pixels r.x0 (columns_in r (start + count)) (start + count)
-rows_more r start count = one_row r start count ∙ ap (λ l. rectangle_pixels (band_of (rows_at start count) r) ++ l) (row_is r (start + count))
+no_places r start = ap (rows_from r (max r.y0 start)) (let none : rows_of r start 0 ≡ 0 = grind (arith, nat_tests) in none)
 
 -- rows after others
 pub rows_follow : (r : Rectangle) (start first second : ℕ)
     → rectangle_pixels (band_of (rows_at start (first + second)) r) ≡ rectangle_pixels (band_of (rows_at start first) r) ++ rectangle_pixels (band_of (rows_at (start + first) second) r)
-rows_follow r start first zero =
-    let none : first + 0 ≡ first = omega arith in
-    cc (none, no_places r (start + first), append-nil (rectangle_pixels (band_of (rows_at start first) r)))
-rows_follow r start first (suc second) =
-    let more : first + suc second ≡ first + second + 1 = omega arith in
-    let row : start + (first + second) ≡ start + first + second = omega arith in
-    let next : suc second ≡ second + 1 = omega arith in
-    let rows = append_assoc (rectangle_pixels (band_of (rows_at start first) r))
-    (rectangle_pixels (band_of (rows_at (start + first) second) r)) (row_of r (start + first + second)) in
-    cc (more, row, next, rows, rows_follow r start first second, one_row r start (first + second), one_row r (start + first) second)
+rows_follow r start first second =
+    let m = rows_of r start first in
+    let n = rows_of r (start + first) second in
+    let all : rows_of r start (first + second) ≡ m + n = grind (arith, nat_tests) in
+    let next : 0 < n → max r.y0 start + m ≡ max r.y0 (start + first) = λ some. grind (arith, nat_tests, some) in
+    ap (rows_from r (max r.y0 start)) all ∙ rows_joined r.x0 (r.x1 - r.x0) (max r.y0 start) m n
+    ∙ ap (λ l. rows_from r (max r.y0 start) m ++ flat_map (row_pixels r.x0 (r.x1 - r.x0)) l) (range_from (max r.y0 start + m) (max r.y0 (start + first)) n next)
+
+-- one more row
+pub one_row : (r : Rectangle) (start count : ℕ) → rectangle_pixels (band_of (rows_at start (count + 1)) r) ≡ rectangle_pixels (band_of (rows_at start count) r) ++ row_of r (start + count)
+one_row r start count = rows_follow r start count 1 ∙ ap (λ l. rectangle_pixels (band_of (rows_at start count) r) ++ l) (elim (cases_Bool (nat_le r.y0 (start + count) && nat_lt (start + count) r.y1)) [
+  | inl inside ↦
+      let one : rows_of r (start + count) 1 ≡ 1 = grind (arith, nat_tests) in
+      let top : max r.y0 (start + count) ≡ start + count = grind (arith, nat_tests) in
+      ap (rows_from r (max r.y0 (start + count))) one ∙ append-nil _ ∙ ap (row_pixels r.x0 (r.x1 - r.x0)) top ∙ ap (λ b. if b then row_pixels r.x0 (r.x1 - r.x0) (start + count) else []) (sym inside)
+  | inr outside ↦
+      let none : rows_of r (start + count) 1 ≡ 0 = grind (arith, nat_tests) in
+      ap (rows_from r (max r.y0 (start + count))) none ∙ ap (λ b. if b then row_pixels r.x0 (r.x1 - r.x0) (start + count) else []) (sym outside)
+])
+
+pub rows_more : (r : Rectangle) (start count : ℕ) → rectangle_pixels (band_of (rows_at start (count + 1)) r) ≡ rectangle_pixels (band_of (rows_at start count) r) ++ row_pixels r.x0 (columns_in r (start + count)) (start + count)
+rows_more r start count = one_row r start count ∙ ap (λ l. rectangle_pixels (band_of (rows_at start count) r) ++ l) (row_is r (start + count))
 
 -- ---- samples by rows
 
@@ -94,17 +86,20 @@ all_valid image is =
 
 -- ---- counts of bands
 
+pub tally_at : (b : BinsValue) (zs : List ℤ) (k : ℕ) → k < b.bins → slice_index (tallies b zs) k ≡ count_by (λ z. is_bin k (bin_of b (unsigned_abs z))) zs
+tally_at b zs k below = get_or-map-range_with_len (λ k. count_by (λ z. is_bin k (bin_of b (unsigned_abs z))) zs) 0 b.bins k k 0 below (omega arith)
+
+pub length-tallies : (b : BinsValue) (zs : List ℤ) → length (tallies b zs) ≡ b.bins
+length-tallies b zs = length-map-range_with_len (λ k. count_by (λ z. is_bin k (bin_of b (unsigned_abs z))) zs) 0 b.bins
+
 -- samples after others are counted bin by bin
 pub tallies_added : (b : BinsValue) (zs ws : List ℤ) → tallies b (zs ++ ws) ≡ bin_sums (tallies b zs) (tallies b ws)
 tallies_added b zs ws =
-    let count : List ℤ → ℕ → ℕ = λ l k. count_by (λ z. is_bin k (bin_of b (unsigned_abs z))) l in
-    let size : (l : List ℤ) → length (tallies b l) ≡ b.bins = λ l. length-map-range_with_len (count l) 0 b.bins in
     fill_by_all (λ k. slice_index (tallies b zs) k + slice_index (tallies b ws) k)
-    (tallies b (zs ++ ws)) (length (tallies b zs)) 0 (size (zs ++ ws) ∙ sym (size zs))
+    (tallies b (zs ++ ws)) (length (tallies b zs)) 0 (length-tallies b (zs ++ ws) ∙ sym (length-tallies b zs))
     (λ k below.
-    let one : (l : List ℤ) → slice_index (tallies b l) k ≡ count l k =
-    λ l. get_or-map-range_with_len (count l) 0 b.bins k k 0 (omega (arith, below, size zs)) (omega arith) in
-    omega (arith, one zs, one ws, one (zs ++ ws), sum_by-append (λ z. cond (is_bin k (bin_of b (unsigned_abs z))) 1 0) zs ws))
+    let inside : k < b.bins = omega (arith, length-tallies b zs) in
+    omega (arith, tally_at b zs k inside, tally_at b ws k inside, tally_at b (zs ++ ws) k inside, sum_by-append (λ z. cond (is_bin k (bin_of b (unsigned_abs z))) 1 0) zs ws))
 
 -- nothing is counted of no rows
 pub none_counted : (b : BinsValue) (image : ImageValue) (start : ℕ) → histogram b (valid_in (rows_at start 0) image) ≡ replicate b.bins 0
@@ -122,12 +117,10 @@ bands_counted b image start first second =
 
 -- no count is above the number of samples
 pub tally_few : (b : BinsValue) (zs : List ℤ) (k : ℕ) → slice_index (tallies b zs) k ≤ length zs
-tally_few b zs k =
-    let count : ℕ → ℕ = λ j. count_by (λ z. is_bin j (bin_of b (unsigned_abs z))) zs in
-    elim (cases_lt k b.bins) [
-      | inl below ↦ omega (arith, get_or-map-range_with_len count 0 b.bins k k 0 below (omega arith), count_by-le-length (λ z. is_bin k (bin_of b (unsigned_abs z))) zs)
-      | inr past ↦ omega (arith, get_or_past (tallies b zs) k 0 (omega (arith, past, length-map-range_with_len count 0 b.bins)))
-    ]
+tally_few b zs k = elim (cases_lt k b.bins) [
+  | inl below ↦ omega (arith, tally_at b zs k below, count_by-le-length (λ z. is_bin k (bin_of b (unsigned_abs z))) zs)
+  | inr past ↦ omega (arith, get_or_past (tallies b zs) k 0 (omega (arith, past, length-tallies b zs)))
+]
 
 -- no rows of an image have more valid samples than an image has at most
 pub few_places : (image : ImageValue) → IsImage image → (rows : Band) → length (rectangle_pixels (band_of rows image.valid)) ≤ 67108864

@@ -1,5 +1,5 @@
 -- The pixels of a rectangle and their samples, row by row.
-use Rattle.std.proofs.Common.{true, ◌≡◌, ℕ, ℤ, ◌+◌, ◌-◌, ◌*◌, ◌<◌, ◌≤◌, List, [], ◌++◌, length, map, zero, suc, ap, ◌∙◌, arith, append-nil, length-append}
+use Rattle.std.proofs.Common.{true, ◌≡◌, ℕ, ℤ, ◌+◌, ◌-◌, ◌*◌, ◌<◌, ◌≤◌, List, ◌++◌, length, map, zero, suc, refl, ap, ◌∙◌, arith, append-nil, length-append}
 use Rattle.stat_kernels.proofs.Common.{nat_tests, range_with_len, flat_map, map-append, length-map, Rectangle, ImageValue, pixel_at, run, row_pixels, rectangle_pixels, samples_in, range-append, length-range}
 use Rattle.std.proofs.lemmas.List.Concat.{flat_map-append}
 use Rattle.std.proofs.lemmas.Simd.{map-map}
@@ -9,17 +9,21 @@ use Rattle.vx_base.specs.Rectangle.{has_pixel}
 abbrev pub above : Rectangle → ℕ → Rectangle
 above r y = record { x0 = r.x0; y0 = r.y0; x1 = r.x1; y1 = y }
 
--- no row is above the first
-pub places_none : (r : Rectangle) → rectangle_pixels (above r r.y0) ≡ []
-places_none r = ap (λ n. flat_map (row_pixels r.x0 (r.x1 - r.x0)) (range_with_len r.y0 n)) (let e : r.y0 - r.y0 ≡ 0 = omega arith in e)
+-- as many numbers from one number as from another, if these are the same
+pub range_from : (a b n : ℕ) → (0 < n → a ≡ b) → range_with_len a n ≡ range_with_len b n
+range_from a b zero same = refl
+range_from a b (suc n) same = ap (λ m. range_with_len m (suc n)) (same (omega arith))
+
+-- the pixels of rows, and of the rows below them
+pub rows_joined : (x n a m k : ℕ) → flat_map (row_pixels x n) (range_with_len a (m + k)) ≡ flat_map (row_pixels x n) (range_with_len a m) ++ flat_map (row_pixels x n) (range_with_len (a + m) k)
+rows_joined x n a m k = ap (flat_map (row_pixels x n)) (range-append a m k) ∙ flat_map-append (row_pixels x n) (range_with_len a m) (range_with_len (a + m) k)
 
 -- one more row
 pub places_more : (r : Rectangle) (y : ℕ) → r.y0 ≤ y → rectangle_pixels (above r (y + 1)) ≡ rectangle_pixels (above r y) ++ row_pixels r.x0 (r.x1 - r.x0) y
 places_more r y ordered =
     let f = row_pixels r.x0 (r.x1 - r.x0) in
-    ap (λ n. flat_map f (range_with_len r.y0 n)) (let e : y + 1 - r.y0 ≡ (y - r.y0) + 1 = omega arith in e)
-    ∙ ap (flat_map f) (range-append r.y0 (y - r.y0) 1)
-    ∙ flat_map-append f (range_with_len r.y0 (y - r.y0)) (range_with_len (r.y0 + (y - r.y0)) 1)
+    let more : y + 1 - r.y0 ≡ (y - r.y0) + 1 = omega arith in
+    ap (λ n. flat_map f (range_with_len r.y0 n)) more ∙ rows_joined r.x0 (r.x1 - r.x0) r.y0 (y - r.y0) 1
     ∙ ap (λ l. rectangle_pixels (above r y) ++ l) (append-nil (f (r.y0 + (y - r.y0))) ∙ ap f (omega arith))
 
 -- the samples of a row's pixels

@@ -156,6 +156,7 @@ impl Whole for Sums<'_, '_> {
 
 /// Writes the integral image of a U8 image (OpenVX 1.3, "Integral Image") to a U32 image of its
 /// size; sums are modulo 2^32.
+#[tactic(auto, using(image_core::proofs::SizeLaws::same_sides))]
 pub fn integral(image: &Image<'_>, output: &mut ImageMut<'_>)
     requires format { image.now.format ≡ U8 }
     requires target { IsTarget output.old }
