@@ -1,10 +1,6 @@
 -- Rows of an image that equal rows of another one, at different heights.
 use Rattle.std.proofs.Common.{refl, ◌≡◌, ◌∙◌, ℕ, ℤ, zero, suc, ◌+◌, ◌-◌, ◌<◌, ◌≤◌, List, ◌++◌, map, ap, sym, arith}
-use Rattle.std.proofs.lemmas.Simd.{map-map}
-use Rattle.stat_kernels.proofs.Common.{nat_tests, map-append, range_with_len, run-same, ImageValue, Rectangle, pixel_at, extremes, extremes_of, found_in, rectangle_pixels, row_pixels, Band, band_of, columns_in, valid_in}
-use Rattle.vx_base.specs.Rectangle.{has_pixel}
-use Rattle.stat_kernels.specs.Extreme.{added_extremes, merge_found}
-use Rattle.stat_kernels.specs.Sums.{AreRowsOf}
+use Rattle.stat_kernels.proofs.Common.{nat_tests, map-append, range_with_len, run-same, ImageValue, Rectangle, pixel_at, extremes, extremes_of, found_in, rectangle_pixels, row_pixels, Band, band_of, columns_in, valid_in, AreRowsOf, added_extremes, has_pixel, map-map, merge_found}
 use Rattle.stat_kernels.proofs.MergeLaws.{found_joined, found_lowered, lower, samples}
 use Rattle.stat_kernels.proofs.BandLaws.{no_places, rows_at, rows_follow, rows_more}
 use Rattle.stat_kernels.proofs.PlaceLaws.{range_from, row_samples}

@@ -1,8 +1,7 @@
 -- The samples of bands of rows, and what is counted of them.
 use Rattle.std.proofs.Common.{Bool, ◌≡◌, ℕ, zero, suc, ℤ, ◌+◌, ◌-◌, ◌*◌, ◌<◌, ◌≤◌, List, [], ◌++◌, length, map, slice_index, cond, replicate, inl, inr, refl, ap, sym, ◌∙◌, arith, ◌&&◌, nat_le, nat_lt, if◌then◌else◌, min, max, unsigned_abs, append-nil, append_assoc}
 use Rattle.vx_base.specs.Image.{description_of}
-use Rattle.stat_kernels.proofs.Common.{Description, int_min, int_max, cases_Bool, cases_lt, nat_tests, side, rectangle_ordered, length-map, map-append, get_or_past, length-replicate, get_or-replicate, length-map-range_with_len, get_or-map-range_with_len, fill_by_all, count_by-le-length, sum_by-append, ImageValue, IsImage, pixel_at, Rectangle, BinsValue, bin_of, is_bin, histogram, samples_in, tallies, valid_samples, rectangle_pixels, row_pixels, flat_map, range_with_len, extremes, Band, all_rows, bin_sums, band_of, valid_in, columns_in, valid_run, extremes_of, found_in}
-use Rattle.std.specs.List.{count_by}
+use Rattle.stat_kernels.proofs.Common.{Description, int_min, int_max, cases_Bool, cases_lt, nat_tests, side, rectangle_ordered, length-map, map-append, get_or_past, length-replicate, get_or-replicate, length-map-range_with_len, get_or-map-range_with_len, fill_by_all, count_by-le-length, sum_by-append, ImageValue, IsImage, pixel_at, Rectangle, BinsValue, bin_of, is_bin, histogram, samples_in, tallies, valid_samples, rectangle_pixels, row_pixels, flat_map, range_with_len, extremes, Band, all_rows, bin_sums, band_of, valid_in, columns_in, valid_run, extremes_of, found_in, count_by}
 use Rattle.stat_kernels.proofs.PlaceLaws.{length-places, range_from, rows_joined, samples_joined}
 use Rattle.vx_base.specs.Object.{no_extremes}
 use Rattle.stat_kernels.proofs.MergeLaws.{at_most}

@@ -1,10 +1,9 @@
 -- Extremes of pixels, merged with those of later pixels.
 use Rattle.std.proofs.Common.{zero, suc, ◌≡◌, ℕ, ℤ, ◌+◌, ◌-◌, ◌<◌, ◌≤◌, List, [], ◌∷◌, ◌++◌, length, map, cond, Bool, true, false, inl, inr, ap, ◌∙◌, sym, refl, arith, int_lt, to_z, of_z, w16, FitsSigned}
-use Rattle.stat_kernels.proofs.Common.{fold, int_eq, int_min, int_max, cases_Bool, cases_eq, ints, to_z-of_z, length-map, sum_by-cons, count_by-le-length, nat_tests, ImageValue, pixel_at, run, row_pixels, best_of, count_of, first_of, found_in}
+use Rattle.stat_kernels.proofs.Common.{fold, int_eq, int_min, int_max, cases_Bool, cases_eq, ints, to_z-of_z, length-map, sum_by-cons, count_by-le-length, nat_tests, ImageValue, pixel_at, run, row_pixels, best_of, count_of, first_of, found_in, Found, extreme_among, merge_found, pixel_above}
 use Rattle.stat_kernels.specs.declared.extreme.Extreme.{Extreme}
-use Rattle.stat_kernels.specs.declared.extreme.Found.{Found}
 use Rattle.lane_rows.proofs.CountLaws.{eq_from_test, test_same, test_other}
-use Rattle.stat_kernels.specs.Extreme.{extreme_among, merge_found, pixel_above, shift_down, shift_found, merge}
+use Rattle.stat_kernels.specs.Extreme.{shift_down, shift_found, merge}
 
 -- `choose` takes the sample that is beyond the other one, by the strict order `beyond`
 pub record IsDirection (choose : ℤ → ℤ → ℤ) (beyond : ℤ → ℤ → Bool) : Type 0 where

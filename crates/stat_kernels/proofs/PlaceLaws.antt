@@ -1,9 +1,7 @@
 -- The pixels of a rectangle and their samples, row by row.
 use Rattle.std.proofs.Common.{true, ◌≡◌, ℕ, ℤ, ◌+◌, ◌-◌, ◌*◌, ◌<◌, ◌≤◌, List, ◌++◌, length, map, zero, suc, refl, ap, ◌∙◌, arith, append-nil, length-append}
-use Rattle.stat_kernels.proofs.Common.{nat_tests, range_with_len, flat_map, map-append, length-map, Rectangle, ImageValue, pixel_at, run, row_pixels, rectangle_pixels, samples_in, range-append, length-range}
+use Rattle.stat_kernels.proofs.Common.{nat_tests, range_with_len, flat_map, map-append, length-map, Rectangle, ImageValue, pixel_at, run, row_pixels, rectangle_pixels, samples_in, range-append, length-range, has_pixel, map-map}
 use Rattle.std.proofs.lemmas.List.Concat.{flat_map-append}
-use Rattle.std.proofs.lemmas.Simd.{map-map}
-use Rattle.vx_base.specs.Rectangle.{has_pixel}
 
 -- the rows of a rectangle that are above row y
 abbrev pub above : Rectangle → ℕ → Rectangle

@@ -1,7 +1,6 @@
 -- Counts by value, and those in bins.
 use Rattle.std.proofs.Common.{◌≡◌, ℕ, ℤ, ◌+◌, ◌<◌, ◌≤◌, List, [], ◌∷◌, ◌++◌, length, get_or, set, replicate, cond, Bool, ◌&&◌, refl, ap, ◌∙◌, sym, arith, if◌then◌else◌, Some, None, unsigned_abs, ◌==◌, nat_lt, length-set, get_or-set_same, get_or-set_other}
-use Rattle.stat_kernels.proofs.Common.{All, cases_eq, cases_lt, nat_tests, get_or_past, length-replicate, get_or-replicate, All-head, All-tail, sum_by-cons, sum_by-append, count_by-le-length, length-map-range_with_len, get_or-map-range_with_len, fill_by_all, BinsValue, bin_of, bin_sums, is_bin, tallies, count_at, count_in_all}
-use Rattle.std.specs.List.{count_by}
+use Rattle.stat_kernels.proofs.Common.{All, cases_eq, cases_lt, nat_tests, get_or_past, length-replicate, get_or-replicate, All-head, All-tail, sum_by-cons, sum_by-append, count_by-le-length, length-map-range_with_len, get_or-map-range_with_len, fill_by_all, BinsValue, bin_of, bin_sums, is_bin, tallies, count_at, count_in_all, count_by}
 
 -- of these samples how many are below v and fall into bin k
 abbrev count_below : BinsValue → ℕ → List ℤ → ℕ → ℕ

@@ -1,7 +1,6 @@
 use Rattle.std.proofs.Common.{◌≡◌, ℕ, ℤ, ◌+◌, ◌≤◌, ◌++◌, List, map, ◌∙◌, ap, sym, arith}
-use Rattle.std.proofs.lemmas.Simd.{map-map}
-use Rattle.stat_kernels.proofs.Common.{int_min, int_max, side, length-map, map-append, range_with_len, ImageValue, IsImage, pixel_at, best_of, count_of, rectangle_pixels, row_pixels, Band, band_of, columns_in, extremes_of, found_in, Found}
-use Rattle.stat_kernels.specs.Extreme.{extreme_among, found_of, merge_found, pixel_above}
+use Rattle.stat_kernels.proofs.Common.{int_min, int_max, side, length-map, map-append, range_with_len, ImageValue, IsImage, pixel_at, best_of, count_of, rectangle_pixels, row_pixels, Band, band_of, columns_in, extremes_of, found_in, Found, extreme_among, map-map, merge_found, pixel_above}
+use Rattle.stat_kernels.specs.Extreme.{found_of}
 use Rattle.stat_kernels.proofs.MergeLaws.{at_most, found_joined, found_lowered, lower, samples_lowered}
 use Rattle.stat_kernels.proofs.BandLaws.{few_places, no_places, rows_at, rows_more}
 use Rattle.stat_kernels.proofs.extremes.add_min_max.Goals as goal

@@ -1,6 +1,5 @@
 use Rattle.std.proofs.Common.{◌≡◌, map}
-use Rattle.stat_kernels.proofs.Common.{rectangle_pixels, band_of, found_in}
-use Rattle.stat_kernels.specs.Extreme.{pixel_above}
+use Rattle.stat_kernels.proofs.Common.{rectangle_pixels, band_of, found_in, pixel_above}
 use Rattle.stat_kernels.proofs.BandLaws.{rows_at}
 use Rattle.stat_kernels.proofs.MergeLaws.{lower}
 use Rattle.stat_kernels.proofs.extremes.add_min_max.Given as goal

@@ -1,7 +1,5 @@
 use Rattle.std.proofs.Common.{◌≡◌, ℕ, ℤ, ◌+◌, ◌-◌, ◌∙◌, List, ap, sym, arith}
-use Rattle.stat_kernels.proofs.Common.{ImageValue, Rectangle, columns_in, found_in, pixel_at, row_pixels, run, valid_run}
-use Rattle.stat_kernels.specs.declared.extreme.Found.{Found}
-use Rattle.stat_kernels.specs.Extreme.{merge_found, pixel_above}
+use Rattle.stat_kernels.proofs.Common.{ImageValue, Rectangle, columns_in, found_in, pixel_at, row_pixels, run, valid_run, Found, merge_found, pixel_above}
 use Rattle.stat_kernels.proofs.extremes.with_row.Goals as goal
 
 row_found : (image : ImageValue) (x y down : ℕ) (ws : List ℤ) (a new : Found) → x ≡ image.valid.x0 → ws ≡ valid_run image y

@@ -1,7 +1,6 @@
 use Rattle.std.proofs.Common.{take_all, ℕ, ◌≡◌, ◌+◌, ◌*◌, ◌≤◌, ◌∙◌, pos, length, map, take, drop, ap, sym, arith, option_copied, length-take-le}
-use Rattle.stat_kernels.proofs.Common.{Description, band, run, zero_outside, row_fits}
+use Rattle.stat_kernels.proofs.Common.{Description, band, run, zero_outside, row_fits, row_sums, sum_on}
 use Rattle.stat_kernels.proofs.SumLaws.{last_is, next_follows, rows_written}
-use Rattle.stat_kernels.specs.Sums.{row_sums, sum_on}
 use Rattle.stat_kernels.proofs.ScanLaws.{band_scans}
 use Rattle.stat_kernels.proofs.sums.integral_on.Goals as goal
 

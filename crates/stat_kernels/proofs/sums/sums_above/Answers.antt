@@ -1,7 +1,7 @@
 use Rattle.std.proofs.Common.{◌∙◌, ap, sym, get_or, option_copied}
+use Rattle.stat_kernels.proofs.Common.{row_sums}
 use Rattle.std.proofs.lemmas.List.{take-replicate}
 use Rattle.vx_base.specs.declared.desc.TheConstants.{GREATEST_SIDE}
-use Rattle.stat_kernels.specs.Sums.{row_sums}
 use Rattle.stat_kernels.proofs.TallyLaws.{zero_at}
 use Rattle.stat_kernels.proofs.sums.sums_above.Goals as goal
 

@@ -1,6 +1,5 @@
 use Rattle.std.proofs.Common.{ℤ, ◌<◌, ◌≤◌, ◌∙◌, length, sym, ap, arith, get_or, take, map, pos}
-use Rattle.stat_kernels.proofs.Common.{count_of, get_or-run, length-map, nat_tests, take-map-range_with_len}
-use Rattle.vx_base.proofs.TableLaws.{length-run}
+use Rattle.stat_kernels.proofs.Common.{count_of, get_or-run, length-map, nat_tests, take-map-range_with_len, length-run}
 use Rattle.lane_rows.proofs.CountLaws.{none_of_first}
 use Rattle.stat_kernels.proofs.MergeLaws.{first_in_row}
 use Rattle.stat_kernels.proofs.extreme.Extreme.include_row.Goals as goal

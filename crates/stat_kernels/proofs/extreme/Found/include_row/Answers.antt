@@ -1,7 +1,6 @@
 use Rattle.std.proofs.Common.{◌≡◌, ℤ, ◌∙◌, refl, ap, sym, map, length, arith, rules, int_lt}
-use Rattle.stat_kernels.proofs.Common.{int_min, int_max, nat_tests, length-map, row_pixels}
+use Rattle.stat_kernels.proofs.Common.{int_min, int_max, nat_tests, length-map, row_pixels, length-run}
 use Rattle.stat_kernels.proofs.MergeLaws.{downwards, upwards, chosen_among, row_merged, same_order}
-use Rattle.vx_base.proofs.TableLaws.{length-run}
 use Rattle.stat_kernels.proofs.PlaceLaws.{row_samples}
 use Rattle.stat_kernels.proofs.extreme.Found.include_row.Goals as goal
 
