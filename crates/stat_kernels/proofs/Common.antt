@@ -4,7 +4,7 @@ pub use Rattle.image_core.specs.declared.band.Band.{Band}
 pub use Rattle.lane_rows.specs.Running.{sum_below, sums_below}
 pub use Rattle.lane_rows.specs.Tallies.{count_at, count_in_all}
 pub use Rattle.stat_kernels.specs.Counts.{bin_sums}
-pub use Rattle.stat_kernels.specs.Extreme.{added_extremes, extreme_among, extremes_of, found_in, merge_found, pixel_above}
+pub use Rattle.stat_kernels.specs.Extreme.{added_extremes, extreme_among, extremes_of, found_in, merge_found, shift_found}
 pub use Rattle.stat_kernels.specs.Part.{band_of, columns_in, valid_in, valid_run}
 pub use Rattle.stat_kernels.specs.Sums.{AreRowsOf, IsRowAbove, last_row, row_sums, row_total, sum_on, sums_row}
 pub use Rattle.stat_kernels.specs.declared.extreme.Found.{Found}

@@ -1,9 +1,10 @@
 -- Extremes of pixels, merged with those of later pixels.
 use Rattle.std.proofs.Common.{zero, suc, ◌≡◌, ℕ, ℤ, ◌+◌, ◌-◌, ◌<◌, ◌≤◌, List, [], ◌∷◌, ◌++◌, length, map, cond, Bool, true, false, inl, inr, ap, ◌∙◌, sym, refl, arith, int_lt, to_z, of_z, w16, FitsSigned}
-use Rattle.stat_kernels.proofs.Common.{fold, int_eq, int_min, int_max, cases_Bool, cases_eq, ints, to_z-of_z, length-map, sum_by-cons, count_by-le-length, nat_tests, ImageValue, pixel_at, run, row_pixels, best_of, count_of, first_of, found_in, Found, extreme_among, merge_found, pixel_above}
+use Rattle.stat_kernels.proofs.Common.{fold, int_eq, int_min, int_max, cases_Bool, cases_eq, ints, to_z-of_z, length-map, sum_by-cons, count_by-le-length, nat_tests, map-map, range_with_len, run, row_pixels, best_of, count_of, first_of, found_in, Found, extreme_among, merge_found, shift_found}
 use Rattle.stat_kernels.specs.declared.extreme.Extreme.{Extreme}
+use Rattle.stat_kernels.proofs.PlaceLaws.{row_samples}
 use Rattle.lane_rows.proofs.CountLaws.{eq_from_test, test_same, test_other}
-use Rattle.stat_kernels.specs.Extreme.{shift_down, shift_found, merge}
+use Rattle.stat_kernels.specs.Extreme.{shift_down, merge}
 
 -- `choose` takes the sample that is beyond the other one, by the strict order `beyond`
 pub record IsDirection (choose : ℤ → ℤ → ℤ) (beyond : ℤ → ℤ → Bool) : Type 0 where
@@ -151,14 +152,51 @@ pub found_lowered : (f g : ℕ → ℕ → ℤ) (down : ℕ) (a : Found) (ps : L
 found_lowered f g down a ps same =
     cc (extreme_lowered int_min int_lt downwards f g down a.least ps same, extreme_lowered int_max (λ z v. int_lt v z) upwards f g down a.greatest ps same)
 
+-- the extreme of a row, moved down
+pub row_lowered : (f g : ℕ → ℕ → ℤ) (down : ℕ) (a : Found) (x n y : ℕ) → run x n (λ k. f k y) ≡ run x n (λ k. g k (y + down))
+    → merge_found a (found_in g (row_pixels x n (y + down))) ≡ merge_found a (shift_found down (found_in f (row_pixels x n y)))
+row_lowered f g down a x n y same =
+    let places = map-map (lower down) (λ k. (k, y)) (range_with_len x n) in
+    ap (λ ps. merge_found a (found_in g ps)) (sym places)
+    ∙ found_lowered f g down a (row_pixels x n y) (row_samples f x n y ∙ same ∙ sym (ap (samples g) places ∙ row_samples g x n (y + down)))
+
+-- merged one after the other, or both together
+found_assoc : (a b c : Found) → merge_found (merge_found a b) c ≡ merge_found a (merge_found b c)
+found_assoc a b c = cc (merge_assoc int_min int_lt downwards a.least b.least c.least, merge_assoc int_max (λ z v. int_lt v z) upwards a.greatest b.greatest c.greatest)
+
+shift_both : (down : ℕ) (a b : Found) → merge_found (shift_found down a) (shift_found down b) ≡ shift_found down (merge_found a b)
+shift_both down a b = cc (shift_merge int_lt down a.least b.least, shift_merge (λ z v. int_lt v z) down a.greatest b.greatest)
+
+pub found_more : (f : ℕ → ℕ → ℤ) (down : ℕ) (a : Found) (ps qs : List (ℕ × ℕ)) → merge_found (merge_found a (shift_found down (found_in f ps))) (shift_found down (found_in f qs)) ≡ merge_found a (shift_found down (found_in f (ps ++ qs)))
+found_more f down a ps qs =
+    found_assoc a (shift_found down (found_in f ps)) (shift_found down (found_in f qs))
+    ∙ ap (merge_found a) (shift_both down (found_in f ps) (found_in f qs) ∙ ap (shift_found down) (found_joined f ps qs))
+
+-- merging `found` equals merging the extremes of f at these pixels, moved `down` rows lower
+abbrev pub MergesAs : (ℕ → ℕ → ℤ) → ℕ → List (ℕ × ℕ) → Found → Type 0
+MergesAs f down ps found = (a : Found) → merge_found a found ≡ merge_found a (shift_found down (found_in f ps))
+
+module _ (f : ℕ → ℕ → ℤ) (down : ℕ) (ps : List (ℕ × ℕ)) (found : Found) (are : MergesAs f down ps found) where
+  pub merges_more : (qs : List (ℕ × ℕ)) (new : Found) → new ≡ merge_found found (shift_found down (found_in f qs)) → MergesAs f down (ps ++ qs) new
+  merges_more qs new is a =
+      let row = shift_found down (found_in f qs) in
+      ap (merge_found a) is ∙ sym (found_assoc a found row) ∙ ap (λ b. merge_found b row) (are a) ∙ found_more f down a ps qs
+
+  count_merged : (beyond : ℤ → ℤ → Bool) (a b : Extreme) → a.count ≡ 0 → (merge beyond a b).count ≡ b.count
+  count_merged beyond a b none = grind (arith, nat_tests)
+
+  pub same_counts : (found.least.count ≡ (found_in f ps).least.count) × (found.greatest.count ≡ (found_in f ps).greatest.count)
+  same_counts =
+      let a = found_in f [] in
+      let b = shift_found down (found_in f ps) in
+      let both = are a in (
+        sym (count_merged int_lt a.least found.least refl) ∙ ap (λ (e : Found). e.least.count) both ∙ count_merged int_lt a.least b.least refl,
+        sym (count_merged (λ z v. int_lt v z) a.greatest found.greatest refl) ∙ ap (λ (e : Found). e.greatest.count) both ∙ count_merged (λ z v. int_lt v z) a.greatest b.greatest refl,
+      )
+
 -- no count is above the number of pixels
 pub at_most : (choose : ℤ → ℤ → ℤ) (f : ℕ → ℕ → ℤ) (ps : List (ℕ × ℕ)) → (extreme_among choose f ps).count ≤ length ps
 at_most choose f ps = omega (arith, count_by-le-length (λ s. int_eq s (best_of choose (samples f ps))) (samples f ps), length-map ps (λ p. f p.0 p.1))
-
--- the samples of an image at lower pixels
-pub samples_lowered : (image : ImageValue) (down : ℕ) (ps : List (ℕ × ℕ)) → samples (pixel_at image) ps ≡ samples (pixel_above down image) (map (lower down) ps)
-samples_lowered image down [] = refl
-samples_lowered image down (p ∷ ps) = let back : p.1 + down - down ≡ p.1 = omega arith in cc (back, samples_lowered image down ps)
 
 -- the first pixel of a row with v
 pub first_in_row : (f : ℕ → ℕ → ℤ) (v : ℤ) (x y n i : ℕ) → i < n → f (x + i) y ≡ v → count_of v (run x i (λ k. f k y)) ≡ 0 → first_of f v (row_pixels x n y) ≡ (x + i, y)

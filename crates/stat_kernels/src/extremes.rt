@@ -1,10 +1,11 @@
 //! The least and the greatest sample.
 ghost use Rattle.std.specs.Prelude.{◌≡◌, ◌≢◌, ◌+◌, ◌<◌, ◌^◌};
 ghost use Rattle.vx_base.specs.declared.format.Format.TheVariants.{U32};
+ghost use Rattle.vx_base.specs.Image.{pixel_at};
 ghost use Rattle.vx_base.specs.Statistics.{row_pixels, extremes};
 ghost use Rattle.image_core.specs.Bands.{IsInRows};
 ghost use Rattle.stat_kernels.specs.Extreme.{added_extremes, extremes_of, found_in, merge_found};
-ghost use Rattle.stat_kernels.specs.Extreme.{pixel_above};
+ghost use Rattle.stat_kernels.specs.Extreme.{shift_found};
 ghost use Rattle.stat_kernels.specs.Part.{columns_in, valid_in};
 
 use crate::extreme::Found;
@@ -20,8 +21,8 @@ fn with_row(found: Found, image: &Image<'_>, y: u16, down: u16) -> Found
     requires down { down + image.now.height < 2 ^ 16 }
     requires least_room { found.least.count + image.now.width < 2 ^ 32 }
     requires greatest_room { found.greatest.count + image.now.width < 2 ^ 32 }
-    ensures { result ≡ merge_found found (found_in (pixel_above down image.now)
-        (row_pixels image.now.valid.x0 (columns_in image.now.valid y) (y + down))) }
+    ensures { result ≡ merge_found found (shift_found down (found_in (pixel_at image.now)
+        (row_pixels image.now.valid.x0 (columns_in image.now.valid y) y))) }
 {
     let (x, _limits) = (image.valid().x0(), image.desc().width());
     match image.desc().format() {
