@@ -145,3 +145,11 @@ pub extremes_few : (image : ImageValue) → ((extremes image).min_count ≤ leng
 extremes_few image =
     let long = length-map (rectangle_pixels image.valid) (λ p. pixel_at image p.0 p.1) in
     (omega (arith, at_most int_min (pixel_at image) (rectangle_pixels image.valid), long), omega (arith, at_most int_max (pixel_at image) (rectangle_pixels image.valid), long))
+
+pub few_least : (image : ImageValue) → IsImage image → (rows : Band) → (extremes (valid_in rows image)).min_count ≤ 67108864
+few_least image is rows = omega (arith, (extremes_few (valid_in rows image)).0, few_samples image is rows)
+
+pub few_greatest : (image : ImageValue) → IsImage image → (rows : Band) → (extremes (valid_in rows image)).max_count ≤ 67108864
+few_greatest image is rows = omega (arith, (extremes_few (valid_in rows image)).1, few_samples image is rows)
+
+pub ruleset few_extremes = (few_least, few_greatest)

@@ -50,11 +50,8 @@ module _ (choose : ℤ → ℤ → ℤ) (beyond : ℤ → ℤ → Bool) (d : IsD
           | inl same ↦ let equal = eq_from_test b.value a.value same in grind (arith, nat_tests)
           | inr other ↦
               let first = d.total b.value a.value not (λ e. cc (other, e, test_same a.value)) in
-              let last : beyond c.value b.value ≡ false → int_eq c.value b.value ≡ false → (beyond c.value a.value ≡ false) × (int_eq c.value a.value ≡ false) =
-              λ below differ. (
-              let between = d.transitive a.value b.value c.value first (d.total c.value b.value below (λ e. cc (differ, e, test_same b.value))) in
-              (grind (arith, between, d.transitive c.value a.value c.value, d.irreflexive c.value), test_other c.value a.value (λ e. cc (between, e, d.irreflexive a.value)))) in
-              grind (arith, nat_tests, last, eq_from_test c.value b.value)
+              let between = d.transitive a.value b.value c.value first in
+              grind (arith, nat_tests, between, eq_from_test c.value b.value, eq_from_test c.value a.value, test_same b.value, d.total c.value b.value, d.transitive c.value a.value c.value, d.irreflexive c.value)
         ]
       ]
     ]

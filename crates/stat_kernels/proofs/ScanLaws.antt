@@ -38,27 +38,11 @@ module _ (image : ImageValue) (start x : ℕ) where
       ∙ sum_by-append unsigned_abs (samples_in region image) (run image.valid.x0 (x + 1 - image.valid.x0) (λ k. pixel_at image k y))
 
   pub sum_on_scan : (above : ℕ → ℕ) → IsScan image x start (above x) (sum_on image start above)
-  sum_on_scan above zero is =
-      let i = inside_parts image.valid x (start + 0) is in
-      let counts : nat_le image.valid.y0 start ≡ true = grind (arith, nat_tests) in
-      let total : sum_between image start (x + 1) (start + 0 + 1) ≡ row_total image x (start + 0) = omega (arith, between_more (start + 0) (omega arith) (omega arith), between_none (start + 0) (omega arith)) in
-      ap (λ b. pos (((if b then above x else 0) + sum_between image start (x + 1) (start + 0 + 1)) % 4294967296)) counts ∙ ap (λ n. pos ((above x + n) % 4294967296)) total
+  sum_on_scan above zero is = grind (arith, nat_tests, is, between_more (start + 0), between_none (start + 0))
   sum_on_scan above (suc k) is =
-      let i = inside_parts image.valid x (start + suc k) is in
-      let more = between_more (start + suc k) (omega arith) (omega arith) in
       let next : start + suc k ≡ start + k + 1 = omega arith in
       let upto = ap (sum_between image start (x + 1)) next in
-      let add = λ (z : ℤ). pos ((unsigned_abs z + row_total image x (start + suc k)) % 4294967296) in
-      elim (cases_lt (start + k) image.valid.y0) [
-        | inl top ↦
-            let none = between_none (start + suc k) (omega arith) in
-            let no_base : nat_le image.valid.y0 start ≡ false = grind (arith, nat_tests) in
-            ap (λ b. pos (((if b then above x else 0) + sum_between image start (x + 1) (start + suc k + 1)) % 4294967296)) no_base
-            ∙ ap (λ n. pos (n % 4294967296)) (omega (arith, more, none))
-            ∙ ap add (sym (within_elsewhere image.valid (sum_on image start above) x (start + k) (inr (inl top))))
-        | inr below ↦
-            ap pos (omega (arith, more, upto)) ∙ ap add (sym (within_inside image.valid (sum_on image start above) x (start + k) (omega arith) (omega arith) below (omega arith)))
-      ]
+      grind (arith, nat_tests, is, upto, between_more (start + suc k), between_none (start + suc k))
 
 -- the value of the integral image above row `line`
 abbrev pub value_above : ImageValue → ℕ → ℕ → ℤ
@@ -66,28 +50,20 @@ value_above image x zero = pos 0
 value_above image x (suc y) = zero_outside image.valid (sum_to image) x y
 
 module _ (image : ImageValue) (x : ℕ) where
-  from_top : (y : ℕ) → has_pixel image.valid x y ≡ true → sum_to image x y ≡ sum_on image 0 (λ _. 0) x y
+  from_top : (y : ℕ) → has_pixel image.valid x y ≡ true → sum_to image x y ≡ pos (sum_between image 0 (x + 1) (y + 1) % 4294967296)
   from_top y is =
       let i = inside_parts image.valid x y is in
-      let none : (if nat_le image.valid.y0 0 then 0 else zero) ≡ zero = grind arith in
       let top : max image.valid.y0 0 ≡ image.valid.y0 = omega arith in
       let region : meet_of image.valid (whole_rectangle (x + 1) (y + 1)) ≡ record { x0 = image.valid.x0; y0 = image.valid.y0; x1 = x + 1; y1 = y + 1 } = grind (arith, nat_tests) in
       ap (λ r. pos (sum_by unsigned_abs (samples_in r image) % 4294967296)) region
       ∙ ap (λ n. pos (sum_by unsigned_abs (samples_in (record { x0 = image.valid.x0; y0 = n; x1 = x + 1; y1 = y + 1 }) image) % 4294967296)) (sym top)
-      ∙ ap (λ n. pos (n % 4294967296)) (omega (arith, none))
-
-  zero_to : (y : ℕ) → zero_outside image.valid (sum_to image) x y ≡ zero_outside image.valid (sum_on image 0 (λ _. 0)) x y
-  zero_to y = elim (cases_Bool (has_pixel image.valid x y)) [ inl is ↦ rw is (from_top y is) | inr not ↦ rw not refl ]
 
   sum_to_next : (y : ℕ) → has_pixel image.valid x y ≡ true → sum_to image x y ≡ pos ((unsigned_abs (value_above image x y) + row_total image x y) % 4294967296)
-  sum_to_next y is =
-      from_top y is
-      ∙ subst (λ n. has_pixel image.valid x n ≡ true → sum_on image 0 (λ _. 0) x n ≡ pos ((above_at image x 0 0 (sum_on image 0 (λ _. 0)) y + row_total image x n) % 4294967296)) (zero-add y) (sum_on_scan image 0 x (λ _. 0) y) is
-      ∙ ap (λ n. pos ((n + row_total image x y) % 4294967296)) (above y)
-    where
-      above : (y : ℕ) → above_at image x 0 0 (sum_on image 0 (λ _. 0)) y ≡ unsigned_abs (value_above image x y)
-      above zero = refl
-      above (suc k) = ap unsigned_abs (ap (zero_outside image.valid (sum_on image 0 (λ _. 0)) x) (zero-add k) ∙ sym (zero_to k))
+  sum_to_next zero is = grind (arith, nat_tests, is, from_top 0 is, between_more image 0 x 0, between_none image 0 x 0)
+  sum_to_next (suc k) is =
+      let next : suc k ≡ k + 1 = omega arith in
+      let upto = ap (sum_between image 0 (x + 1)) next in
+      grind (arith, nat_tests, is, upto, from_top k, from_top (suc k) is, between_more image 0 x (suc k), between_none image 0 x (suc k))
 
   pub sum_to_scan : (line : ℕ) → IsScan image x line (unsigned_abs (value_above image x line)) (sum_to image)
   sum_to_scan line zero = subst (λ n. has_pixel image.valid x n ≡ true → sum_to image x n ≡ pos ((unsigned_abs (value_above image x line) + row_total image x n) % 4294967296)) (sym (add-zero line)) (sum_to_next line)

@@ -1,5 +1,6 @@
 -- Rows of an integral image in memory.
 use Rattle.std.proofs.Common.{true, false, ◌%◌, ◌≡◌, ℕ, ℤ, pos, zero, suc, ◌+◌, ◌-◌, ◌*◌, ◌<◌, ◌≤◌, List, [], ◌∷◌, ◌++◌, length, map, take, drop, get_or, replicate, Option, Some, None, ap, ◌∙◌, sym, refl, arith, inl, inr, Bool, if◌then◌else◌, ◌==◌, Bor, option_copied, unsigned_abs, ext_get_or, get_or-drop, get_or-take}
+use Rattle.std.proofs.lemmas.List.Folds.{fold-map}
 use Rattle.std.proofs.Math.ListN.{get_or-map}
 use Rattle.std.proofs.Math.Seq.{take-append_seam, take-append-add}
 use Rattle.std.specs.Option.{option_or}
@@ -11,13 +12,10 @@ use Rattle.stat_kernels.proofs.ScanLaws.{above_at, band_get, sum_on_scan}
 -- ---- one row
 
 -- the sum of a row's samples up to column x + k
-sum_of_run : (row : List ℕ) → sum row ≡ sum_by unsigned_abs (map pos row)
-sum_of_run [] = refl
-sum_of_run (a ∷ row) = sum_by-cons (λ x. x) a row ∙ ap (λ n. a + n) (sum_of_run row) ∙ sym (sum_by-cons unsigned_abs (pos a) (map pos row))
-
 row_sum : (row : List ℕ) (x n k : ℕ) (g : ℕ → ℤ) → map pos row ≡ run x n g → k ≤ n → sum (take k row) ≡ sum_by unsigned_abs (run x k g)
 row_sum row x n k g is within =
-    sum_of_run (take k row) ∙ ap (sum_by unsigned_abs) (sym (take-map pos k row) ∙ ap (take k) is ∙ take-map-range_with_len g x n k within)
+    sym (fold-map (λ a z. a + unsigned_abs z) pos 0 (take k row))
+    ∙ ap (sum_by unsigned_abs) (sym (take-map pos k row) ∙ ap (take k) is ∙ take-map-range_with_len g x n k within)
 
 pub run_of_sums : (sums : List ℕ) (x n : ℕ) (f : ℕ → ℤ) → length sums ≡ n → ((k : ℕ) → k < n → pos (get_or sums k 0) ≡ f (x + k)) → map pos sums ≡ run x n f
 run_of_sums sums x n f long same =
@@ -58,33 +56,29 @@ module _ (image : ImageValue) (y : ℕ) (above row left sums right : List ℕ) w
 
 -- ---- rows one after the other
 
--- the last row of those before, or the one above them all where there are none
-abbrev pub last_or : ℕ → (before : List ℕ) → Option (List ℕ) → Option (List ℕ)
-last_or width before above = if length before == 0 then above else Some (drop (length before - width) before)
-
-pub last_is : (width : ℕ) (before : List ℕ) (last above : Option (Bor (List ℕ))) → option_copied last ≡ last_row width before → option_copied (option_or last above) ≡ last_or width before (option_copied above)
-last_is width before None above is = grind (arith, is, cases_Bool (length before == 0))
-last_is width before (Some r) above is = grind (arith, is, cases_Bool (length before == 0))
+pub copied_or : (a b : Option (Bor (List ℕ))) → option_copied (option_or a b) ≡ option_or (option_copied a) (option_copied b)
+copied_or None b = refl
+copied_or (Some r) b = refl
 
 -- the next row, from the last of those before, or from the row above all
 module _ (image : ImageValue) (start width : ℕ) (before : List ℕ) (above : Option (List ℕ)) (some : 1 ≤ width) (wide : width ≡ image.width) where
   abbrev f : ℕ → ℕ → ℤ
   f = sum_on image start (row_sums above)
 
-  last_sums : (k x : ℕ) → map pos before ≡ band width start k (zero_outside image.valid f) → length before ≡ k * width → x < width → row_sums (last_or width before above) x ≡ above_at image x start (row_sums above x) f k
+  last_sums : (k x : ℕ) → map pos before ≡ band width start k (zero_outside image.valid f) → length before ≡ k * width → x < width → row_sums (option_or (last_row width before) above) x ≡ above_at image x start (row_sums above x) f k
   last_sums zero x are long across =
       let none : length before ≡ 0 = omega (arith, long) in
-      ap (λ m. row_sums (if m == 0 then above else Some (drop (m - width) before)) x) none
+      ap (λ m. row_sums (option_or (if m == 0 then None else Some (drop (m - width) before)) above) x) none
   last_sums (suc k) x are long across =
       let more : length before ≡ k * width + width = omega (arith, long) in
       let not_none : (length before == 0) ≡ false = grind (arith, nat_tests, more, some) in
       let at_row : length before - width ≡ k * width = omega (arith, more) in
-      ap (λ (t : Bool). row_sums (if t then above else Some (drop (length before - width) before)) x) not_none
+      ap (λ (t : Bool). row_sums (option_or (if t then None else Some (drop (length before - width) before)) above) x) not_none
       ∙ ap (λ n. get_or (drop n before) x 0) at_row ∙ get_or-drop (k * width) before x 0
       ∙ ap unsigned_abs (sym (get_or-map pos before (k * width + x) 0) ∙ ap (λ l. get_or l (k * width + x) (pos 0)) are ∙ band_get width start (suc k) x k (zero_outside image.valid f) across (omega arith))
 
   -- the sums of the next row, from those above
-  pub next_follows : (k : ℕ) (now : ℕ → ℕ) → map pos before ≡ band width start k (zero_outside image.valid f) → length before ≡ k * width → ((x : ℕ) → now x ≡ row_sums (last_or width before above) x)
+  pub next_follows : (k : ℕ) (now : ℕ → ℕ) → map pos before ≡ band width start k (zero_outside image.valid f) → length before ≡ k * width → ((x : ℕ) → now x ≡ row_sums (option_or (last_row width before) above) x)
       → run 0 image.width (λ x. zero_outside image.valid (next_sum image now) x (start + k)) ≡ run 0 image.width (λ x. zero_outside image.valid f x (start + k))
   next_follows k now are long is_above =
       run-same (λ x. zero_outside image.valid (next_sum image now) x (start + k)) (λ x. zero_outside image.valid f x (start + k)) 0 image.width (λ x a b. elim (cases_Bool (has_pixel image.valid x (start + k))) [
@@ -100,11 +94,7 @@ own_rows image is rows = record { is = is; each = λ k h. record { width = refl;
 
 -- one more row is written
 module _ (y width : ℕ) (before row rest : List ℕ) (start : length before ≡ y * width) (long : length row ≡ width) where
-  rows_so_far : take ((y + 1) * width) (before ++ (row ++ rest)) ≡ before ++ row
-  rows_so_far =
-      let e : (y + 1) * width ≡ length before + length row = omega arith in
-      cc (e, take-append-add before (row ++ rest) (length row), take-append_seam row rest)
-
   pub rows_written : (top : ℕ) (f : ℕ → ℕ → ℤ) → map pos before ≡ band width top y f → map pos row ≡ run 0 width (λ x. f x (top + y)) → map pos (take ((y + 1) * width) (before ++ (row ++ rest))) ≡ band width top (y + 1) f
   rows_written top f are is =
-      cc (rows_so_far, map-append pos before row, are, is, band-more width top y f)
+      let more : (y + 1) * width ≡ length before + length row = omega arith in
+      cc (more, take-append-add before (row ++ rest) (length row), take-append_seam row rest, map-append pos before row, are, is, band-more width top y f)

@@ -11,24 +11,15 @@ none_below : (b : BinsValue) (zs : List ℤ) (k : ℕ) → count_below b 0 zs k 
 none_below b [] k = refl
 none_below b (z ∷ zs) k = grind (arith, nat_tests, sum_by-cons, none_below b zs k)
 
--- what one sample adds
-item_next : (q : ℕ → Bool) (v x : ℕ) → cond (nat_lt x (v + 1) && q x) 1 0 ≡ cond (nat_lt x v && q x) 1 0 + (if q v then cond (x == v) 1 0 else 0)
-item_next q v x = grind (arith, nat_tests, cases_eq x v, cases_lt x v)
-
 count_below-cons : (b : BinsValue) (v k : ℕ) (z : ℤ) (zs : List ℤ) → count_below b v (z ∷ zs) k ≡ cond (nat_lt (unsigned_abs z) v && is_bin k (bin_of b (unsigned_abs z))) 1 0 + count_below b v zs k
 count_below-cons b v k z zs = sum_by-cons (λ s. cond (nat_lt (unsigned_abs s) v && is_bin k (bin_of b (unsigned_abs s))) 1 0) z zs
-
-if_sum : (t : Bool) (m n : ℕ) → (if t then m + n else 0) ≡ (if t then m else 0) + (if t then n else 0)
-if_sum t m n = grind arith
 
 -- one more value adds its samples to its bin, if it has one, and to no other
 count_next : (b : BinsValue) (v k : ℕ) (zs : List ℤ) → count_below b (v + 1) zs k ≡ count_below b v zs k + (if is_bin k (bin_of b v) then count_at v zs else 0)
 count_next b v k [] = grind arith
 count_next b v k (z ∷ zs) =
-    let q = is_bin k (bin_of b v) in
-    let here = item_next (λ x. is_bin k (bin_of b x)) v (unsigned_abs z) in
-    let counts = ap (λ n. let m : ℕ = if q then n else 0 in m) (sum_by-cons (λ s. cond (unsigned_abs s == v) 1 0) z zs) in
-    omega (arith, here, count_below-cons b (v + 1) k z zs, count_below-cons b v k z zs, counts, if_sum q (cond (unsigned_abs z == v) 1 0) (count_at v zs), count_next b v k zs)
+    let here = sum_by-cons (λ s. cond (unsigned_abs s == v) 1 0) z zs in
+    grind (arith, nat_tests, cases_eq (unsigned_abs z) v, cases_lt (unsigned_abs z) v, count_below-cons b (v + 1) k z zs, count_below-cons b v k z zs, here, count_next b v k zs)
 
 -- to the counts `before`, the samples below v are added
 pub record AreCounted (b : BinsValue) (zs : List ℤ) (before : List ℕ) (v : ℕ) (now : List ℕ) : Type 0 where
@@ -75,13 +66,3 @@ counted_all b zs before now size small are =
 
 pub zero_at : (n v : ℕ) → get_or (replicate {A = ℕ} n 0) v 0 ≡ 0
 zero_at n v = grind (arith, cases_lt v n, get_or-replicate {A = ℕ} n v 0 0, get_or_past (replicate {A = ℕ} n 0) v 0, length-replicate {A = ℕ} n 0)
-
--- ---- four tables
-
--- nothing is counted yet
-pub zeros_counted : (v : ℕ) → count_in_all (replicate 256 0) (replicate 256 0) (replicate 256 0) (replicate 256 0) v ≡ 0
-zeros_counted v = omega (arith, zero_at 256 v)
-
--- the samples of the rows above, and those of one more
-pub row_counted : (v : ℕ) (zs ws : List ℤ) (old new : ℕ) → old ≡ count_at v zs → new ≡ old + count_at v ws → new ≡ count_at v (zs ++ ws)
-row_counted v zs ws old new before here = omega (arith, before, here, sum_by-append (λ z. cond (unsigned_abs z == v) 1 0) zs ws)

@@ -1,5 +1,5 @@
 //! The least and the greatest of samples, with their first pixels.
-ghost use Rattle.std.specs.Prelude.{◌≡◌, ◌+◌, ◌<◌, ◌^◌, [], ℕ, ℤ, map, length};
+ghost use Rattle.std.specs.Prelude.{◌≡◌, ◌+◌, ◌<◌, ◌^◌, ℕ, ℤ, map, length};
 ghost use Rattle.vx_base.specs.Image.{run};
 ghost use Rattle.vx_base.specs.Statistics.{row_pixels, count_of, first_of};
 
@@ -83,11 +83,12 @@ pub struct Found {
 }
 
 impl Found {
+    ghost use Rattle.vx_base.specs.Object.{no_extremes};
     ghost use Rattle.stat_kernels.specs.Extreme.{found_in, found_of, merge_found};
 
     /// Returns the extremes of no samples.
     pub fn nowhere() -> Found
-        ensures { (f : ℕ → ℕ → ℤ) → result ≡ found_in f [] }
+        ensures { result ≡ found_of no_extremes }
     {
         let nowhere = Extreme {
             value: 0,

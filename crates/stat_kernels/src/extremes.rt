@@ -34,6 +34,7 @@ fn with_row(found: Found, image: &Image<'_>, y: u16, down: u16) -> Found
 
 /// Returns the least and the greatest valid sample of a U8 or S16 image (OpenVX 1.3, "Min, Max
 /// Location"). Each comes with the number of pixels that have it and the first of these pixels.
+#[tactic(auto, using(crate::proofs::BandLaws::few_extremes))]
 pub fn min_max(image: &Image<'_>) -> Extremes
     requires { image.now.format ≢ U32 }
     ensures { result ≡ extremes image.now }

@@ -1,8 +1,7 @@
-use Rattle.std.proofs.Common.{◌≡◌, ◌<◌, ◌++◌, ◌∙◌, sym, ap, pos, map, arith, unsigned_abs, ◌==◌}
-use Rattle.stat_kernels.proofs.Common.{All-nil, count_by-le-length, count_at, side, valid_in, valid_samples}
+use Rattle.std.proofs.Common.{◌≡◌, ◌<◌, ◌++◌, ◌∙◌, sym, ap, pos, map, cond, arith, unsigned_abs, ◌==◌}
+use Rattle.stat_kernels.proofs.Common.{All-nil, count_by-le-length, count_at, side, sum_by-append, valid_in, valid_samples}
 use Rattle.std.proofs.lemmas.List.Elements.{All-same, All-append}
 use Rattle.stat_kernels.proofs.BandLaws.{few_samples, rows_at, samples_more, samples_none}
-use Rattle.stat_kernels.proofs.TallyLaws.{row_counted}
 use Rattle.stat_kernels.proofs.counts.count_values.Goals as goal
 
 pub loop-k-init : goal.loop-k-init
@@ -33,7 +32,7 @@ loop-k-preserved c =
     let ws = map pos c.valid_row-row.result.now in
     let next = ap (λ l. zs ++ l) c.valid_row-row.ensures.value ∙ sym (samples_more image c.args.rows.start c.loop-k.k) in
     record {
-      counted = λ v. row_counted v zs ws _ _ (c.loop-k.invariant.counted v) (c.tally_row.ensures.counted v) ∙ ap (count_at v) next;
+      counted = λ v. omega (arith, c.loop-k.invariant.counted v, c.tally_row.ensures.counted v, sum_by-append (λ z. cond (unsigned_abs z == v) 1 0) zs ws, ap (count_at v) next);
       bytes = All-same (λ z. unsigned_abs z < 256) _ _ (sym next) (All-append (λ z. unsigned_abs z < 256) zs ws c.loop-k.invariant.bytes c.tally_row.ensures.bytes);
     }
 

@@ -21,7 +21,7 @@ ended image rows down k found are last = subst (λ n. MergesAs (pixel_at image) 
 pub loop-k-init : goal.loop-k-init
 loop-k-init c a =
     let f = pixel_at c.args.image.now in
-    ap (merge_found a) (c.nowhere-found.ensures f) ∙ ap (λ ps. merge_found a (shift_found c.args.down (found_in f ps))) (sym (no_places c.args.image.now.valid c.args.rows.start))
+    ap (merge_found a) c.nowhere-found.ensures ∙ ap (λ ps. merge_found a (shift_found c.args.down (found_in f ps))) (sym (no_places c.args.image.now.valid c.args.rows.start))
 
 pub with_row-found-requires-clause-least_room : goal.with_row-found-requires-clause-least_room
 with_row-found-requires-clause-least_room c =
