@@ -68,7 +68,7 @@ module _ (choose : ℤ → ℤ → ℤ) (beyond : ℤ → ℤ → Bool) (d : IsD
       let v = fold choose (choose a z) zs in
       grind (arith, fold_counted (choose a z) zs, cases_Bool (beyond z a), d.takes a z, d.keeps a z, count_cons v a (z ∷ zs), count_cons v z zs, count_cons v (choose a z) zs)
 
-  pub chosen_among : (zs : List ℤ) (v : ℤ) → 0 < length zs → v ≡ best_of choose zs → 0 < count_of v zs
+  chosen_among : (zs : List ℤ) (v : ℤ) → 0 < length zs → v ≡ best_of choose zs → 0 < count_of v zs
   chosen_among [] v some is = absurd (omega (arith, some))
   chosen_among (a ∷ zs) v some is = omega (arith, fold_counted a zs, ap (λ w. count_of w (a ∷ zs)) is)
 
@@ -131,6 +131,15 @@ module _ (choose : ℤ → ℤ → ℤ) (beyond : ℤ → ℤ → Bool) (d : IsD
       )
 
 -- ---- both extremes
+
+-- the least and the greatest sample are among the samples
+pub least_among : {T : Type 0} (value : T → ℤ) (row : List T) (v : ℤ) → 0 < length row → v ≡ best_of int_min (map value row) → 0 < count_of v (map value row)
+least_among value row v some is = chosen_among int_min int_lt downwards (map value row) v (omega (arith, length-map row value)) is
+
+pub greatest_among : {T : Type 0} (value : T → ℤ) (row : List T) (v : ℤ) → 0 < length row → v ≡ best_of int_max (map value row) → 0 < count_of v (map value row)
+greatest_among value row v some is = chosen_among int_max (λ z v. int_lt v z) upwards (map value row) v (omega (arith, length-map row value)) is
+
+pub ruleset among = (least_among, greatest_among, nat_tests)
 
 -- samples of 16 bits in their order
 pub same_order : (a b : ℤ) → FitsSigned w16 a → FitsSigned w16 b → int_lt (to_z w16 (of_z w16 a)) (to_z w16 (of_z w16 b)) ≡ int_lt a b

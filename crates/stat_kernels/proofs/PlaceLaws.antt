@@ -45,15 +45,3 @@ length-rows x n a (suc m) =
 -- the number of pixels of a rectangle
 pub length-places : (r : Rectangle) → length (rectangle_pixels r) ≡ (r.y1 - r.y0) * (r.x1 - r.x0)
 length-places r = length-rows r.x0 (r.x1 - r.x0) r.y0 (r.y1 - r.y0)
-
--- ---- the pixels of a row
-
-pub record IsInside (r : Rectangle) (x y : ℕ) : Type 0 where
-  pub left : r.x0 ≤ x
-  pub right : x < r.x1
-  pub top : r.y0 ≤ y
-  pub bottom : y < r.y1
-
-pub inside_parts : (r : Rectangle) (x y : ℕ) → has_pixel r x y ≡ true → IsInside r x y
-inside_parts r x y is =
-    record { left = grind (arith, nat_tests, is); right = grind (arith, nat_tests, is); top = grind (arith, nat_tests, is); bottom = grind (arith, nat_tests, is) }

@@ -8,7 +8,7 @@ use Rattle.vx_base.specs.Sample.{IsSample}
 use Rattle.vx_base.proofs.ImageLaws.{get_or-table}
 use Rattle.vx_base.proofs.TableLaws.{within_elsewhere, within_inside}
 use Rattle.stat_kernels.specs.Sums.{sum_between}
-use Rattle.stat_kernels.proofs.PlaceLaws.{above, inside_parts, places_more, samples_joined}
+use Rattle.stat_kernels.proofs.PlaceLaws.{above, places_more, samples_joined}
 
 -- the sum above row start + k in column x
 abbrev pub above_at : ImageValue → ℕ → ℕ → ℕ → (ℕ → ℕ → ℤ) → ℕ → ℕ
@@ -52,9 +52,8 @@ value_above image x (suc y) = zero_outside image.valid (sum_to image) x y
 module _ (image : ImageValue) (x : ℕ) where
   from_top : (y : ℕ) → has_pixel image.valid x y ≡ true → sum_to image x y ≡ pos (sum_between image 0 (x + 1) (y + 1) % 4294967296)
   from_top y is =
-      let i = inside_parts image.valid x y is in
       let top : max image.valid.y0 0 ≡ image.valid.y0 = omega arith in
-      let region : meet_of image.valid (whole_rectangle (x + 1) (y + 1)) ≡ record { x0 = image.valid.x0; y0 = image.valid.y0; x1 = x + 1; y1 = y + 1 } = grind (arith, nat_tests) in
+      let region : meet_of image.valid (whole_rectangle (x + 1) (y + 1)) ≡ record { x0 = image.valid.x0; y0 = image.valid.y0; x1 = x + 1; y1 = y + 1 } = grind (arith, nat_tests, is) in
       ap (λ r. pos (sum_by unsigned_abs (samples_in r image) % 4294967296)) region
       ∙ ap (λ n. pos (sum_by unsigned_abs (samples_in (record { x0 = image.valid.x0; y0 = n; x1 = x + 1; y1 = y + 1 }) image) % 4294967296)) (sym top)
 

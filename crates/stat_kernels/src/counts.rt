@@ -15,6 +15,7 @@ use vx_base::Bins;
 
 /// Counts the valid samples of a band of a U8 image by value. The count of a value is the sum of
 /// its entries in four tables.
+#[tactic(auto, using(crate::proofs::BandLaws::few_samples))]
 fn count_values(
     image: &Image<'_>,
     rows: Band,

@@ -102,6 +102,7 @@ impl Found {
     }
 
     /// Merges a row of later pixels into these extremes.
+    #[tactic(auto, using(crate::proofs::MergeLaws::among))]
     pub fn include_row<T: Compared>(self, x: u16, y: u16, row: &[T]) -> Found
         requires columns { x + length row.now < 2 ^ 16 }
         requires least_room { self.least.count + length row.now < 2 ^ 32 }
@@ -140,6 +141,7 @@ impl Found {
     }
 
     /// Merges the extremes of later pixels into these extremes.
+    #[tactic(auto, using(crate::proofs::MergeLaws::same_order))]
     pub fn merge(self, other: Found) -> Found
         requires least_room { self.least.count + other.least.count < 2 ^ 32 }
         requires greatest_room { self.greatest.count + other.greatest.count < 2 ^ 32 }

@@ -40,6 +40,3 @@ pub returns-clause-counted : goal.returns-clause-counted
 returns-clause-counted c v =
     let last : c.loop-k.k ≡ c.args.rows.count = omega arith in
     c.loop-k.invariant.counted v ∙ ap (λ n. count_at v (valid_samples (valid_in (rows_at c.args.rows.start n) c.args.image.now))) last
-
-pub returns-clause-few : goal.returns-clause-few
-returns-clause-few c = omega (arith, few_samples c.args.image.now c.valid-valid.ensures.image c.args.rows)

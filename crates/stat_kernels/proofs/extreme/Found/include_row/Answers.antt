@@ -1,6 +1,6 @@
 use Rattle.std.proofs.Common.{◌≡◌, ℤ, ◌∙◌, refl, ap, sym, map, length, arith, rules, int_lt}
 use Rattle.stat_kernels.proofs.Common.{int_min, int_max, nat_tests, length-map, row_pixels, length-run}
-use Rattle.stat_kernels.proofs.MergeLaws.{downwards, upwards, chosen_among, row_merged, same_order}
+use Rattle.stat_kernels.proofs.MergeLaws.{row_merged, same_order}
 use Rattle.stat_kernels.proofs.PlaceLaws.{row_samples}
 use Rattle.stat_kernels.proofs.extreme.Found.include_row.Goals as goal
 
@@ -8,16 +8,6 @@ pub returns-then-is_empty : goal.returns-then-is_empty
 returns-then-is_empty g c f n row =
     let none : n ≡ 0 = grind (arith, nat_tests, c.is_empty.ensures, c.if-is_empty.true, ap (length {A = ℤ}) row, length-run (λ k. f k c.args.y) c.args.x n, length-map c.args.row.now g.T.Item.value) in
     rw none refl
-
-pub include_row-requires-clause-among : goal.include_row-requires-clause-among
-include_row-requires-clause-among g c =
-    let value = g.T.Item.value in
-    chosen_among int_min int_lt downwards (map value c.args.row.now) (value c.least_of-low.result) (grind (arith, nat_tests, c.is_empty.ensures, c.if-is_empty.false, length-map c.args.row.now value)) c.least_of-low.ensures
-
-pub include_row-requires-2-clause-among : goal.include_row-requires-2-clause-among
-include_row-requires-2-clause-among g c =
-    let value = g.T.Item.value in
-    chosen_among int_max (λ z v. int_lt v z) upwards (map value c.args.row.now) (value c.greatest_of-high.result) (grind (arith, nat_tests, c.is_empty.ensures, c.if-is_empty.false, length-map c.args.row.now value)) c.greatest_of-high.ensures
 
 pub returns : goal.returns
 returns g c f n row =
