@@ -188,17 +188,10 @@ module _ (f : ℕ → ℕ → ℤ) (down : ℕ) (ps : List (ℕ × ℕ)) (found 
       let row = shift_found down (found_in f qs) in
       ap (merge_found a) is ∙ sym (found_assoc a found row) ∙ ap (λ b. merge_found b row) (are a) ∙ found_more f down a ps qs
 
-  count_merged : (beyond : ℤ → ℤ → Bool) (a b : Extreme) → a.count ≡ 0 → (merge beyond a b).count ≡ b.count
-  count_merged beyond a b none = grind (arith, nat_tests)
-
   pub same_counts : (found.least.count ≡ (found_in f ps).least.count) × (found.greatest.count ≡ (found_in f ps).greatest.count)
   same_counts =
-      let a = found_in f [] in
-      let b = shift_found down (found_in f ps) in
-      let both = are a in (
-        sym (count_merged int_lt a.least found.least refl) ∙ ap (λ (e : Found). e.least.count) both ∙ count_merged int_lt a.least b.least refl,
-        sym (count_merged (λ z v. int_lt v z) a.greatest found.greatest refl) ∙ ap (λ (e : Found). e.greatest.count) both ∙ count_merged (λ z v. int_lt v z) a.greatest b.greatest refl,
-      )
+      let both = are (found_in f []) in
+      (grind (arith, nat_tests, ap (λ (e : Found). e.least.count) both), grind (arith, nat_tests, ap (λ (e : Found). e.greatest.count) both))
 
 -- no count is above the number of pixels
 pub at_most : (choose : ℤ → ℤ → ℤ) (f : ℕ → ℕ → ℤ) (ps : List (ℕ × ℕ)) → (extreme_among choose f ps).count ≤ length ps
@@ -214,7 +207,4 @@ first_in_row f v x y (suc n) zero below here none =
 first_in_row f v x y (suc n) (suc i) below here none =
     let next : x + 1 + i ≡ x + suc i = omega arith in
     let at : f (x + 1 + i) y ≡ v = ap (λ k. f k y) next ∙ here in
-    let counted = count_cons v (f x y) (run (x + 1) i (λ k. f k y)) in
-    let other : int_eq (f x y) v ≡ false = grind (arith, counted, none, cases_Bool (int_eq (f x y) v)) in
-    let rest = first_in_row f v (x + 1) y n i (omega arith) at (omega (arith, counted, none)) in
-    grind (arith, other, rest, next)
+    grind (arith, next, cases_Bool (int_eq (f x y) v), count_cons v (f x y) (run (x + 1) i (λ k. f k y)), first_in_row f v (x + 1) y n i (omega arith) at)

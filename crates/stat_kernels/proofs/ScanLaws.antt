@@ -1,7 +1,7 @@
 -- Integral images: each row adds its own samples to the row above it.
 use Rattle.std.proofs.Common.{true, false, ◌⊎◌, ◌≡◌, inl, inr, ℕ, ℤ, pos, zero, suc, ◌+◌, ◌-◌, ◌*◌, ◌%◌, ◌<◌, ◌≤◌, List, map, get_or, Option, Some, None, ap, ◌∙◌, sym, refl, arith, subst, add-zero, zero-add, if◌then◌else◌, nat_le, max, unsigned_abs}
 use Rattle.std.proofs.Math.ListN.{get_or-map}
-use Rattle.stat_kernels.proofs.Common.{ints, cases_Bool, cases_lt, nat_tests, sum_by, sum_by-append, flat_map, range_with_len, Rectangle, ImageValue, pixel_at, band, run, zero_outside, rectangle_pixels, row_pixels, samples_in, sum_to, get_or-run, run-same, Band, IsRowAbove, AreRowsOf, has_pixel, row_sums, row_total, sum_on}
+use Rattle.stat_kernels.proofs.Common.{ints, cases_Bool, cases_lt, nat_tests, sum_by, sum_by-append, flat_map, range_with_len, Rectangle, ImageValue, pixel_at, band, run, zero_outside, rectangle_pixels, row_pixels, samples_in, sum_to, band-more, get_or-run, run-same, Band, IsRowAbove, AreRowsOf, has_pixel, row_sums, row_total, sum_on}
 use Rattle.vx_base.specs.declared.format.Format.TheVariants.{U32}
 use Rattle.vx_base.specs.Rectangle.{meet_of, whole_rectangle}
 use Rattle.vx_base.specs.Sample.{IsSample}
@@ -115,16 +115,11 @@ module _ (a b : ImageValue) (start x y : ℕ) (above : ℕ → ℕ) (valid : a.v
 -- bands at different heights
 band_moved : (width start line count : ℕ) (f g : ℕ → ℕ → ℤ) → ((x k : ℕ) → x < width → k < count → f x (start + k) ≡ g x (line + k)) → band width start count f ≡ band width line count g
 band_moved width start line zero f g same = refl
-band_moved width start line (suc count) f g same =
-    let here : start + 0 ≡ start = omega arith in
-    let there : line + 0 ≡ line = omega arith in
-    cc (
-      run-same (λ x. f x start) (λ x. g x line) 0 width (λ x a b. let value = same x 0 (omega arith) (omega arith) in rw (here, there) at value),
-      band_moved width (start + 1) (line + 1) count f g (λ x k a b.
-          let e : start + 1 + k ≡ start + suc k = omega arith in
-          let d : line + 1 + k ≡ line + suc k = omega arith in
-          ap (f x) e ∙ same x (suc k) a (omega arith) ∙ ap (g x) (sym d)),
-    )
+band_moved width start line (suc k) f g same =
+    let next : suc k ≡ k + 1 = omega arith in
+    let before = band_moved width start line k f g (λ x j a b. same x j a (omega arith)) in
+    let row = run-same (λ x. f x (start + k)) (λ x. g x (line + k)) 0 width (λ x a b. same x k (omega arith) (omega arith)) in
+    cc (next, before, row, band-more width start k f, band-more width line k g)
 
 -- a value of a band
 pub band_get : (width start count x k : ℕ) (f : ℕ → ℕ → ℤ) → x < width → k < count → get_or (band width start count f) (k * width + x) (pos 0) ≡ f x (start + k)
