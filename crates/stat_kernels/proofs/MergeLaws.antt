@@ -28,10 +28,6 @@ samples f ps = map (λ p. f p.0 p.1) ps
 abbrev one : (f : ℕ → ℕ → ℤ) → ℕ × ℕ → Extreme
 one f p = record { value = f p.0 p.1; count = 1; at = p }
 
--- the pixel `down` rows lower
-abbrev pub lower : ℕ → ℕ × ℕ → ℕ × ℕ
-lower down p = (p.0, p.1 + down)
-
 count_cons : (v a : ℤ) (zs : List ℤ) → count_of v (a ∷ zs) ≡ cond (int_eq a v) 1 0 + count_of v zs
 count_cons v a zs = sum_by-cons (λ s. cond (int_eq s v) 1 0) a zs
 
@@ -99,14 +95,9 @@ module _ (choose : ℤ → ℤ → ℤ) (beyond : ℤ → ℤ → Bool) (d : IsD
           | inl is ↦
               let other = test_other z v (λ e. cc (is, e, d.irreflexive z)) in
               extreme_at (p ∷ q ∷ ps) v (joined ∙ d.takes z v is) ∙ grind (arith, nat_tests, some, count_cons v z zs)
-          | inr not ↦ elim (cases_Bool (int_eq v z)) [
-            | inl same ↦
-                let equal = eq_from_test v z same in
-                extreme_at (p ∷ q ∷ ps) z (joined ∙ d.keeps z v not) ∙ grind (arith, nat_tests, some, count_cons z z zs, test_same z)
-            | inr other ↦
-                let none = count_beyond z zs (d.total v z not (λ e. cc (other, e, test_same z))) in
-                extreme_at (p ∷ q ∷ ps) z (joined ∙ d.keeps z v not) ∙ grind (arith, nat_tests, some, count_cons z z zs, test_same z)
-          ]
+          | inr not ↦
+              extreme_at (p ∷ q ∷ ps) z (joined ∙ d.keeps z v not)
+              ∙ grind (arith, nat_tests, some, count_cons z z zs, test_same z, cases_Bool (int_eq v z), eq_from_test v z, d.total v z not, count_beyond z zs)
         ]
 
     pub extremes_joined : (ps qs : List (ℕ × ℕ)) → merge beyond (extreme_among choose f ps) (extreme_among choose f qs) ≡ extreme_among choose f (ps ++ qs)
@@ -115,20 +106,15 @@ module _ (choose : ℤ → ℤ → ℤ) (beyond : ℤ → ℤ → Bool) (d : IsD
     extremes_joined (p ∷ ps) qs =
         cc (extreme_cons p ps, merge_assoc (one f p) (extreme_among choose f ps) (extreme_among choose f qs), extremes_joined ps qs, extreme_cons p (ps ++ qs))
 
-  -- merging the extreme of lower pixels equals merging the extreme moved down
-  pub extreme_lowered : (f g : ℕ → ℕ → ℤ) (down : ℕ) (a : Extreme) (ps : List (ℕ × ℕ)) → samples f ps ≡ samples g (map (lower down) ps)
-      → merge beyond a (extreme_among choose g (map (lower down) ps)) ≡ merge beyond a (shift_down down (extreme_among choose f ps))
-  extreme_lowered f g down a [] same = refl
-  extreme_lowered f g down a (p ∷ ps) same =
-      let here : f p.0 p.1 ≡ g p.0 (p.1 + down) = cc in
-      let rest : samples f ps ≡ samples g (map (lower down) ps) = cc in
-      cc (
-        here,
-        extreme_cons g (lower down p) (map (lower down) ps),
-        extreme_cons f p ps,
-        extreme_lowered f g down (one g (lower down p)) ps rest,
-        shift_merge beyond down (one f p) (extreme_among choose f ps),
-      )
+  -- merging the extreme of a lower row with the same samples equals merging the extreme moved down
+  extreme_lowered : (f g : ℕ → ℕ → ℤ) (down : ℕ) (a : Extreme) (x n y : ℕ) → run x n (λ k. f k y) ≡ run x n (λ k. g k (y + down))
+      → merge beyond a (extreme_among choose g (row_pixels x n (y + down))) ≡ merge beyond a (shift_down down (extreme_among choose f (row_pixels x n y)))
+  extreme_lowered f g down a x zero y same = refl
+  extreme_lowered f g down a x (suc n) y same =
+      let here : f x y ≡ g x (y + down) = cc in
+      let rest = extreme_lowered f g down (one g (x, y + down)) (x + 1) n y cc in
+      let first = extreme_cons f (x, y) (row_pixels (x + 1) n y) in
+      cc (here, rest, first, extreme_cons g (x, y + down) (row_pixels (x + 1) n (y + down)), shift_merge beyond down (one f (x, y)) (extreme_among choose f (row_pixels (x + 1) n y)))
 
 -- ---- both extremes
 
@@ -153,18 +139,10 @@ row_merged choose beyond f ps ws v is a row best test = rw (test, best, row) ref
 pub found_joined : (f : ℕ → ℕ → ℤ) (ps qs : List (ℕ × ℕ)) → merge_found (found_in f ps) (found_in f qs) ≡ found_in f (ps ++ qs)
 found_joined f ps qs = cc (extremes_joined int_min int_lt downwards f ps qs, extremes_joined int_max (λ z v. int_lt v z) upwards f ps qs)
 
-pub found_lowered : (f g : ℕ → ℕ → ℤ) (down : ℕ) (a : Found) (ps : List (ℕ × ℕ)) → samples f ps ≡ samples g (map (lower down) ps)
-    → merge_found a (found_in g (map (lower down) ps)) ≡ merge_found a (shift_found down (found_in f ps))
-found_lowered f g down a ps same =
-    cc (extreme_lowered int_min int_lt downwards f g down a.least ps same, extreme_lowered int_max (λ z v. int_lt v z) upwards f g down a.greatest ps same)
-
--- the extreme of a row, moved down
 pub row_lowered : (f g : ℕ → ℕ → ℤ) (down : ℕ) (a : Found) (x n y : ℕ) → run x n (λ k. f k y) ≡ run x n (λ k. g k (y + down))
     → merge_found a (found_in g (row_pixels x n (y + down))) ≡ merge_found a (shift_found down (found_in f (row_pixels x n y)))
 row_lowered f g down a x n y same =
-    let places = map-map (lower down) (λ k. (k, y)) (range_with_len x n) in
-    ap (λ ps. merge_found a (found_in g ps)) (sym places)
-    ∙ found_lowered f g down a (row_pixels x n y) (row_samples f x n y ∙ same ∙ sym (ap (samples g) places ∙ row_samples g x n (y + down)))
+    cc (extreme_lowered int_min int_lt downwards f g down a.least x n y same, extreme_lowered int_max (λ z v. int_lt v z) upwards f g down a.greatest x n y same)
 
 -- merged one after the other, or both together
 found_assoc : (a b c : Found) → merge_found (merge_found a b) c ≡ merge_found a (merge_found b c)
