@@ -1,9 +1,9 @@
 -- The samples of bands of rows, and what is counted of them.
-use Rattle.std.proofs.Common.{Bool, ◌≡◌, ℕ, zero, suc, ℤ, ◌+◌, ◌-◌, ◌*◌, ◌<◌, ◌≤◌, List, [], ◌++◌, length, map, slice_index, cond, replicate, inl, inr, refl, ap, sym, ◌∙◌, arith, ◌&&◌, nat_le, nat_lt, if◌then◌else◌, min, max, unsigned_abs, append-nil, append_assoc}
-use Rattle.vx_base.specs.Image.{description_of}
-use Rattle.stat_kernels.proofs.Common.{Description, int_min, int_max, cases_Bool, cases_lt, nat_tests, side, rectangle_ordered, length-map, map-append, get_or_past, length-replicate, get_or-replicate, length-map-range_with_len, get_or-map-range_with_len, fill_by_all, count_by-le-length, sum_by-append, ImageValue, IsImage, pixel_at, Rectangle, BinsValue, bin_of, is_bin, histogram, samples_in, tallies, valid_samples, rectangle_pixels, row_pixels, flat_map, range_with_len, extremes, Band, all_rows, bin_sums, band_of, valid_in, columns_in, valid_run, extremes_of, found_in, count_by}
-use Rattle.stat_kernels.proofs.PlaceLaws.{length-places, range_from, rows_joined, samples_joined}
+use Rattle.std.proofs.Common.{◌≡◌, ℕ, ℤ, ◌+◌, ◌-◌, ◌*◌, ◌<◌, ◌≤◌, List, [], ◌++◌, length, map, slice_index, cond, replicate, inl, inr, refl, ap, sym, ◌∙◌, arith, ◌&&◌, nat_le, nat_lt, if◌then◌else◌, min, max, unsigned_abs, append-nil}
+use Rattle.stat_kernels.proofs.Common.{int_min, int_max, cases_Bool, cases_lt, nat_tests, side, rectangle_ordered, length-map, map-append, get_or_past, length-replicate, get_or-replicate, fill_by_all, count_by-le-length, sum_by-append, ImageValue, IsImage, pixel_at, Rectangle, BinsValue, bin_of, is_bin, histogram, samples_in, tallies, valid_samples, rectangle_pixels, row_pixels, flat_map, range_with_len, extremes, Band, all_rows, bin_sums, band_of, valid_in, columns_in, valid_run, extremes_of, found_in}
+use Rattle.stat_kernels.proofs.PlaceLaws.{length-rows, range_from, rows_joined, samples_joined}
 use Rattle.vx_base.specs.Object.{no_extremes}
+use Rattle.stat_kernels.proofs.TallyLaws.{length-tallies, tally_at}
 use Rattle.stat_kernels.proofs.MergeLaws.{at_most}
 
 abbrev pub rows_at : ℕ → ℕ → Band
@@ -85,12 +85,6 @@ all_valid image is =
 
 -- ---- counts of bands
 
-pub tally_at : (b : BinsValue) (zs : List ℤ) (k : ℕ) → k < b.bins → slice_index (tallies b zs) k ≡ count_by (λ z. is_bin k (bin_of b (unsigned_abs z))) zs
-tally_at b zs k below = get_or-map-range_with_len (λ k. count_by (λ z. is_bin k (bin_of b (unsigned_abs z))) zs) 0 b.bins k k 0 below (omega arith)
-
-pub length-tallies : (b : BinsValue) (zs : List ℤ) → length (tallies b zs) ≡ b.bins
-length-tallies b zs = length-map-range_with_len (λ k. count_by (λ z. is_bin k (bin_of b (unsigned_abs z))) zs) 0 b.bins
-
 -- samples after others are counted bin by bin
 pub tallies_added : (b : BinsValue) (zs ws : List ℤ) → tallies b (zs ++ ws) ≡ bin_sums (tallies b zs) (tallies b ws)
 tallies_added b zs ws =
@@ -126,7 +120,7 @@ pub few_places : (image : ImageValue) → IsImage image → (rows : Band) → le
 few_places image is rows =
     let r = band_of rows image.valid in
     let high : r.y1 - r.y0 ≤ 8192 = grind (arith, nat_tests, is.sides.height, is.room.rows, (rectangle_ordered image.valid is.canonical).rows) in
-    omega (arith, length-places r, all_few (r.y1 - r.y0) (r.x1 - r.x0) high (omega (arith, side image.width is.sides.width, is.room.columns)))
+    omega (arith, length-rows r.x0 (r.x1 - r.x0) r.y0 (r.y1 - r.y0), all_few (r.y1 - r.y0) (r.x1 - r.x0) high (omega (arith, side image.width is.sides.width, is.room.columns)))
   where
     all_few : (m k : ℕ) → m ≤ 8192 → k ≤ 8192 → m * k ≤ 67108864
     all_few m k rows columns = grind arith

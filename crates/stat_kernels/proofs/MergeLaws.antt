@@ -1,8 +1,7 @@
 -- Extremes of pixels, merged with those of later pixels.
-use Rattle.std.proofs.Common.{zero, suc, ◌≡◌, ℕ, ℤ, ◌+◌, ◌-◌, ◌<◌, ◌≤◌, List, [], ◌∷◌, ◌++◌, length, map, cond, Bool, true, false, inl, inr, ap, ◌∙◌, sym, refl, arith, int_lt, to_z, of_z, w16, FitsSigned}
+use Rattle.std.proofs.Common.{zero, suc, ◌≡◌, ℕ, ℤ, ◌+◌, ◌<◌, ◌≤◌, List, [], ◌∷◌, ◌++◌, length, map, cond, Bool, true, false, inl, inr, ap, ◌∙◌, sym, refl, arith, int_lt, to_z, of_z, w16, FitsSigned}
 use Rattle.stat_kernels.proofs.Common.{fold, int_eq, int_min, int_max, cases_Bool, cases_eq, ints, to_z-of_z, length-map, sum_by-cons, count_by-le-length, nat_tests, map-map, range_with_len, run, row_pixels, best_of, count_of, first_of, found_in, Found, extreme_among, merge_found, shift_found}
 use Rattle.stat_kernels.specs.declared.extreme.Extreme.{Extreme}
-use Rattle.stat_kernels.proofs.PlaceLaws.{row_samples}
 use Rattle.lane_rows.proofs.CountLaws.{eq_from_test, test_same, test_other}
 use Rattle.stat_kernels.specs.Extreme.{shift_down, merge}
 
@@ -42,13 +41,9 @@ module _ (choose : ℤ → ℤ → ℤ) (beyond : ℤ → ℤ → Bool) (d : IsD
       | inl none ↦ grind (arith, nat_tests)
       | inr more ↦ elim (cases_Bool (beyond b.value a.value)) [
         | inl is ↦ grind (arith, nat_tests, eq_from_test, d.transitive c.value b.value a.value)
-        | inr not ↦ elim (cases_Bool (int_eq b.value a.value)) [
-          | inl same ↦ let equal = eq_from_test b.value a.value same in grind (arith, nat_tests)
-          | inr other ↦
-              let first = d.total b.value a.value not (λ e. cc (other, e, test_same a.value)) in
-              let between = d.transitive a.value b.value c.value first in
-              grind (arith, nat_tests, between, eq_from_test c.value b.value, eq_from_test c.value a.value, test_same b.value, d.total c.value b.value, d.transitive c.value a.value c.value, d.irreflexive c.value)
-        ]
+        | inr not ↦
+            let first = d.transitive a.value b.value c.value in
+            grind (arith, nat_tests, cases_Bool (int_eq b.value a.value), eq_from_test b.value a.value, eq_from_test c.value b.value, eq_from_test c.value a.value, test_same a.value, test_same b.value, first, d.total b.value a.value not, d.total c.value b.value, d.transitive c.value a.value c.value, d.irreflexive c.value)
       ]
     ]
   ]

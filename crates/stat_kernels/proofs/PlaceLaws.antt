@@ -1,6 +1,6 @@
 -- The pixels of a rectangle and their samples, row by row.
-use Rattle.std.proofs.Common.{true, ◌≡◌, ℕ, ℤ, ◌+◌, ◌-◌, ◌*◌, ◌<◌, ◌≤◌, List, ◌++◌, length, map, zero, suc, refl, ap, ◌∙◌, arith, append-nil, length-append}
-use Rattle.stat_kernels.proofs.Common.{nat_tests, range_with_len, flat_map, map-append, length-map, Rectangle, ImageValue, pixel_at, run, row_pixels, rectangle_pixels, samples_in, range-append, length-range, has_pixel, map-map}
+use Rattle.std.proofs.Common.{◌≡◌, ℕ, ℤ, ◌+◌, ◌-◌, ◌*◌, ◌<◌, ◌≤◌, List, ◌++◌, length, map, zero, suc, refl, ap, ◌∙◌, arith, append-nil, length-append}
+use Rattle.stat_kernels.proofs.Common.{range_with_len, flat_map, map-append, length-map, Rectangle, run, row_pixels, rectangle_pixels, range-append, length-range, map-map}
 use Rattle.std.proofs.lemmas.List.Concat.{flat_map-append}
 
 -- the rows of a rectangle that are above row y
@@ -33,15 +33,9 @@ pub samples_joined : (f : ℕ → ℕ → ℤ) (ps qs : List (ℕ × ℕ)) (x n 
 samples_joined f ps qs x n y are =
     ap (map (λ p. f p.0 p.1)) are ∙ map-append (λ p. f p.0 p.1) qs (row_pixels x n y) ∙ ap (λ l. map (λ p. f p.0 p.1) qs ++ l) (row_samples f x n y)
 
-length-row : (x n y : ℕ) → length (row_pixels x n y) ≡ n
-length-row x n y = length-map {B = ℕ × ℕ} (range_with_len x n) (λ k. (k, y)) ∙ length-range x n
-
-length-rows : (x n a m : ℕ) → length (flat_map (row_pixels x n) (range_with_len a m)) ≡ m * n
+-- the number of pixels of m rows
+pub length-rows : (x n a m : ℕ) → length (flat_map (row_pixels x n) (range_with_len a m)) ≡ m * n
 length-rows x n a zero = omega arith
 length-rows x n a (suc m) =
     length-append (row_pixels x n a) (flat_map (row_pixels x n) (range_with_len (a + 1) m))
-    ∙ omega (arith, length-row x n a, length-rows x n (a + 1) m)
-
--- the number of pixels of a rectangle
-pub length-places : (r : Rectangle) → length (rectangle_pixels r) ≡ (r.y1 - r.y0) * (r.x1 - r.x0)
-length-places r = length-rows r.x0 (r.x1 - r.x0) r.y0 (r.y1 - r.y0)
+    ∙ omega (arith, length-map {B = ℕ × ℕ} (range_with_len x n) (λ k. (k, a)), length-range x n, length-rows x n (a + 1) m)

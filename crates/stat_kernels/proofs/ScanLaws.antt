@@ -1,12 +1,11 @@
 -- Integral images: each row adds its own samples to the row above it.
-use Rattle.std.proofs.Common.{true, false, ◌⊎◌, ◌≡◌, inl, inr, ℕ, ℤ, pos, zero, suc, ◌+◌, ◌-◌, ◌*◌, ◌%◌, ◌<◌, ◌≤◌, List, map, get_or, Option, Some, None, ap, ◌∙◌, sym, refl, arith, subst, add-zero, zero-add, if◌then◌else◌, nat_le, max, unsigned_abs}
+use Rattle.std.proofs.Common.{true, ◌≡◌, inl, inr, ℕ, ℤ, pos, zero, suc, ◌+◌, ◌-◌, ◌*◌, ◌%◌, ◌<◌, ◌≤◌, List, map, get_or, Option, Some, None, ap, ◌∙◌, sym, refl, arith, subst, add-zero, if◌then◌else◌, nat_le, max, unsigned_abs}
 use Rattle.std.proofs.Math.ListN.{get_or-map}
-use Rattle.stat_kernels.proofs.Common.{ints, cases_Bool, cases_lt, nat_tests, sum_by, sum_by-append, flat_map, range_with_len, Rectangle, ImageValue, pixel_at, band, run, zero_outside, rectangle_pixels, row_pixels, samples_in, sum_to, band-more, get_or-run, run-same, Band, IsRowAbove, AreRowsOf, has_pixel, row_sums, row_total, sum_on}
+use Rattle.stat_kernels.proofs.Common.{ints, cases_Bool, nat_tests, sum_by, sum_by-append, flat_map, range_with_len, Rectangle, ImageValue, pixel_at, band, run, zero_outside, rectangle_pixels, row_pixels, samples_in, sum_to, band-more, get_or-run, run-same, Band, IsRowAbove, AreRowsOf, has_pixel, row_sums, row_total, sum_on}
 use Rattle.vx_base.specs.declared.format.Format.TheVariants.{U32}
 use Rattle.vx_base.specs.Rectangle.{meet_of, whole_rectangle}
 use Rattle.vx_base.specs.Sample.{IsSample}
 use Rattle.vx_base.proofs.ImageLaws.{get_or-table}
-use Rattle.vx_base.proofs.TableLaws.{within_elsewhere, within_inside}
 use Rattle.stat_kernels.specs.Sums.{sum_between}
 use Rattle.stat_kernels.proofs.PlaceLaws.{above, places_more, samples_joined}
 

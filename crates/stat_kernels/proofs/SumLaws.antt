@@ -1,10 +1,10 @@
 -- Rows of an integral image in memory.
-use Rattle.std.proofs.Common.{true, false, ◌%◌, ◌≡◌, ℕ, ℤ, pos, zero, suc, ◌+◌, ◌-◌, ◌*◌, ◌<◌, ◌≤◌, List, [], ◌∷◌, ◌++◌, length, map, take, drop, get_or, replicate, Option, Some, None, ap, ◌∙◌, sym, refl, arith, inl, inr, Bool, if◌then◌else◌, ◌==◌, Bor, option_copied, unsigned_abs, ext_get_or, get_or-drop, get_or-take}
+use Rattle.std.proofs.Common.{true, false, ◌%◌, ◌≡◌, ℕ, ℤ, pos, zero, suc, ◌+◌, ◌-◌, ◌*◌, ◌<◌, ◌≤◌, List, ◌++◌, length, map, take, drop, get_or, replicate, Option, Some, None, ap, ◌∙◌, sym, refl, arith, inl, inr, Bool, if◌then◌else◌, ◌==◌, Bor, option_copied, unsigned_abs, ext_get_or, get_or-drop, get_or-take}
 use Rattle.std.proofs.lemmas.List.Folds.{fold-map}
 use Rattle.std.proofs.Math.ListN.{get_or-map}
 use Rattle.std.proofs.Math.Seq.{take-append_seam, take-append-add}
 use Rattle.std.specs.Option.{option_or}
-use Rattle.stat_kernels.proofs.Common.{Band, cases_Bool, sum, sum_by, sum_by-cons, nat_tests, get_or-map-range_with_len, length-map, map-append, map-replicate, take-map, take-map-range_with_len, Rectangle, ImageValue, IsImage, pixel_at, band, run, zero_outside, band-more, get_or-run, run-same, columns_in, valid_run, sum_below, sums_below, last_row, AreRowsOf, has_pixel, length-run, row_sums, row_total, sum_on}
+use Rattle.stat_kernels.proofs.Common.{Band, cases_Bool, sum, sum_by, nat_tests, get_or-map-range_with_len, length-map, map-append, map-replicate, take-map, take-map-range_with_len, Rectangle, ImageValue, IsImage, pixel_at, band, run, zero_outside, band-more, get_or-run, run-same, columns_in, valid_run, sum_below, sums_below, last_row, AreRowsOf, has_pixel, length-run, row_sums, row_total, sum_on}
 use Rattle.vx_base.proofs.TableLaws.{row_in_parts}
 use Rattle.stat_kernels.specs.Sums.{next_sum}
 use Rattle.stat_kernels.proofs.ScanLaws.{above_at, band_get, sum_on_scan}

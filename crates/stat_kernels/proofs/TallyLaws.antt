@@ -1,6 +1,13 @@
 -- Counts by value, and those in bins.
-use Rattle.std.proofs.Common.{◌≡◌, ℕ, ℤ, ◌+◌, ◌<◌, ◌≤◌, List, [], ◌∷◌, ◌++◌, length, get_or, set, replicate, cond, Bool, ◌&&◌, refl, ap, ◌∙◌, sym, arith, if◌then◌else◌, Some, None, unsigned_abs, ◌==◌, nat_lt, length-set, get_or-set_same, get_or-set_other}
-use Rattle.stat_kernels.proofs.Common.{All, cases_eq, cases_lt, nat_tests, get_or_past, length-replicate, get_or-replicate, All-head, All-tail, sum_by-cons, sum_by-append, count_by-le-length, length-map-range_with_len, get_or-map-range_with_len, fill_by_all, BinsValue, bin_of, bin_sums, is_bin, tallies, count_at, count_in_all, count_by}
+use Rattle.std.proofs.Common.{◌≡◌, ℕ, ℤ, ◌+◌, ◌<◌, ◌≤◌, List, [], ◌∷◌, length, get_or, set, replicate, cond, ◌&&◌, refl, ap, ◌∙◌, arith, if◌then◌else◌, Some, None, unsigned_abs, ◌==◌, nat_lt, length-set, get_or-set_same, get_or-set_other}
+use Rattle.stat_kernels.proofs.Common.{All, cases_eq, cases_lt, nat_tests, get_or_past, length-replicate, get_or-replicate, All-head, All-tail, sum_by-cons, count_by-le-length, length-map-range_with_len, get_or-map-range_with_len, fill_by_all, BinsValue, bin_of, bin_sums, is_bin, tallies, count_at, count_by}
+
+-- a count, and the number of counts
+pub tally_at : (b : BinsValue) (zs : List ℤ) (k : ℕ) → k < b.bins → get_or (tallies b zs) k 0 ≡ count_by (λ z. is_bin k (bin_of b (unsigned_abs z))) zs
+tally_at b zs k below = get_or-map-range_with_len (λ k. count_by (λ z. is_bin k (bin_of b (unsigned_abs z))) zs) 0 b.bins k k 0 below (omega arith)
+
+pub length-tallies : (b : BinsValue) (zs : List ℤ) → length (tallies b zs) ≡ b.bins
+length-tallies b zs = length-map-range_with_len (λ k. count_by (λ z. is_bin k (bin_of b (unsigned_abs z))) zs) 0 b.bins
 
 -- of these samples how many are below v and fall into bin k
 abbrev count_below : BinsValue → ℕ → List ℤ → ℕ → ℕ
@@ -60,9 +67,8 @@ all_below b k (z ∷ zs) small =
 
 pub counted_all : (b : BinsValue) (zs : List ℤ) (before now : List ℕ) → length before ≡ b.bins → All (λ z. unsigned_abs z < 256) zs → AreCounted b zs before 256 now → now ≡ bin_sums before (tallies b zs)
 counted_all b zs before now size small are =
-    let count = λ (k : ℕ). count_by (λ z. is_bin k (bin_of b (unsigned_abs z))) zs in
     fill_by_all (λ k. get_or before k 0 + get_or (tallies b zs) k 0) now (length before) 0 are.size
-    (λ k below. grind (arith, nat_tests, are.each k, all_below b k zs small, get_or-map-range_with_len count 0 b.bins k k 0 (omega (arith, below, size)) (omega arith)))
+    (λ k below. grind (arith, nat_tests, are.each k, all_below b k zs small, tally_at b zs k (omega (arith, below, size))))
 
 pub zero_at : (n v : ℕ) → get_or (replicate {A = ℕ} n 0) v 0 ≡ 0
 zero_at n v = grind (arith, cases_lt v n, get_or-replicate {A = ℕ} n v 0 0, get_or_past (replicate {A = ℕ} n 0) v 0, length-replicate {A = ℕ} n 0)

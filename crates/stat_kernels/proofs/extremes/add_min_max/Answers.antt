@@ -1,17 +1,15 @@
 use Rattle.std.proofs.Common.{◌≡◌, ℕ, ◌≤◌, ◌+◌, ◌∙◌, ap, sym, subst, arith}
-use Rattle.stat_kernels.proofs.Common.{int_min, int_max, side, ImageValue, IsImage, pixel_at, rectangle_pixels, row_pixels, Band, band_of, columns_in, extremes_of, found_in, Found, merge_found, shift_found}
+use Rattle.stat_kernels.proofs.Common.{side, ImageValue, IsImage, pixel_at, rectangle_pixels, row_pixels, Band, band_of, columns_in, extremes_of, found_in, Found, merge_found, shift_found}
 use Rattle.stat_kernels.specs.Extreme.{found_of}
-use Rattle.stat_kernels.proofs.MergeLaws.{MergesAs, at_most, merges_more, same_counts}
-use Rattle.stat_kernels.proofs.BandLaws.{few_places, no_places, rows_at, rows_more}
+use Rattle.stat_kernels.proofs.MergeLaws.{MergesAs, merges_more, same_counts}
+use Rattle.stat_kernels.proofs.BandLaws.{few_greatest, few_least, no_places, rows_at, rows_more}
 use Rattle.stat_kernels.proofs.extremes.add_min_max.Goals as goal
 
 few_found : (image : ImageValue) → IsImage image → (rows : Band) (down : ℕ) (found : Found) → MergesAs (pixel_at image) down (rectangle_pixels (band_of rows image.valid)) found
     → (found.least.count ≤ 67108864) × (found.greatest.count ≤ 67108864)
 few_found image is rows down found are =
-    let ps = rectangle_pixels (band_of rows image.valid) in
-    let same = same_counts (pixel_at image) down ps found are in
-    let few = few_places image is rows in
-    (omega (arith, same.0, at_most int_min (pixel_at image) ps), omega (arith, same.1, at_most int_max (pixel_at image) ps))
+    let same = same_counts (pixel_at image) down (rectangle_pixels (band_of rows image.valid)) found are in
+    (omega (arith, same.0, few_least image is rows), omega (arith, same.1, few_greatest image is rows))
 
 -- at the end of the loop
 ended : (image : ImageValue) (rows : Band) (down k : ℕ) (found : Found) → MergesAs (pixel_at image) down (rectangle_pixels (band_of (rows_at rows.start k) image.valid)) found → k ≡ rows.count

@@ -1,7 +1,7 @@
 use Rattle.std.proofs.Common.{◌≡◌, ◌+◌, ◌∙◌, ap, sym, arith}
-use Rattle.stat_kernels.proofs.Common.{Band, Description, Extremes, all_rows, extremes, extremes_of, pixel_at, valid_in, added_extremes}
+use Rattle.stat_kernels.proofs.Common.{Band, Description, all_rows, extremes, extremes_of, valid_in, added_extremes}
 use Rattle.stat_kernels.proofs.AlikeLaws.{bands_joined}
-use Rattle.stat_kernels.proofs.BandLaws.{all_valid, extremes_few, few_samples, none_located, rows_at}
+use Rattle.stat_kernels.proofs.BandLaws.{all_valid, none_located, rows_at}
 use Rattle.stat_kernels.proofs.extremes.min_max.Goals as goal
 
 pub returns : goal.returns

@@ -1,4 +1,4 @@
-use Rattle.std.proofs.Common.{take_all, ℕ, ◌≡◌, ◌+◌, ◌*◌, ◌≤◌, ◌∙◌, pos, length, map, take, drop, ap, sym, arith, option_copied, length-take-le}
+use Rattle.std.proofs.Common.{take_all, ◌≡◌, ◌+◌, ◌*◌, ◌≤◌, ◌∙◌, pos, length, map, take, drop, ap, sym, arith, option_copied, length-take-le}
 use Rattle.stat_kernels.proofs.Common.{Description, band, run, zero_outside, row_fits, row_sums, sum_on}
 use Rattle.stat_kernels.proofs.SumLaws.{copied_or, next_follows, rows_written}
 use Rattle.std.specs.Option.{option_or}

@@ -1,4 +1,4 @@
-use Rattle.std.proofs.Common.{◌≡◌, ◌+◌, ◌-◌, ◌≤◌, ◌∙◌, length, replicate, take, drop, ap, arith}
+use Rattle.std.proofs.Common.{◌≡◌, ◌+◌, ◌-◌, ◌∙◌, length, replicate, take, drop, ap, arith}
 use Rattle.stat_kernels.proofs.Common.{Rectangle, columns_in, sums_below}
 use Rattle.stat_kernels.proofs.SumLaws.{row_is}
 use Rattle.stat_kernels.proofs.sums.write_integral_row.Goals as goal

@@ -1,4 +1,4 @@
-use Rattle.std.proofs.Common.{ℤ, ◌<◌, ◌≤◌, ◌∙◌, length, sym, ap, arith, get_or, take, map, pos}
+use Rattle.std.proofs.Common.{ℤ, ◌<◌, ◌∙◌, length, sym, ap, arith, get_or, take, map, pos}
 use Rattle.stat_kernels.proofs.Common.{count_of, get_or-run, length-map, nat_tests, take-map-range_with_len, length-run}
 use Rattle.lane_rows.proofs.CountLaws.{none_of_first}
 use Rattle.stat_kernels.proofs.MergeLaws.{first_in_row}
