@@ -1,5 +1,5 @@
 -- Rows of an integral image in memory.
-use Rattle.std.proofs.Common.{true, false, ◌%◌, ◌≡◌, ℕ, ℤ, pos, zero, suc, ◌+◌, ◌-◌, ◌*◌, ◌<◌, ◌≤◌, List, ◌++◌, length, map, take, drop, get_or, replicate, Option, Some, None, ap, ◌∙◌, sym, refl, arith, inl, inr, Bool, if◌then◌else◌, ◌==◌, Bor, option_copied, unsigned_abs, ext_get_or, get_or-drop, get_or-take}
+use Rattle.std.proofs.Common.{true, false, ◌%◌, ◌≡◌, ℕ, ℤ, pos, zero, suc, ◌+◌, ◌-◌, ◌*◌, ◌<◌, ◌≤◌, List, ◌++◌, length, map, take, drop, get_or, replicate, Option, Some, None, ap, ◌∙◌, sym, refl, arith, Bool, if◌then◌else◌, ◌==◌, Bor, option_copied, unsigned_abs, ext_get_or, get_or-drop, get_or-take}
 use Rattle.std.proofs.lemmas.List.Folds.{fold-map}
 use Rattle.std.proofs.Math.ListN.{get_or-map}
 use Rattle.std.proofs.Math.Seq.{take-append_seam, take-append-add}
@@ -16,12 +16,6 @@ row_sum : (row : List ℕ) (x n k : ℕ) (g : ℕ → ℤ) → map pos row ≡ r
 row_sum row x n k g is within =
     sym (fold-map (λ a z. a + unsigned_abs z) pos 0 (take k row))
     ∙ ap (sum_by unsigned_abs) (sym (take-map pos k row) ∙ ap (take k) is ∙ take-map-range_with_len g x n k within)
-
-pub run_of_sums : (sums : List ℕ) (x n : ℕ) (f : ℕ → ℤ) → length sums ≡ n → ((k : ℕ) → k < n → pos (get_or sums k 0) ≡ f (x + k)) → map pos sums ≡ run x n f
-run_of_sums sums x n f long same =
-    ext_get_or (pos 0) (map pos sums) (run x n f) (length-map sums pos ∙ long ∙ sym (length-run f x n))
-    (λ k h. let below : k < n = omega (arith, length-map sums pos) in
-    get_or-map pos sums k 0 ∙ same k below ∙ sym (get_or-run f x n k (pos 0) below))
 
 -- row y of an image: the sums of the valid pixels, between zeros
 module _ (image : ImageValue) (y : ℕ) (above row left sums right : List ℕ) where
@@ -51,7 +45,10 @@ module _ (image : ImageValue) (y : ℕ) (above row left sums right : List ℕ) w
       let all : r.x0 + (n + rest) ≡ image.width = omega arith in
       let before : (k : ℕ) → k < r.x0 → g k ≡ pos 0 = λ k from. (let outside : has_pixel r k y ≡ false = grind (arith, nat_tests) in rw outside refl) in
       let behind : (k : ℕ) → r.x0 + n ≤ k → g k ≡ pos 0 = λ k from. (let outside : has_pixel r k y ≡ false = grind (arith, nat_tests) in rw outside refl) in
-      cc (map-append pos left (sums ++ right), map-append pos sums right, map-replicate pos r.x0 0, map-replicate pos rest 0, run_of_sums sums r.x0 n g long (sum_at same wide is_below))
+      let middle : map pos sums ≡ run r.x0 n g = ext_get_or (pos 0) (map pos sums) (run r.x0 n g) (length-map sums pos ∙ long ∙ sym (length-run g r.x0 n)) (λ k h.
+      let below : k < n = omega (arith, length-map sums pos) in
+      get_or-map pos sums k 0 ∙ sum_at same wide is_below k below ∙ sym (get_or-run g r.x0 n k (pos 0) below)) in
+      cc (map-append pos left (sums ++ right), map-append pos sums right, map-replicate pos r.x0 0, map-replicate pos rest 0, middle)
       ∙ sym (row_in_parts g r.x0 n rest before behind) ∙ ap (λ m. run 0 m g) all
 
 -- ---- rows one after the other
@@ -81,12 +78,9 @@ module _ (image : ImageValue) (start width : ℕ) (before : List ℕ) (above : O
   pub next_follows : (k : ℕ) (now : ℕ → ℕ) → map pos before ≡ band width start k (zero_outside image.valid f) → length before ≡ k * width → ((x : ℕ) → now x ≡ row_sums (option_or (last_row width before) above) x)
       → run 0 image.width (λ x. zero_outside image.valid (next_sum image now) x (start + k)) ≡ run 0 image.width (λ x. zero_outside image.valid f x (start + k))
   next_follows k now are long is_above =
-      run-same (λ x. zero_outside image.valid (next_sum image now) x (start + k)) (λ x. zero_outside image.valid f x (start + k)) 0 image.width (λ x a b. elim (cases_Bool (has_pixel image.valid x (start + k))) [
-        | inl is ↦
-            let sums = is_above x ∙ last_sums k x are long (omega arith) in
-            rw is (ap (λ n. pos ((n + row_total image x (start + k)) % 4294967296)) sums ∙ sym (sum_on_scan image start x (row_sums above) k is))
-        | inr not ↦ rw not refl
-      ])
+      run-same (λ x. zero_outside image.valid (next_sum image now) x (start + k)) (λ x. zero_outside image.valid f x (start + k)) 0 image.width (λ x a b.
+      let sums = is_above x ∙ last_sums k x are long (omega arith) in
+      grind (arith, cases_Bool (has_pixel image.valid x (start + k)), sums, sum_on_scan image start x (row_sums above) k))
 
 -- an image's rows are its own
 pub own_rows : (image : ImageValue) → IsImage image → (rows : Band) → AreRowsOf image rows image rows.start
