@@ -1,67 +1,51 @@
 -- Rows of an image that equal rows of another one, at different heights.
-use Rattle.std.proofs.Common.{refl, ◌≡◌, ◌∙◌, ℕ, ℤ, ◌+◌, ◌-◌, ◌<◌, ◌≤◌, true, false, ◌&&◌, nat_le, nat_lt, [], if◌then◌else◌, inl, inr, ap, sym, subst, arith}
-use Rattle.stat_kernels.proofs.Common.{cases_Bool, nat_tests, ImageValue, Rectangle, pixel_at, extremes, rectangle_pixels, row_pixels, Band, band_of, valid_in}
-use Rattle.vx_base.specs.Rectangle.{has_pixel}
-use Rattle.stat_kernels.specs.Extreme.{added_extremes}
-use Rattle.stat_kernels.specs.Sums.{AreRowsOf}
-use Rattle.stat_kernels.proofs.FirstPixelLaws.{AreLowered, extremes_joined, lowered_none, lowered_row}
-use Rattle.stat_kernels.proofs.BandLaws.{places_lowered, row_of, rows_at, rows_follow}
-use Rattle.stat_kernels.proofs.PlaceLaws.{inside_from, inside_parts, same_columns}
+use Rattle.std.proofs.Common.{refl, ◌≡◌, ◌∙◌, ℕ, ℤ, zero, suc, ◌+◌, ◌-◌, ◌<◌, ◌≤◌, List, map, ap, sym, arith}
+use Rattle.stat_kernels.proofs.Common.{nat_tests, run, run-same, ImageValue, Rectangle, has_pixel, pixel_at, extremes, extremes_of, found_in, rectangle_pixels, row_pixels, Band, band_of, columns_in, valid_in, added_extremes, merge_found, shift_found, AreRowsOf, Found}
+use Rattle.stat_kernels.proofs.MergeLaws.{found_joined, found_more, row_lowered}
+use Rattle.stat_kernels.proofs.BandLaws.{no_places, rows_at, rows_more}
+use Rattle.stat_kernels.proofs.PlaceLaws.{range_from}
 
--- the places of a row that has a valid place, and of one that has none
-row_some : (r : Rectangle) (y : ℕ) → r.y0 ≤ y → y < r.y1 → row_of r y ≡ row_pixels r.x0 (r.x1 - r.x0) y
-row_some r y above below = let is : (nat_le r.y0 y && nat_lt y r.y1) ≡ true = grind (arith, nat_tests) in ap (λ b. if b then row_pixels r.x0 (r.x1 - r.x0) y else []) is
+-- merging the extremes of a row, and of a lower row with the same valid columns and the same samples there
+row_same : (r s : Rectangle) (f g : ℕ → ℕ → ℤ) (y line down width : ℕ) → line ≡ y + down → ((x : ℕ) → has_pixel r x y ≡ has_pixel s x line) → ((x : ℕ) → x < width → f x y ≡ g x line) → s.x1 ≤ width
+    → (a : Found) → merge_found a (shift_found down (found_in f (row_pixels r.x0 (columns_in r y) y))) ≡ merge_found a (found_in g (row_pixels s.x0 (columns_in s line) line))
+row_same r s f g y line down width at same values within a =
+    let n = columns_in r y in
+    let columns : n ≡ columns_in s line = grind (arith, nat_tests, same r.x0, same s.x0, same (r.x1 - 1), same (s.x1 - 1)) in
+    let first : 0 < n → r.x0 ≡ s.x0 = λ some. grind (arith, nat_tests, same r.x0, same s.x0, some) in
+    let inside : (x : ℕ) → r.x0 ≤ x → x < r.x0 + n → x < width = λ x from to. grind (arith, nat_tests, same x, within) in
+    let samples_same = run-same (λ x. f x y) (λ x. g x line) r.x0 n (λ x from to. values x (inside x from to)) ∙ ap (λ j. run r.x0 n (λ x. g x j)) at in
+    sym (row_lowered f g down a r.x0 n y samples_same) ∙ ap (λ j. merge_found a (found_in g (row_pixels r.x0 n j))) (sym at)
+    ∙ ap (λ ps. merge_found a (found_in g ps)) (ap (map (λ x. (x, line))) (range_from r.x0 s.x0 n first) ∙ ap (λ m. row_pixels s.x0 m line) columns)
 
-row_none : (r : Rectangle) (y : ℕ) → ((x : ℕ) → has_pixel r x y ≡ false) → row_of r y ≡ []
-row_none r y not = elim (cases_Bool (nat_le r.y0 y && nat_lt y r.y1)) [
-  | inl down ↦
-      (let none : r.x1 - r.x0 ≡ 0 = grind (arith, nat_tests, not r.x0, down) in
-      ap (λ b. if b then row_pixels r.x0 (r.x1 - r.x0) y else []) down ∙ ap (λ n. row_pixels r.x0 n y) none)
-  | inr out ↦ ap (λ b. if b then row_pixels r.x0 (r.x1 - r.x0) y else []) out
-]
+-- the extremes of rows of one image and of a band of another, whose rows equal those below them
+module _ (part whole : ImageValue) (one start first down width : ℕ) (at_line : one + down ≡ start + first) (across : whole.valid.x1 ≤ width) where
+  abbrev pixels : ImageValue → ℕ → ℕ → List (ℕ × ℕ)
+  pixels image start count = rectangle_pixels (band_of (rows_at start count) image.valid)
 
--- none is inside where the first isn't
-none_inside : (r : Rectangle) (y : ℕ) → has_pixel r r.x0 y ≡ false → (x : ℕ) → has_pixel r x y ≡ false
-none_inside r y none x = elim (cases_Bool (has_pixel r x y)) [
-  | inl some ↦ (let at_it = inside_parts r x y some in absurd (let is = inside_from r r.x0 y (omega arith) (omega (arith, at_it.left, at_it.right)) at_it.top at_it.bottom in cc))
-  | inr not ↦ not
-]
-
--- rows with the same valid columns and the same samples there, the second `down` rows lower
-pub row_lowered : (r s : Rectangle) (f g : ℕ → ℕ → ℤ) (y down width : ℕ) → ((x : ℕ) → has_pixel r x y ≡ has_pixel s x (y + down)) → ((x : ℕ) → x < width → f x y ≡ g x (y + down)) → s.x1 ≤ width
-    → AreLowered down f g (row_of r y) (row_of s (y + down))
-row_lowered r s f g y down width same samples within = elim (cases_Bool (has_pixel r r.x0 y)) [
-  | inl some ↦
-      (let one = inside_parts r r.x0 y some in
-      let columns = same_columns r s y (y + down) same (omega (arith, one.right)) one.top one.bottom in
-      let row_is : row_of r y ≡ row_pixels s.x0 (s.x1 - s.x0) y =
-      row_some r y one.top one.bottom ∙ ap (λ n. row_pixels n (r.x1 - n) y) columns.first ∙ ap (λ n. row_pixels s.x0 (n - s.x0) y) columns.last in
-      rw (row_is, row_some s (y + down) columns.top columns.bottom) (lowered_row down f g s.x0 (s.x1 - s.x0) y (λ x from to. samples x (omega (arith, from, to, within)))))
-  | inr none ↦
-      (let nowhere = none_inside r y none in
-      rw (row_none r y nowhere, row_none s (y + down) (λ x. sym (same x) ∙ nowhere x)) (lowered_none down f g))
-]
-
--- the extremes of rows of one image and of a band of another, whose rows equal those below them, `down` rows lower
-module _ (part whole : ImageValue) (rows : Band) (start first down width : ℕ) (at_line : rows.start + down ≡ start + first) (across : whole.valid.x1 ≤ width)
-    (valid : (x k : ℕ) → k < rows.count → has_pixel part.valid x (rows.start + k) ≡ has_pixel whole.valid x (start + first + k))
-    (same : (x k : ℕ) → x < width → k < rows.count → pixel_at part x (rows.start + k) ≡ pixel_at whole x (start + first + k)) where
-  located : added_extremes down (extremes (valid_in (rows_at start first) whole)) (extremes (valid_in rows part)) ≡ extremes (valid_in (rows_at start (first + rows.count)) whole)
-  located =
-      extremes_joined down (pixel_at part) (pixel_at whole) (rectangle_pixels (band_of (rows_at start first) whole.valid)) _ _
-      (places_lowered part whole down rows.start (start + first) rows.count (λ k below.
-      let there : start + first + k ≡ rows.start + k + down = omega arith in
-      subst (λ z. AreLowered down (pixel_at part) (pixel_at whole) (row_of part.valid (rows.start + k)) (row_of whole.valid z)) (sym there)
-      (row_lowered part.valid whole.valid (pixel_at part) (pixel_at whole) (rows.start + k) down width
-      (λ x. valid x k below ∙ ap (has_pixel whole.valid x) there) (λ x inside. same x k inside below ∙ ap (pixel_at whole x) there) across)))
-      ∙ cc (rows_follow whole.valid start first rows.count)
+  located : (count : ℕ) → ((x k : ℕ) → k < count → has_pixel part.valid x (one + k) ≡ has_pixel whole.valid x (start + first + k)) → ((x k : ℕ) → x < width → k < count → pixel_at part x (one + k) ≡ pixel_at whole x (start + first + k))
+      → merge_found (found_in (pixel_at whole) (pixels whole start first)) (shift_found down (found_in (pixel_at part) (pixels part one count))) ≡ found_in (pixel_at whole) (pixels whole start (first + count))
+  located zero valid same = let none : first + 0 ≡ first = omega arith in rw (no_places part.valid one, none) refl
+  located (suc k) valid same =
+      let f = pixel_at part in
+      let g = pixel_at whole in
+      let next : suc k ≡ k + 1 = omega arith in
+      let more : first + suc k ≡ first + k + 1 = omega arith in
+      let line : start + first + k ≡ start + (first + k) = omega arith in
+      let row = row_pixels part.valid.x0 (columns_in part.valid (one + k)) (one + k) in
+      let lower_row = row_pixels whole.valid.x0 (columns_in whole.valid (start + (first + k))) (start + (first + k)) in
+      let a = found_in g (pixels whole start first) in
+      let before = located k (λ x j below. valid x j (omega arith)) (λ x j inside below. same x j inside (omega arith)) in
+      ap (λ ps. merge_found a (shift_found down (found_in f ps))) (ap (pixels part one) next ∙ rows_more part.valid one k)
+      ∙ sym (found_more f down a (pixels part one k) row) ∙ ap (λ b. merge_found b (shift_found down (found_in f row))) before
+      ∙ row_same part.valid whole.valid f g (one + k) (start + (first + k)) down width (omega arith) (λ x. valid x k (omega arith) ∙ ap (has_pixel whole.valid x) line) (λ x inside. same x k inside (omega arith) ∙ ap (g x) line) across (found_in g (pixels whole start (first + k)))
+      ∙ found_joined g (pixels whole start (first + k)) lower_row ∙ ap (found_in g) (sym (ap (pixels whole start) more ∙ rows_more whole.valid start (first + k)))
 
 pub parts_located : (part whole : ImageValue) (rows : Band) (start first down : ℕ) → rows.start + down ≡ start + first → AreRowsOf part rows whole (start + first)
     → added_extremes down (extremes (valid_in (rows_at start first) whole)) (extremes (valid_in rows part)) ≡ extremes (valid_in (rows_at start (first + rows.count)) whole)
 parts_located part whole rows start first down at_line are =
-    located part whole rows start first down whole.width at_line are.is.room.columns (λ x k below. (are.each k below).valid x) (λ x k inside below. (are.each k below).samples x inside)
+    ap extremes_of (located part whole rows.start start first down whole.width at_line are.is.room.columns rows.count (λ x k below. (are.each k below).valid x) (λ x k inside below. (are.each k below).samples x inside))
 
 -- two bands of one image
 pub bands_joined : (image : ImageValue) (start first second : ℕ)
     → added_extremes 0 (extremes (valid_in (rows_at start first) image)) (extremes (valid_in (rows_at (start + first) second) image)) ≡ extremes (valid_in (rows_at start (first + second)) image)
-bands_joined image start first second = located image image (rows_at (start + first) second) start first 0 image.valid.x1 (omega arith) (omega arith) (λ x k below. refl) (λ x k inside below. refl)
+bands_joined image start first second = ap extremes_of (located image image (start + first) start first 0 image.valid.x1 (omega arith) (omega arith) second (λ x k below. refl) (λ x k inside below. refl))

@@ -23,3 +23,5 @@ least_reached (a ∷ zs) some = contains_one a (fold int_min a zs) zs (fold-int_
 pub greatest_reached : (zs : List ℤ) → (zs ≡ [] → ⊥) → Contains zs (best_of int_max zs)
 greatest_reached [] some = absurd (some refl)
 greatest_reached (a ∷ zs) some = contains_one a (fold int_max a zs) zs (fold-int_max_reached a zs (fold int_max a zs) refl)
+
+pub ruleset bounds = (least_bounds, greatest_bounds, least_reached, greatest_reached)

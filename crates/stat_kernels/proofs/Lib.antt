@@ -1,9 +1,8 @@
 mod Common
-mod Rows
 mod PlaceLaws
 mod TallyLaws
+pub mod MergeLaws
 pub mod BandLaws
-pub mod FirstPixelLaws
 pub mod AlikeLaws
 mod ExtremeLaws
 pub mod ScanLaws

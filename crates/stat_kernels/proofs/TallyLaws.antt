@@ -1,7 +1,13 @@
 -- Counts by value, and those in bins.
-use Rattle.std.proofs.Common.{◌≡◌, ℕ, ℤ, ◌+◌, ◌<◌, ◌≤◌, List, [], ◌∷◌, ◌++◌, length, get_or, set, replicate, cond, Bool, ◌&&◌, refl, ap, ◌∙◌, sym, arith, if◌then◌else◌, Some, None, unsigned_abs, ◌==◌, nat_lt, length-set, get_or-set_same, get_or-set_other}
-use Rattle.stat_kernels.proofs.Common.{All, cases_eq, cases_lt, nat_tests, get_or_past, length-replicate, get_or-replicate, All-head, All-tail, sum_by-cons, sum_by-append, count_by-le-length, length-map-range_with_len, get_or-map-range_with_len, fill_by_all, BinsValue, bin_of, bin_sums, is_bin, tallies, count_at, count_in_all}
-use Rattle.std.specs.List.{count_by}
+use Rattle.std.proofs.Common.{◌≡◌, ℕ, ℤ, ◌+◌, ◌<◌, ◌≤◌, List, [], ◌∷◌, length, get_or, set, replicate, cond, ◌&&◌, refl, ap, ◌∙◌, arith, if◌then◌else◌, Some, None, unsigned_abs, ◌==◌, nat_lt, length-set, get_or-set_same, get_or-set_other}
+use Rattle.stat_kernels.proofs.Common.{All, cases_eq, cases_lt, nat_tests, get_or_past, length-replicate, get_or-replicate, All-head, All-tail, sum_by-cons, count_by-le-length, length-map-range_with_len, get_or-map-range_with_len, fill_by_all, BinsValue, bin_of, bin_sums, is_bin, tallies, count_at, count_by}
+
+-- a count, and the number of counts
+pub tally_at : (b : BinsValue) (zs : List ℤ) (k : ℕ) → k < b.bins → get_or (tallies b zs) k 0 ≡ count_by (λ z. is_bin k (bin_of b (unsigned_abs z))) zs
+tally_at b zs k below = get_or-map-range_with_len (λ k. count_by (λ z. is_bin k (bin_of b (unsigned_abs z))) zs) 0 b.bins k k 0 below (omega arith)
+
+pub length-tallies : (b : BinsValue) (zs : List ℤ) → length (tallies b zs) ≡ b.bins
+length-tallies b zs = length-map-range_with_len (λ k. count_by (λ z. is_bin k (bin_of b (unsigned_abs z))) zs) 0 b.bins
 
 -- of these samples how many are below v and fall into bin k
 abbrev count_below : BinsValue → ℕ → List ℤ → ℕ → ℕ
@@ -12,24 +18,15 @@ none_below : (b : BinsValue) (zs : List ℤ) (k : ℕ) → count_below b 0 zs k 
 none_below b [] k = refl
 none_below b (z ∷ zs) k = grind (arith, nat_tests, sum_by-cons, none_below b zs k)
 
--- what one sample adds
-item_next : (q : ℕ → Bool) (v x : ℕ) → cond (nat_lt x (v + 1) && q x) 1 0 ≡ cond (nat_lt x v && q x) 1 0 + (if q v then cond (x == v) 1 0 else 0)
-item_next q v x = grind (arith, nat_tests, cases_eq x v, cases_lt x v)
-
 count_below-cons : (b : BinsValue) (v k : ℕ) (z : ℤ) (zs : List ℤ) → count_below b v (z ∷ zs) k ≡ cond (nat_lt (unsigned_abs z) v && is_bin k (bin_of b (unsigned_abs z))) 1 0 + count_below b v zs k
 count_below-cons b v k z zs = sum_by-cons (λ s. cond (nat_lt (unsigned_abs s) v && is_bin k (bin_of b (unsigned_abs s))) 1 0) z zs
-
-if_sum : (t : Bool) (m n : ℕ) → (if t then m + n else 0) ≡ (if t then m else 0) + (if t then n else 0)
-if_sum t m n = grind arith
 
 -- one more value adds its samples to its bin, if it has one, and to no other
 count_next : (b : BinsValue) (v k : ℕ) (zs : List ℤ) → count_below b (v + 1) zs k ≡ count_below b v zs k + (if is_bin k (bin_of b v) then count_at v zs else 0)
 count_next b v k [] = grind arith
 count_next b v k (z ∷ zs) =
-    let q = is_bin k (bin_of b v) in
-    let here = item_next (λ x. is_bin k (bin_of b x)) v (unsigned_abs z) in
-    let counts = ap (λ n. let m : ℕ = if q then n else 0 in m) (sum_by-cons (λ s. cond (unsigned_abs s == v) 1 0) z zs) in
-    omega (arith, here, count_below-cons b (v + 1) k z zs, count_below-cons b v k z zs, counts, if_sum q (cond (unsigned_abs z == v) 1 0) (count_at v zs), count_next b v k zs)
+    let here = sum_by-cons (λ s. cond (unsigned_abs s == v) 1 0) z zs in
+    grind (arith, nat_tests, cases_eq (unsigned_abs z) v, cases_lt (unsigned_abs z) v, count_below-cons b (v + 1) k z zs, count_below-cons b v k z zs, here, count_next b v k zs)
 
 -- to the counts `before`, the samples below v are added
 pub record AreCounted (b : BinsValue) (zs : List ℤ) (before : List ℕ) (v : ℕ) (now : List ℕ) : Type 0 where
@@ -70,26 +67,8 @@ all_below b k (z ∷ zs) small =
 
 pub counted_all : (b : BinsValue) (zs : List ℤ) (before now : List ℕ) → length before ≡ b.bins → All (λ z. unsigned_abs z < 256) zs → AreCounted b zs before 256 now → now ≡ bin_sums before (tallies b zs)
 counted_all b zs before now size small are =
-    let count = λ (k : ℕ). count_by (λ z. is_bin k (bin_of b (unsigned_abs z))) zs in
     fill_by_all (λ k. get_or before k 0 + get_or (tallies b zs) k 0) now (length before) 0 are.size
-    (λ k below. grind (arith, nat_tests, are.each k, all_below b k zs small, get_or-map-range_with_len count 0 b.bins k k 0 (omega (arith, below, size)) (omega arith)))
+    (λ k below. grind (arith, nat_tests, are.each k, all_below b k zs small, tally_at b zs k (omega (arith, below, size))))
 
 pub zero_at : (n v : ℕ) → get_or (replicate {A = ℕ} n 0) v 0 ≡ 0
 zero_at n v = grind (arith, cases_lt v n, get_or-replicate {A = ℕ} n v 0 0, get_or_past (replicate {A = ℕ} n 0) v 0, length-replicate {A = ℕ} n 0)
-
--- counts that are added to none
-pub added_to_none : (b : BinsValue) (zs : List ℤ) (n : ℕ) → n ≡ b.bins → bin_sums (replicate n 0) (tallies b zs) ≡ tallies b zs
-added_to_none b zs n size =
-    let long = length-map-range_with_len (λ k. count_by (λ z. is_bin k (bin_of b (unsigned_abs z))) zs) 0 b.bins in
-    sym (fill_by_all (λ k. get_or (replicate {A = ℕ} n 0) k 0 + get_or (tallies b zs) k 0) (tallies b zs) (length (replicate {A = ℕ} n 0)) 0 (long ∙ sym (length-replicate n 0 ∙ size))
-    (λ k below. omega (arith, zero_at n k)))
-
--- ---- four tables
-
--- nothing is counted yet
-pub zeros_counted : (v : ℕ) → count_in_all (replicate 256 0) (replicate 256 0) (replicate 256 0) (replicate 256 0) v ≡ 0
-zeros_counted v = omega (arith, zero_at 256 v)
-
--- the samples of the rows above, and those of one more
-pub row_counted : (v : ℕ) (zs ws : List ℤ) (old new : ℕ) → old ≡ count_at v zs → new ≡ old + count_at v ws → new ≡ count_at v (zs ++ ws)
-row_counted v zs ws old new before here = omega (arith, before, here, sum_by-append (λ z. cond (unsigned_abs z == v) 1 0) zs ws)

@@ -1,9 +1,9 @@
 -- Extremes with their first pixels.
-use Rattle.std.specs.Prelude.{ℕ, ℤ, ◌+◌, ◌==◌, Bool, List, length, map, if◌then◌else◌, int_lt}
+use Rattle.std.specs.Prelude.{ℕ, ℤ, ◌+◌, ◌==◌, Bool, List, map, if◌then◌else◌, int_lt}
 use Rattle.std.specs.Ordering.{int_eq}
 use Rattle.std.specs.Int.{int_min, int_max}
 use Rattle.vx_base.specs.declared.extremes.Extremes.{Extremes}
-use Rattle.vx_base.specs.Statistics.{best_of, count_of, first_of, row_pixels}
+use Rattle.vx_base.specs.Statistics.{best_of, count_of, first_of}
 use Rattle.stat_kernels.specs.declared.extreme.Extreme.{Extreme}
 use Rattle.stat_kernels.specs.declared.extreme.Found.{Found}
 
@@ -13,10 +13,6 @@ abbrev pub extreme_among : (ℤ → ℤ → ℤ) → (ℕ → ℕ → ℤ) → L
 extreme_among choose f ps =
     let zs = map (λ p. f p.0 p.1) ps in
     record { value = best_of choose zs; count = count_of (best_of choose zs) zs; at = first_of f (best_of choose zs) ps }
-
--- the extreme z of the samples of row y from column x on
-abbrev pub row_extreme : (ℕ → ℕ → ℤ) → ℤ → List ℤ → ℕ → ℕ → Extreme
-row_extreme f z zs x y = record { value = z; count = count_of z zs; at = first_of f z (row_pixels x (length zs) y) }
 
 -- the least and the greatest value of f at some pixels
 abbrev pub found_in : (ℕ → ℕ → ℤ) → List (ℕ × ℕ) → Found

@@ -1,26 +1,8 @@
--- The valid rectangle of an image as columns and rows.
-use Rattle.std.specs.Prelude.{ℕ, ◌≡◌, ◌+◌, ◌-◌, ◌<◌, ◌≤◌, ◌^◌, min, max, Bool, ◌&&◌, nat_le, nat_lt}
-use Rattle.vx_base.specs.Image.{ImageValue}
+-- The valid samples of a band and of a row.
+use Rattle.std.specs.Prelude.{ℕ, ℤ, ◌+◌, ◌-◌, min, max, ◌&&◌, nat_le, nat_lt, if◌then◌else◌, List}
+use Rattle.vx_base.specs.Image.{ImageValue, pixel_at, run}
 use Rattle.vx_base.specs.Rectangle.{Rectangle}
 use Rattle.image_core.specs.declared.band.Band.{Band}
-use Rattle.stat_kernels.specs.declared.part.Part.{Part}
-
--- the part has the columns and rows of the image's valid rectangle
-pub record IsValidPart (image : ImageValue) (part : Part) : Type 0 where
-  pub x : part.x ≡ image.valid.x0
-  pub count : part.count ≡ image.valid.x1 - image.valid.x0
-  pub top : part.top ≡ image.valid.y0
-  pub bottom : part.bottom ≡ image.valid.y1
-  pub columns : image.valid.x0 ≤ image.valid.x1
-  pub ordered : part.top ≤ part.bottom
-  pub in_columns : part.x + part.count ≤ image.width
-  pub in_rows : part.bottom ≤ image.height
-  pub columns_fit : part.x + part.count < 2 ^ 16
-  pub rows_fit : part.bottom < 2 ^ 16
-
--- whether the part has pixels in row y
-abbrev pub part_has_row : Part → ℕ → Bool
-part_has_row part y = nat_lt 0 part.count && (nat_le part.top y && nat_lt y part.bottom)
 
 -- the part of a rectangle that lies in the rows of a band
 abbrev pub band_of : Band → Rectangle → Rectangle
@@ -31,3 +13,11 @@ band_of rows r =
 -- the image with its valid rectangle cut to a band
 abbrev pub valid_in : Band → ImageValue → ImageValue
 valid_in rows image = record image { valid = band_of rows image.valid }
+
+-- the number of pixels of a rectangle in row y
+abbrev pub columns_in : Rectangle → ℕ → ℕ
+columns_in r y = if nat_le r.y0 y && nat_lt y r.y1 then r.x1 - r.x0 else 0
+
+-- the valid samples of row y
+abbrev pub valid_run : ImageValue → ℕ → List ℤ
+valid_run image y = run image.valid.x0 (columns_in image.valid y) (λ x. pixel_at image x y)

@@ -44,6 +44,14 @@ sum_between image start x y = sum_by unsigned_abs (samples_in (record { x0 = ima
 abbrev pub sum_on : ImageValue → ℕ → (ℕ → ℕ) → ℕ → ℕ → ℤ
 sum_on image start above x y = pos (((if nat_le image.valid.y0 start then above x else 0) + sum_between image start (x + 1) (y + 1)) % 2 ^ 32)
 
+-- the sum of the valid samples of row y up to column x
+abbrev pub row_total : ImageValue → ℕ → ℕ → ℕ
+row_total image x y = sum_by unsigned_abs (run image.valid.x0 (x + 1 - image.valid.x0) (λ k. pixel_at image k y))
+
+-- a sample of row y of an integral image, from the sum in the row above
+abbrev pub next_sum : ImageValue → (ℕ → ℕ) → ℕ → ℕ → ℤ
+next_sum image above x y = pos ((above x + row_total image x y) % 2 ^ 32)
+
 -- the sums of a row, or 0 in each column if there is no row
 abbrev pub row_sums : Option (List ℕ) → ℕ → ℕ
 row_sums None x = 0

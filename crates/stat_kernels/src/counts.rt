@@ -8,13 +8,14 @@ ghost use Rattle.lane_rows.specs.Tallies.{count_at, count_in_all};
 ghost use Rattle.stat_kernels.specs.Counts.{bin_sums};
 ghost use Rattle.stat_kernels.specs.Part.{valid_in};
 
-use crate::part::Part;
+use crate::valid::valid_row;
 use image_core::{Band, Image};
 use lane_rows::tally_row;
 use vx_base::Bins;
 
 /// Counts the valid samples of a band of a U8 image by value. The count of a value is the sum of
 /// its entries in four tables.
+#[tactic(auto, using(crate::proofs::BandLaws::few_samples))]
 fn count_values(
     image: &Image<'_>,
     rows: Band,
@@ -31,10 +32,9 @@ fn count_values(
     ensures bytes { All (λ z. unsigned_abs z < 256) (valid_samples (valid_in rows image.now)) }
     ensures few { length (valid_samples (valid_in rows image.now)) < 2 ^ 32 }
 {
-    let _limits = image.desc().height();
-    let part = Part::of_rows(image, rows);
-    for y in part.top..part.bottom {
-        let row = image.part_of_row::<u8>(part.x, y, part.count);
+    let (_valid, _limits) = (image.valid(), image.desc().height());
+    for k in 0..rows.count {
+        let row = valid_row::<u8>(image, rows.start + k);
         tally_row(row, first, second, third, fourth);
     }
 }

@@ -1,7 +1,7 @@
 //! The least and the greatest of samples, with their first pixels.
-ghost use Rattle.std.specs.Prelude.{◌≡◌, ◌+◌, ◌<◌, ◌^◌, ◌++◌, [], ℕ, ℤ, Bool, List, map, length};
+ghost use Rattle.std.specs.Prelude.{◌≡◌, ◌+◌, ◌<◌, ◌^◌, ℕ, ℤ, map, length};
 ghost use Rattle.vx_base.specs.Image.{run};
-ghost use Rattle.vx_base.specs.Statistics.{row_pixels, count_of};
+ghost use Rattle.vx_base.specs.Statistics.{row_pixels, count_of, first_of};
 
 use lane_rows::{Compared, count_of, first_of, greatest_of, least_of};
 use vx_base::Extremes;
@@ -16,7 +16,7 @@ pub struct Extreme {
 }
 
 impl Extreme {
-    ghost use Rattle.stat_kernels.specs.Extreme.{merge, row_extreme, shift_down};
+    ghost use Rattle.stat_kernels.specs.Extreme.{merge};
 
     /// Merges a row of later pixels into this extreme. `sample` is the row's own extreme.
     /// `is_beyond` says whether `sample` is below the least sample so far, or above the greatest.
@@ -31,24 +31,23 @@ impl Extreme {
         requires among { 0 < count_of (T.value sample) (map T.value row.now) }
         requires columns { x + length row.now < 2 ^ 16 }
         requires room { self.count + length row.now < 2 ^ 32 }
-        ensures { (beyond : ℤ → ℤ → Bool) (f : ℕ → ℕ → ℤ) →
-            is_beyond ≡ beyond (T.value sample) self.value →
-            map T.value row.now ≡ run x (length row.now) (λ k. f k y) →
-            result ≡ merge beyond self
-            (row_extreme f (T.value sample) (map T.value row.now) x y) }
+        ensures { (f : ℕ → ℕ → ℤ) (n : ℕ) → map T.value row.now ≡ run x n (λ k. f k y) →
+            result ≡ merge (λ _ _. is_beyond) self (record {
+              value = T.value sample;
+              count = count_of (T.value sample) (map T.value row.now);
+              at = first_of f (T.value sample) (row_pixels x n y);
+            }) }
     {
-        let value = sample.short();
         if self.count == 0 || is_beyond {
             Extreme {
-                value,
+                value: sample.short(),
                 count: count_of(row, sample),
                 at: (x + first_of(row, sample) as u16, y),
             }
-        } else if value == self.value {
+        } else if sample.short().is(self.value) {
             Extreme {
-                value,
                 count: self.count + count_of(row, sample),
-                at: self.at,
+                ..self
             }
         } else {
             self
@@ -59,31 +58,19 @@ impl Extreme {
     /// below the least sample so far, or above the greatest.
     fn merge(self, is_beyond: bool, other: Extreme) -> Extreme
         requires { self.count + other.count < 2 ^ 32 }
-        ensures { (beyond : ℤ → ℤ → Bool) → is_beyond ≡ beyond other.value self.value →
-            result ≡ merge beyond self other }
+        ensures { result ≡ merge (λ _ _. is_beyond) self other }
     {
         if other.count == 0 {
             self
         } else if self.count == 0 || is_beyond {
             other
-        } else if other.value == self.value {
+        } else if other.value.is(self.value) {
             Extreme {
                 count: self.count + other.count,
                 ..self
             }
         } else {
             self
-        }
-    }
-
-    /// Returns the extreme with its pixel moved `down` rows lower.
-    fn shift_down(self, down: u16) -> Extreme
-        requires { self.at.1 + down < 2 ^ 16 }
-        ensures { result ≡ shift_down down self }
-    {
-        Extreme {
-            at: (self.at.0, self.at.1 + down),
-            ..self
         }
     }
 }
@@ -96,11 +83,12 @@ pub struct Found {
 }
 
 impl Found {
-    ghost use Rattle.stat_kernels.specs.Extreme.{found_in, found_of, merge_found, shift_found};
+    ghost use Rattle.vx_base.specs.Object.{no_extremes};
+    ghost use Rattle.stat_kernels.specs.Extreme.{found_in, found_of, merge_found};
 
     /// Returns the extremes of no samples.
     pub fn nowhere() -> Found
-        ensures { (f : ℕ → ℕ → ℤ) → result ≡ found_in f [] }
+        ensures { result ≡ found_of no_extremes }
     {
         let nowhere = Extreme {
             value: 0,
@@ -114,13 +102,13 @@ impl Found {
     }
 
     /// Merges a row of later pixels into these extremes.
+    #[tactic(auto, using(crate::proofs::MergeLaws::among))]
     pub fn include_row<T: Compared>(self, x: u16, y: u16, row: &[T]) -> Found
         requires columns { x + length row.now < 2 ^ 16 }
         requires least_room { self.least.count + length row.now < 2 ^ 32 }
         requires greatest_room { self.greatest.count + length row.now < 2 ^ 32 }
-        ensures { (f : ℕ → ℕ → ℤ) (before : List (ℕ × ℕ)) → self ≡ found_in f before →
-            map T.value row.now ≡ run x (length row.now) (λ k. f k y) →
-            result ≡ found_in f (before ++ row_pixels x (length row.now) y) }
+        ensures { (f : ℕ → ℕ → ℤ) (n : ℕ) → map T.value row.now ≡ run x n (λ k. f k y) →
+            result ≡ merge_found self (found_in f (row_pixels x n y)) }
     {
         if row.is_empty() {
             return self;
@@ -153,6 +141,7 @@ impl Found {
     }
 
     /// Merges the extremes of later pixels into these extremes.
+    #[tactic(auto, using(crate::proofs::MergeLaws::same_order))]
     pub fn merge(self, other: Found) -> Found
         requires least_room { self.least.count + other.least.count < 2 ^ 32 }
         requires greatest_room { self.greatest.count + other.greatest.count < 2 ^ 32 }
@@ -163,18 +152,6 @@ impl Found {
         Found {
             least: self.least.merge(is_below, other.least),
             greatest: self.greatest.merge(is_above, other.greatest),
-        }
-    }
-
-    /// Returns the extremes with their pixels moved `down` rows lower.
-    pub fn shift_down(self, down: u16) -> Found
-        requires least { self.least.at.1 + down < 2 ^ 16 }
-        requires greatest { self.greatest.at.1 + down < 2 ^ 16 }
-        ensures { result ≡ shift_found down self }
-    {
-        Found {
-            least: self.least.shift_down(down),
-            greatest: self.greatest.shift_down(down),
         }
     }
 }

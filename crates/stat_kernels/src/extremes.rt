@@ -1,65 +1,47 @@
 //! The least and the greatest sample.
-ghost use Rattle.std.specs.Prelude.{◌≡◌, ◌≢◌, ◌+◌, ◌<◌, ◌≤◌, ◌^◌, ◌++◌, ℕ, List};
+ghost use Rattle.std.specs.Prelude.{◌≡◌, ◌≢◌, ◌+◌, ◌<◌, ◌^◌};
 ghost use Rattle.vx_base.specs.declared.format.Format.TheVariants.{U32};
 ghost use Rattle.vx_base.specs.Image.{pixel_at};
-ghost use Rattle.vx_base.specs.Statistics.{rectangle_pixels, row_pixels, extremes};
+ghost use Rattle.vx_base.specs.Statistics.{row_pixels, extremes};
 ghost use Rattle.image_core.specs.Bands.{IsInRows};
-ghost use Rattle.stat_kernels.specs.Extreme.{added_extremes, extremes_of, found_in};
-ghost use Rattle.stat_kernels.specs.Part.{valid_in};
+ghost use Rattle.stat_kernels.specs.Extreme.{added_extremes, extremes_of, found_in, merge_found};
+ghost use Rattle.stat_kernels.specs.Extreme.{shift_found};
+ghost use Rattle.stat_kernels.specs.Part.{columns_in, valid_in};
 
 use crate::extreme::Found;
-use crate::part::Part;
+use crate::valid::valid_row;
 use image_core::{Band, Image};
 use vx_base::{Extremes, Format};
 
-/// Merges the samples of row `y` into the extremes of the rows above it.
-fn with_row(found: Found, image: &Image<'_>, part: Part, y: u16) -> Found
+/// Merges the valid samples of row `y` into the extremes of the rows above it. Their pixels are
+/// `down` rows lower.
+fn with_row(found: Found, image: &Image<'_>, y: u16, down: u16) -> Found
     requires format { image.now.format ≢ U32 }
     requires row { y < image.now.height }
-    requires columns { part.x + part.count ≤ image.now.width }
-    requires columns_fit { part.x + part.count < 2 ^ 16 }
-    requires least_room { found.least.count + part.count < 2 ^ 32 }
-    requires greatest_room { found.greatest.count + part.count < 2 ^ 32 }
-    ensures { (before : List (ℕ × ℕ)) → found ≡ found_in (pixel_at image.now) before →
-        result ≡ found_in (pixel_at image.now) (before ++ row_pixels part.x part.count y) }
+    requires down { down + image.now.height < 2 ^ 16 }
+    requires least_room { found.least.count + image.now.width < 2 ^ 32 }
+    requires greatest_room { found.greatest.count + image.now.width < 2 ^ 32 }
+    ensures { result ≡ merge_found found (shift_found down (found_in (pixel_at image.now)
+        (row_pixels image.now.valid.x0 (columns_in image.now.valid y) y))) }
 {
+    let (x, _limits) = (image.valid().x0(), image.desc().width());
     match image.desc().format() {
-        Format::U8 => {
-            let row = image.part_of_row::<u8>(part.x, y, part.count);
-            found.include_row(part.x, y, row)
-        }
-        Format::S16 => {
-            let row = image.part_of_row::<i16>(part.x, y, part.count);
-            found.include_row(part.x, y, row)
-        }
+        Format::U8 => found.include_row(x, y + down, valid_row::<u8>(image, y)),
+        Format::S16 => found.include_row(x, y + down, valid_row::<i16>(image, y)),
         Format::U32 => unreachable!(),
     }
 }
 
-/// Returns the extremes of a band's valid samples.
-fn found_in(image: &Image<'_>, rows: Band) -> Found
-    requires format { image.now.format ≢ U32 }
-    requires rows { IsInRows image.now.height rows }
-    ensures { result ≡ found_in (pixel_at image.now)
-        (rectangle_pixels (valid_in rows image.now).valid) }
-{
-    let _limits = image.desc().height();
-    let part = Part::of_rows(image, rows);
-    let mut found = Found::nowhere();
-    for y in part.top..part.bottom {
-        found = with_row(found, image, part, y);
-    }
-    found
-}
-
 /// Returns the least and the greatest valid sample of a U8 or S16 image (OpenVX 1.3, "Min, Max
 /// Location"). Each comes with the number of pixels that have it and the first of these pixels.
+#[tactic(auto, using(crate::proofs::BandLaws::few_extremes))]
 pub fn min_max(image: &Image<'_>) -> Extremes
     requires { image.now.format ≢ U32 }
     ensures { result ≡ extremes image.now }
 {
-    let _valid = image.valid();
-    extremes_of(found_in(image, Band::whole(image.desc())))
+    let (_valid, _limits) = (image.valid(), image.desc().height());
+    let nothing = extremes_of(Found::nowhere());
+    add_min_max(image, Band::whole(image.desc()), 0, nothing)
 }
 
 /// Merges the extremes of a band into the extremes of the rows above it. The band is `down` rows
@@ -74,8 +56,11 @@ pub fn add_min_max(image: &Image<'_>, rows: Band, down: u16, above: Extremes) ->
         < 2 ^ 32 }
     ensures { result ≡ added_extremes down above (extremes (valid_in rows image.now)) }
 {
-    let _valid = image.valid();
-    let found = found_in(image, rows).shift_down(down);
+    let (_valid, _limits) = (image.valid(), image.desc().height());
+    let mut found = Found::nowhere();
+    for k in 0..rows.count {
+        found = with_row(found, image, rows.start + k, down);
+    }
     extremes_of(Found::of(above).merge(found))
 }
 

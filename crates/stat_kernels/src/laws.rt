@@ -11,6 +11,7 @@ ghost use Rattle.stat_kernels.specs.Sums.{AreRowsOf};
 
 /// No valid sample of an image is beyond its extremes. If there are valid samples, the extremes are
 /// among them.
+#[tactic(auto, using(crate::proofs::ExtremeLaws::bounds))]
 pub fn extremes_bound()
     ensures least { (image : ImageValue) →
         All (λ z. (extremes image).min ≤ℤ z) (valid_samples image) }
@@ -33,6 +34,7 @@ pub fn histograms_of_bands()
 
 /// The merged extremes of two adjacent bands are the extremes of both bands together, including the
 /// counts and the first pixels.
+#[tactic(auto, using(crate::proofs::AlikeLaws::bands_joined))]
 pub fn extremes_of_bands()
     ensures { (image : ImageValue) (start first second : ℕ) →
         added_extremes 0

@@ -16,8 +16,8 @@ pub mod examples;
 mod extreme;
 mod extremes;
 pub mod laws;
-mod part;
 mod sums;
+mod valid;
 
 pub use counts::{add_histogram, histogram};
 pub use extremes::{add_min_max, min_max};

@@ -1,7 +1,7 @@
 //! Integral images.
-ghost use Rattle.std.specs.Prelude.{◌≡◌, ◌⊎◌, ◌+◌, ◌*◌, ◌<◌, ◌≤◌, ℕ, pos, map, take, drop};
-ghost use Rattle.std.specs.Prelude.{length, replicate, unwrap_or, IfSome};
-ghost use Rattle.std.specs.Option.{option_copied, option_map};
+ghost use Rattle.std.specs.Prelude.{◌≡◌, ◌⊎◌, ◌+◌, ◌*◌, ◌<◌, ◌≤◌, ℕ, pos, map, length, slice_index};
+ghost use Rattle.std.specs.Prelude.{IfSome};
+ghost use Rattle.std.specs.Option.{option_copied};
 ghost use Rattle.vx_base.specs.declared.desc.TheConstants.{GREATEST_SIDE};
 ghost use Rattle.vx_base.specs.declared.format.Format.TheVariants.{U8, U32};
 ghost use Rattle.vx_base.specs.Image.{ImageValue, band, run, zero_outside};
@@ -9,12 +9,10 @@ ghost use Rattle.vx_base.specs.Statistics.{sum_to, integral};
 ghost use Rattle.image_core.specs.Bands.{IsInRows};
 ghost use Rattle.image_core.specs.Fits.{HaveSameSize};
 ghost use Rattle.image_core.specs.Target.{target_image, IsTarget, Writes};
-ghost use Rattle.lane_rows.specs.Running.{sums_below};
-ghost use Rattle.stat_kernels.specs.Part.{IsValidPart};
-ghost use Rattle.stat_kernels.specs.Sums.{AreRowsOf, IsRowAbove, last_row, row_sums, sum_on};
-ghost use Rattle.stat_kernels.specs.Sums.{sums_row};
+ghost use Rattle.stat_kernels.specs.Sums.{AreRowsOf, IsRowAbove, last_row, next_sum, row_sums};
+ghost use Rattle.stat_kernels.specs.Sums.{sum_on, sums_row};
 
-use crate::part::Part;
+use crate::valid::valid_row;
 use image_core::{Band, Image, ImageMut, Whole};
 use lane_rows::running_sums;
 use vx_base::{GREATEST_SIDE, Rect};
@@ -24,67 +22,35 @@ const LONGEST_ROW: usize = GREATEST_SIDE as usize;
 /// The row above the first row of an image: all zeros.
 static ZEROS: [u32; LONGEST_ROW] = [0; LONGEST_ROW];
 
-/// Writes part of a row of an integral image, from column `x` on: the running sums of `row` plus
-/// the sums in the row above. Without a row above, the sums above are 0.
-fn write_part_of_row(row: &[u8], above: Option<&[u32]>, x: usize, out: &mut [u32])
-    requires above_len { IfSome above (λ sums. x + length row.now ≤ length sums.now) }
-    requires out_len { length out.old ≡ length row.now }
-    requires room { length row.now ≤ GREATEST_SIDE }
-    ensures { out.new ≡ sums_below
-        (unwrap_or (option_map (λ sums. take (length row.now) (drop x sums))
-        (option_copied above.entry)) (replicate (length row.now) 0)) row.now }
+/// Returns the sums in the row above, which are zeros at the top of an image.
+fn sums_above<'a>(above: Option<&'a [u32]>, width: usize) -> &'a [u32]
+    requires above_len { IfSome above (λ row. length row.now ≡ width) }
+    requires room { width ≤ GREATEST_SIDE }
+    ensures sums { (x : ℕ) → slice_index result.now x ≡ row_sums (option_copied above.entry) x }
+    ensures len { length result.now ≡ width }
 {
     match above {
-        Some(above) => running_sums(row, &above[x..x + row.len()], out),
-        None => running_sums(row, &ZEROS[..row.len()], out),
+        Some(above) => above,
+        None => &ZEROS[..width],
     }
 }
 
-/// Writes row `y` of the integral image as `write_integral_row` does, for a row that has valid
-/// pixels.
-fn write_row_across_part(
-    image: &Image<'_>,
-    part: Part,
-    y: u16,
-    above: Option<&[u32]>,
-    out: &mut [u32],
-)
+/// Writes row `y` of an integral image from the row above it.
+fn write_integral_row(image: &Image<'_>, y: u16, above: &[u32], out: &mut [u32])
     requires format { image.now.format ≡ U8 }
-    requires part { IsValidPart image.now part }
-    requires some { 1 ≤ part.count }
-    requires rows { (part.top ≤ y) × (y < part.bottom) }
-    requires above_len { IfSome above (λ row. length row.now ≡ image.now.width) }
+    requires row { y < image.now.height }
+    requires above_len { length above.now ≡ image.now.width }
     requires out_len { length out.old ≡ image.now.width }
     ensures { map pos out.new ≡ run 0 image.now.width
-        (λ x. zero_outside image.now.valid
-        (sum_on image.now y (row_sums (option_copied above.entry))) x y) }
+        (λ x. zero_outside image.now.valid (next_sum image.now (slice_index above.now)) x y) }
 {
-    let _limits = image.desc().width();
-    let x = usize::from(part.x);
+    let row = valid_row::<u8>(image, y);
+    let x = usize::from(image.valid().x0());
     let (left, others) = out.split_at_mut(x);
-    let (middle, right) = others.split_at_mut(part.count);
+    let (middle, right) = others.split_at_mut(row.len());
     left.fill(0);
-    let row = image.part_of_row::<u8>(part.x, y, part.count);
-    write_part_of_row(row, above, x, middle);
+    running_sums(row, &above[x..x + row.len()], middle);
     right.fill(0);
-}
-
-/// Writes a row of an integral image from the row above it, which is `None` for the first row of an
-/// image.
-fn write_integral_row(image: &Image<'_>, part: Part, y: u16, above: Option<&[u32]>, out: &mut [u32])
-    requires format { image.now.format ≡ U8 }
-    requires part { IsValidPart image.now part }
-    requires above_len { IfSome above (λ row. length row.now ≡ image.now.width) }
-    requires out_len { length out.old ≡ image.now.width }
-    ensures { map pos out.new ≡ run 0 image.now.width
-        (λ x. zero_outside image.now.valid
-        (sum_on image.now y (row_sums (option_copied above.entry))) x y) }
-{
-    if part.has_row(y) {
-        write_row_across_part(image, part, y, above, out);
-    } else {
-        out.fill(0);
-    }
 }
 
 /// Returns the last row of `width` sums in `before`, or `None` if `before` is empty.
@@ -115,11 +81,10 @@ pub fn integral_on(image: &Image<'_>, rows: Band, above: Option<&[u32]>, samples
         ≡ band image.now.width line rows.count (zero_outside whole.valid (sum_to whole)) }
 {
     let width = usize::from(image.desc().width());
-    let part = Part::of(image);
     for k in 0..rows.count {
         let (before, others) = samples.split_at_mut(usize::from(k) * width);
-        let above = row_above(before, width).or(above);
-        write_integral_row(image, part, rows.start + k, above, &mut others[..width]);
+        let above = sums_above(row_above(before, width).or(above), width);
+        write_integral_row(image, rows.start + k, above, &mut others[..width]);
     }
 }
 
@@ -191,6 +156,7 @@ impl Whole for Sums<'_, '_> {
 
 /// Writes the integral image of a U8 image (OpenVX 1.3, "Integral Image") to a U32 image of its
 /// size; sums are modulo 2^32.
+#[tactic(auto, using(image_core::proofs::SizeLaws::same_sides))]
 pub fn integral(image: &Image<'_>, output: &mut ImageMut<'_>)
     requires format { image.now.format ≡ U8 }
     requires target { IsTarget output.old }

@@ -1,11 +1,11 @@
 use Rattle.std.proofs.Common.{◌≡◌, ◌∙◌, ◌+◌, sym, ap, subst, get_or, arith}
 use Rattle.stat_kernels.proofs.Common.{valid_samples, valid_in}
-use Rattle.stat_kernels.proofs.TallyLaws.{AreCounted, counted_all, counted_few, counted_none, counted_other, counted_some, zeros_counted}
+use Rattle.stat_kernels.proofs.TallyLaws.{AreCounted, counted_all, counted_few, counted_none, counted_other, counted_some, zero_at}
 use Rattle.stat_kernels.proofs.counts.add_histogram.Goals as goal
 use Rattle.stat_kernels.proofs.counts.add_histogram.Goals.{in-Some, in_default}
 
 pub count_values-requires-clause-zeros : goal.count_values-requires-clause-zeros
-count_values-requires-clause-zeros c v = zeros_counted v
+count_values-requires-clause-zeros c v = omega (arith, zero_at 256 v)
 
 pub loop-value-init : goal.loop-value-init
 loop-value-init c = counted_none c.args.bins (valid_samples (valid_in c.args.rows c.args.image.now)) c.args.counts.now

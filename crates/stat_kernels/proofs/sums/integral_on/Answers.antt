@@ -1,7 +1,7 @@
-use Rattle.std.proofs.Common.{take_all, ℕ, List, Option, ◌≡◌, ◌+◌, ◌*◌, ◌≤◌, ◌∙◌, pos, length, map, take, drop, ap, sym, arith, option_copied, length-take-le}
-use Rattle.stat_kernels.proofs.Common.{Description, band, run, zero_outside, row_fits}
-use Rattle.stat_kernels.proofs.SumLaws.{last_is, next_follows, rows_written}
-use Rattle.stat_kernels.specs.Sums.{row_sums, sum_on}
+use Rattle.std.proofs.Common.{take_all, ◌≡◌, ◌+◌, ◌*◌, ◌≤◌, ◌∙◌, pos, length, map, take, drop, ap, sym, arith, option_copied, length-take-le}
+use Rattle.stat_kernels.proofs.Common.{Description, band, run, zero_outside, row_fits, row_sums, sum_on}
+use Rattle.stat_kernels.proofs.SumLaws.{copied_or, next_follows, rows_written}
+use Rattle.std.specs.Option.{option_or}
 use Rattle.stat_kernels.proofs.ScanLaws.{band_scans}
 use Rattle.stat_kernels.proofs.sums.integral_on.Goals as goal
 
@@ -19,13 +19,12 @@ loop-k-preserved c =
     let start : length before ≡ k * width = c.split_at_mut-before.ensures.front_len ∙ at in
     let room : width ≤ length others = omega (arith, row_fits width rows.count k c.loop-k-test.true, c.split_at_mut-before.ensures.back_len, at, size) in
     let long : length c.write_integral_row.new.out ≡ width = c.write_integral_row.auto.out ∙ length-take-le width others room in
-    let last = ap option_copied c.or-above.ensures ∙ last_is width before c.row_above.result c.args.above c.row_above.ensures in
+    let last = ap option_copied c.or.ensures ∙ copied_or c.row_above.result c.args.above ∙ ap (λ o. option_or o (option_copied c.args.above)) c.row_above.ensures in
     let f = zero_outside image.valid (sum_on image rows.start (row_sums (option_copied c.args.above))) in
     let so_far = ap (map pos) (c.split_at_mut-before.ensures.front ∙ ap (λ n. take n c.loop-k.samples) at) ∙ c.loop-k.invariant in
     rows_written k width before c.write_integral_row.new.out (drop width others) start long rows.start f so_far
     (c.write_integral_row.ensures
-    ∙ ap (λ (o : Option (List ℕ)). run 0 image.width (λ x. zero_outside image.valid (sum_on image (rows.start + k) (row_sums o)) x (rows.start + k))) last
-    ∙ next_follows image rows.start width before (option_copied c.args.above) (omega (arith, c.width.ensures.limits, c.from-width.ensures)) wide k so_far start
+    ∙ next_follows image rows.start width before (option_copied c.args.above) (omega (arith, c.width.ensures.limits, c.from-width.ensures)) wide k _ so_far start (λ x. c.sums_above-above.ensures.sums x ∙ ap (λ o. row_sums o x) last)
     ∙ ap (λ n. run 0 n (λ x. f x (rows.start + k))) (sym wide))
 
 pub returns-clause-whole : goal.returns-clause-whole

@@ -1,6 +1,5 @@
 use Rattle.std.proofs.Common.{◌≡◌, ◌*◌, pos, map, take, option_copied}
-use Rattle.stat_kernels.proofs.Common.{band, zero_outside}
-use Rattle.stat_kernels.specs.Sums.{row_sums, sum_on}
+use Rattle.stat_kernels.proofs.Common.{band, zero_outside, row_sums, sum_on}
 use Rattle.stat_kernels.proofs.sums.integral_on.Given as goal
 
 abbrev pub invariant-loop-k : goal.invariant-loop-k
