@@ -1,5 +1,5 @@
 //! The blocks of one format.
-ghost use Rattle.std.specs.Prelude.{◌≡◌, ℕ, ◌+◌, ◌≤◌, ◌<◌, [], length, replicate, IfOk, OnErr};
+ghost use Rattle.std.specs.Prelude.{◌≡◌, ℕ, ◌+◌, ◌/◌, ◌≤◌, ◌<◌, [], length, replicate, IfOk, OnErr};
 ghost use Rattle.std.specs.Prelude.{OnOk};
 ghost use Rattle.std.specs.Prelude.{IsOk, IsTrue, ◌↔◌, IfSome, IfNone, vec_capacity, slice_index};
 ghost use Rattle.pixel_pool.specs.Classes.{class_count, class_capacity, FitsIn};
@@ -255,6 +255,8 @@ fn resized<T: Copy + Drop>(mut samples: Vec<T>, zero: T, count: usize) -> Vec<T>
 
 /// Checks whether a capacity is above `SMALL_CAPACITY` and more than twice the requested number of
 /// samples.
-fn is_far_too_large(capacity: usize, count: usize) -> bool {
+fn is_far_too_large(capacity: usize, count: usize) -> bool
+    ensures { IsTrue result ↔ (SMALL_CAPACITY < capacity) × (count < capacity / 2) }
+{
     capacity > SMALL_CAPACITY && capacity / 2 > count
 }
