@@ -6,6 +6,7 @@
 //! number for 64 positions in parallel, and a bit mask of the positions where a number does begin.
 //! Going through the bits of the mask gives the numbers in order.
 ghost use Rattle.std.specs.Prelude.{◌≡◌, ◌≤◌, ◌<◌, ℕ, List, Option, Bool, true, length, drop};
+ghost use Rattle.std.specs.Prelude.{replicate};
 ghost use Rattle.pgm_images.specs.Marks.{FindNumbers, AreBegins, IsBlock};
 ghost use Rattle.pgm_images.specs.Raster.{PlainUpTo};
 
@@ -26,7 +27,9 @@ pub struct ShortNumbers {
 
 impl ShortNumbers {
     /// Returns a block in which no number begins.
-    pub fn new() -> ShortNumbers {
+    pub fn new() -> ShortNumbers
+        ensures { result.bytes ≡ replicate 64 0 }
+    {
         ShortNumbers {
             numbers: [0; PLACES],
             bytes: [0; PLACES],

@@ -1,5 +1,6 @@
 -- Lemmas on size classes.
-use Rattle.std.proofs.Common.{◌≡◌, ℕ, zero, suc, ◌+◌, ◌-◌, ◌*◌, ◌/◌, ◌^◌, ◌<◌, ◌≤◌, ◌⊎◌, min, inl, inr, refl, add-zero, add-one, add-suc, arith}
+use Rattle.std.proofs.Common.{◌≡◌, ℕ, zero, suc, ◌+◌, ◌-◌, ◌*◌, ◌/◌, ◌^◌, ◌<◌, ◌≤◌, min, inl, inr, refl, add-zero, add-one, add-suc, arith}
+use Rattle.std.proofs.lemmas.Bool.{cases_lt}
 use Rattle.std.proofs.Math.Nat.{pow-le-pow_right}
 use Rattle.pixel_pool.specs.Classes.{class_step, class_capacity, class_count, FitsIn}
 
@@ -45,15 +46,10 @@ pub largest_capacity : class_capacity 192 ≡ 67108864
 unfolding class_capacity
 largest_capacity = refl
 
-less_or : (a b : ℕ) → (a ≤ b) ⊎ (b ≤ a)
-less_or zero b = inl (omega arith)
-less_or (suc a) zero = inr (omega arith)
-less_or (suc a) (suc b) = elim (less_or a b) [ inl p ↦ inl (omega arith) | inr p ↦ inr (omega arith) ]
-
 -- samples that fit in two capacities fit in any that isn't below the lesser of them
 pub fits_least : (count one other capacity : ℕ) → FitsIn count one → FitsIn count other → min one other ≤ capacity → FitsIn count capacity
 fits_least count one other capacity fits fits_other least small =
-    elim (less_or one other) [
+    elim (cases_lt one other) [
       | inl p ↦ let x = fits small in (x.0, x.1, x.2, omega (arith, x.3, p, least))
       | inr p ↦ let x = fits_other small in (x.0, x.1, x.2, omega (arith, x.3, p, least))
     ]

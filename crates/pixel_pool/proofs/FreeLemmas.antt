@@ -1,5 +1,6 @@
 -- Lemmas on how many blocks of each class are free.
-use Rattle.std.proofs.Common.{◌≡◌, ◌≢◌, ℕ, zero, suc, ◌+◌, ◌*◌, ◌^◌, ◌<◌, ◌≤◌, ◌⊎◌, List, [], ◌∷◌, length, Option, Some, None, IfNone, get_or, set, refl, sym, ap, ◌∙◌, add-one, inl, inr, arith}
+use Rattle.std.proofs.Common.{◌≡◌, ℕ, zero, suc, ◌+◌, ◌*◌, ◌^◌, ◌<◌, ◌≤◌, List, [], ◌∷◌, length, Option, Some, None, IfNone, get_or, set, refl, sym, ◌∙◌, add-one, inl, inr, arith}
+use Rattle.std.proofs.lemmas.Bool.{cases_lt, cases_eq}
 use Rattle.std.proofs.lemmas.List.{length-map, map-set, get_or_past, get_or-set_same, get_or-set_other}
 use Rattle.std.proofs.Math.Nat.{mul-le-mul}
 use Rattle.std.proofs.Math.ListN.{get_or-map}
@@ -9,13 +10,6 @@ use Rattle.pixel_pool.specs.Free.{free_count, HasCapacity, GetsFree, IsTrim, cap
 use Rattle.pixel_pool.proofs.ClassLemmas.{capacity_mono, capacity_small, capacity_steps}
 use Rattle.pixel_pool.specs.Shelf.{lengths, no_stack, stack_at}
 use Rattle.pixel_pool.specs.declared.stacks.Stack.{Stack}
-
--- two keys or classes are one, or not
-pub same_or_not : (a b : ℕ) → (a ≡ b) ⊎ (a ≢ b)
-same_or_not zero zero = inl refl
-same_or_not zero (suc b) = inr (λ e. absurd (omega arith))
-same_or_not (suc a) zero = inr (λ e. absurd (omega arith))
-same_or_not (suc a) (suc b) = elim (same_or_not a b) [ inl e ↦ inl (ap (λ n. suc n) e) | inr d ↦ inr (λ e. d (omega arith)) ]
 
 -- the length of the stack of a class
 pub length_at : (stacks : List Stack) (class : ℕ) → get_or (lengths stacks) class 0 ≡ (stack_at stacks class).len
@@ -47,15 +41,10 @@ below_more free class = rw add-one refl
 -- the lengths of stacks, for loops over their classes
 pub ruleset stack_steps = (none_free, free_within, length_at, capacity_steps)
 
-below_or : (free : List ℕ) (class : ℕ) → (class < length free) ⊎ (length free ≤ class)
-below_or [] class = inr (omega arith)
-below_or (n ∷ free) zero = inl (omega arith)
-below_or (n ∷ free) (suc class) = elim (below_or free class) [ inl p ↦ inl (omega arith) | inr p ↦ inr (omega arith) ]
-
 -- of a class no more blocks are free than of all
 pub class_within : (free : List ℕ) (class : ℕ) → get_or free class 0 ≤ free_count free
 class_within free class =
-    elim (below_or free class) [
+    elim (cases_lt class (length free)) [
       | inl inside ↦ get_or-le-sum_by (λ n. n) free class 0 inside
       | inr past ↦ omega (arith, get_or_past free class 0 past)
     ]
@@ -94,7 +83,7 @@ pub capacity_set : (free : List ℕ) (class n top : ℕ) → class < length free
     → capacity_below (set free class n) top + get_or free class 0 * class_capacity class ≡ capacity_below free top + n * class_capacity class
 capacity_set free class n zero inside below = absurd (omega arith)
 capacity_set free class n (suc top) inside below =
-    elim (same_or_not top class) [
+    elim (cases_eq top class) [
       | inl same ↦
           let e : get_or (set free class n) class 0 ≡ n = get_or-set_same free class n 0 inside in
           let more : capacity_below (set free class n) (class + 1) ≡ capacity_below (set free class n) class + n * class_capacity class = rw e at (below_more (set free class n) class) in

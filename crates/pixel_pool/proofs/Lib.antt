@@ -1,3 +1,4 @@
 mod ClassLemmas
 mod FreeLemmas
 mod StackLemmas
+mod TrimLemmas

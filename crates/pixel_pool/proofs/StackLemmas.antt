@@ -1,11 +1,12 @@
 -- Stacks of free blocks: what is unchanged when a block is added or removed.
 use Rattle.std.proofs.Common.{◌≡◌, ◌≢◌, ℕ, zero, suc, ◌+◌, ◌-◌, ◌<◌, ◌≤◌, ◌⊎◌, List, length, get_or, set, replicate, length-set, [], ◌∷◌, Some, ◌*◌, None, IsSomeAnd, vec_capacity, refl, sym, ap, ◌∙◌, inl, inr, arith}
+use Rattle.std.proofs.lemmas.Bool.{cases_eq}
 use Rattle.std.proofs.lemmas.List.{length-map, length-replicate, get_or-set_same, get_or-set_other}
 use Rattle.std.proofs.lemmas.List.Sums.{sum_by-set, get_or-le-sum_by}
 use Rattle.std.proofs.lemmas.List.Folds.{sum_by-replicate}
 use Rattle.slab.specs.Slab.{Slab, get, slab_len, Updates}
 use Rattle.pixel_pool.specs.Classes.{class_capacity, class_count, IsClassOf}
-use Rattle.pixel_pool.proofs.FreeLemmas.{same_or_not, length_at, lengths_set, free_within, no_capacity, capacity_set}
+use Rattle.pixel_pool.proofs.FreeLemmas.{length_at, lengths_set, free_within, no_capacity, capacity_set}
 use Rattle.pixel_pool.specs.Free.{free_count, capacity_below, HasFree, without_one, GetsFree}
 use Rattle.pixel_pool.specs.Shelf.{ShelfValue, block_count, lengths, no_stack, stack_at, IsTopOf, IsStack, IsStacked, AreStacks}
 use Rattle.pixel_pool.specs.declared.shelf.Free.{Free}
@@ -76,7 +77,7 @@ module _ {T : Type 0} where
   -- a value found after one key was removed was there before
   pub kept_value : (old new : Slab (Free T)) (gone key : ℕ) (block : Free T) → Updates old new gone None → get new key ≡ Some block → get old key ≡ Some block
   kept_value old new gone key block u h =
-      elim (same_or_not key gone) [
+      elim (cases_eq key gone) [
         | inl same ↦ let e : get new key ≡ None = rw same u.changed in cc
         | inr other ↦ let e = u.others key other in cc
       ]
@@ -92,7 +93,7 @@ module _ {T : Type 0} where
       let key = (stack_at stacks class).top in
       let top : IsTopOf class (stack_at stacks class).len block = top_of old class (stack_at stacks class) block (are.tops class) some found in
       let is = are.each key block found in
-      elim (same_or_not c class) [
+      elim (cases_eq c class) [
         | inl same ↦
             let e : stack_at (set stacks class block.under) c ≡ block.under = rw same (get_or-set_same stacks class block.under no_stack inside) in
             let linked : IsStack old c block.under = rw (same, ← top.0) is.linked in
@@ -115,7 +116,7 @@ module _ {T : Type 0} where
       record {
         capacity = is.capacity;
         capacity_known = is.capacity_known;
-        within = elim (same_or_not b.class class) [
+        within = elim (cases_eq b.class class) [
           | inl same ↦
               let e : stack_at (set stacks class block.under) b.class ≡ block.under = rw same (get_or-set_same stacks class block.under no_stack inside) in
               let below : b.under.len < (stack_at stacks class).len = rw same at is.within in
@@ -149,7 +150,7 @@ module _ {T : Type 0} where
       → IsStack new c (stack_at (set stacks block.class (record { top = key; len = block.under.len + 1 })) c)
   pushed_tops stacks old new key block c are inside under vacant came =
       let on : Stack = record { top = key; len = block.under.len + 1 } in
-      elim (same_or_not c block.class) [
+      elim (cases_eq c block.class) [
         | inl same ↦
             let e : stack_at (set stacks block.class on) c ≡ on = rw same (get_or-set_same stacks block.class on no_stack inside) in
             rw e (λ p. rw came.changed (sym same, refl))
@@ -162,7 +163,7 @@ module _ {T : Type 0} where
   came_or_was : (old new : Slab (Free T)) (key : ℕ) (block : Free T) (k : ℕ) (b : Free T) → Updates old new key (Some block) → get new k ≡ Some b
       → ((k ≡ key) × (b ≡ block)) ⊎ (get old k ≡ Some b)
   came_or_was old new key block k b came h =
-      elim (same_or_not k key) [
+      elim (cases_eq k key) [
         | inl same ↦ let e : get new k ≡ Some block = rw same came.changed in inl (same, cc)
         | inr other ↦ let e = came.others k other in inr (cc)
       ]
@@ -186,7 +187,7 @@ module _ {T : Type 0} where
             record {
               capacity = is.capacity;
               capacity_known = is.capacity_known;
-              within = elim (same_or_not b.class block.class) [
+              within = elim (cases_eq b.class block.class) [
                 | inl same ↦
                     let below : b.under.len < (stack_at stacks block.class).len = rw same at is.within in
                     rw (same, here) (omega (arith, below, ap (λ (s : Stack). s.len) under))

@@ -55,3 +55,22 @@ pub record IsTrim (free : List ℕ) : Type 0 where
 -- no class has more free blocks than before
 abbrev pub IsFewer : List ℕ → List ℕ → Type 0
 IsFewer new old = (class : ℕ) → slice_index new class ≤ slice_index old class
+
+-- a free block of the greatest class that had any was dropped
+pub record DropsLargest (old new : List ℕ) : Type 0 where
+  pub class : ℕ
+  pub free : HasFree old class
+  pub greatest : (other : ℕ) → HasFree old other → other ≤ class
+  pub dropped : new ≡ without_one old class
+
+-- the class has fewer free blocks than before
+abbrev pub LosesBlocks : List ℕ → List ℕ → ℕ → Type 0
+LosesBlocks old new class = slice_index new class < slice_index old class
+
+-- a class loses blocks only if no greater class has any left
+abbrev pub LosesLargestFirst : List ℕ → List ℕ → Type 0
+LosesLargestFirst old new = (class other : ℕ) → LosesBlocks old new class → class < other → slice_index new other ≡ 0
+
+-- a class loses blocks only if one block more of the class would exceed the limits
+abbrev pub LosesNoMore : List ℕ → List ℕ → Type 0
+LosesNoMore old new = (class : ℕ) → LosesBlocks old new class → IsTrim (with_one new class) → ⊥

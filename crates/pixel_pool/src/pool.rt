@@ -4,7 +4,7 @@ ghost use Rattle.std.specs.Prelude.{IfOk, IsOk, OnErr, OnOk};
 ghost use Rattle.vx_base.specs.Picture.{values, samples_format};
 ghost use Rattle.pixel_pool.specs.Classes.{class_count, FitsIn};
 ghost use Rattle.pixel_pool.specs.Free.{HasCapacity, IsTrim, IsFewer, GetsFree};
-ghost use Rattle.pixel_pool.specs.Free.{free_count};
+ghost use Rattle.pixel_pool.specs.Free.{LosesLargestFirst, LosesNoMore, free_count};
 ghost use Rattle.pixel_pool.specs.Pool.{lent_of, free_of, blocks_of, capacity_of, HasLent, LendsBlock};
 ghost use Rattle.pixel_pool.specs.Pool.{GetsBack, KeepsLent, KeepsBlockCounts, KeepsOtherFree};
 
@@ -100,6 +100,10 @@ impl Pool {
             IsFewer (free_of self.new format) (free_of self.old format) }
         ensures kept { (format : Format) → IsTrim (free_of self.old format) →
             free_of self.new format ≡ free_of self.old format }
+        ensures largest { (format : Format) →
+            LosesLargestFirst (free_of self.old format) (free_of self.new format) }
+        ensures no_more { (format : Format) →
+            LosesNoMore (free_of self.old format) (free_of self.new format) }
     {
         self.u8s.trim();
         self.s16s.trim();

@@ -1,11 +1,11 @@
 //! The blocks of one format.
-ghost use Rattle.std.specs.Prelude.{◌≡◌, ℕ, ◌+◌, ◌≤◌, ◌<◌, [], length, replicate, IfOk, OnErr};
+ghost use Rattle.std.specs.Prelude.{◌≡◌, ℕ, ◌+◌, ◌/◌, ◌≤◌, ◌<◌, [], length, replicate, IfOk, OnErr};
 ghost use Rattle.std.specs.Prelude.{OnOk};
 ghost use Rattle.std.specs.Prelude.{IsOk, IsTrue, ◌↔◌, IfSome, IfNone, vec_capacity, slice_index};
 ghost use Rattle.pixel_pool.specs.Classes.{class_count, class_capacity, FitsIn};
 ghost use Rattle.pixel_pool.specs.Free.{HasFree, HasCapacity, LendsSmallest, IsTrim, IsFewer};
-ghost use Rattle.pixel_pool.specs.Free.{free_count};
-ghost use Rattle.pixel_pool.specs.Free.{without_one, GetsFree};
+ghost use Rattle.pixel_pool.specs.Free.{LosesLargestFirst, LosesNoMore, DropsLargest};
+ghost use Rattle.pixel_pool.specs.Free.{free_count, without_one, GetsFree};
 ghost use Rattle.pixel_pool.specs.Shelf.{block_count};
 
 use crate::classes::{CLASSES, capacity_for, class_of};
@@ -193,6 +193,8 @@ impl<T: Copy + Drop> Shelf<T> {
         ensures trim { IsTrim self.new.free }
         ensures fewer { IsFewer self.new.free self.old.free }
         ensures kept { IsTrim self.old.free → self.new ≡ self.old }
+        ensures largest { LosesLargestFirst self.old.free self.new.free }
+        ensures no_more { LosesNoMore self.old.free self.new.free }
     {
         while !self.is_trim() {
             self.drop_largest();
@@ -214,6 +216,8 @@ impl<T: Copy + Drop> Shelf<T> {
         ensures lent { self.new.lent ≡ self.old.lent }
         ensures count { free_count self.new.free + 1 ≡ free_count self.old.free }
         ensures fewer { IsFewer self.new.free self.old.free }
+        ensures classes { length self.old.free ≡ class_count }
+        ensures largest { DropsLargest self.old.free self.new.free }
     {
         match largest(&self.stacks) {
             Some(class) => {
@@ -251,6 +255,8 @@ fn resized<T: Copy + Drop>(mut samples: Vec<T>, zero: T, count: usize) -> Vec<T>
 
 /// Checks whether a capacity is above `SMALL_CAPACITY` and more than twice the requested number of
 /// samples.
-fn is_far_too_large(capacity: usize, count: usize) -> bool {
+fn is_far_too_large(capacity: usize, count: usize) -> bool
+    ensures { IsTrue result ↔ (SMALL_CAPACITY < capacity) × (count < capacity / 2) }
+{
     capacity > SMALL_CAPACITY && capacity / 2 > count
 }

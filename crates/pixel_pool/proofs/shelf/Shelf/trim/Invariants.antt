@@ -1,5 +1,5 @@
-use Rattle.std.proofs.Common.{◌≡◌}
-use Rattle.pixel_pool.specs.Free.{IsTrim, IsFewer, free_count}
+use Rattle.std.proofs.Common.{◌≡◌, length}
+use Rattle.pixel_pool.specs.Free.{IsTrim, IsFewer, LosesLargestFirst, LosesNoMore, free_count}
 use Rattle.pixel_pool.proofs.shelf.Shelf.trim.Given as goal
 
 abbrev pub invariant-loop-self : goal.invariant-loop-self
@@ -7,6 +7,9 @@ invariant-loop-self g l =
     record {
       lent : l.self.lent ≡ l.initial.self.lent;
       fewer : IsFewer l.self.free l.initial.self.free;
+      classes : length l.self.free ≡ length l.initial.self.free;
+      largest : LosesLargestFirst l.initial.self.free l.self.free;
+      no_more : LosesNoMore l.initial.self.free l.self.free;
       kept : IsTrim l.initial.self.free → l.self ≡ l.initial.self;
     }
 
