@@ -43,31 +43,6 @@ fn reduce(reduction: &Reduction, band: Band, planes: &[Plane], tallies: &mut [Ta
     tallies[reduction.tally].add(&input.image(), rows);
 }
 
-/// Runs a task on a band.
-fn do_task<T: Tables>(
-    tables: &T,
-    task: &Task,
-    halos: &[u16],
-    band: Band,
-    planes: &mut [Plane],
-    tallies: &mut [Tally],
-)
-    requires fits { band.start + band.count < 2 ^ 16 }
-    requires can { (high : ℕ) ×
-        CanDo (T.tables tables.now) high halos.now band task.now planes.old tallies.old }
-    ensures planes { planes.new
-        ≡ after_task (T.tables tables.now) halos.now band task.now planes.old }
-    ensures tallies { tallies.new ≡ tallies_after band task.now planes.old tallies.old }
-{
-    match task {
-        Task::Write(step) => {
-            let rows = rows_for(step, halos, band, planes);
-            run_step(tables, step, rows, planes);
-        }
-        Task::Reduce(reduction) => reduce(reduction, band, planes, tallies),
-    }
-}
-
 /// Runs all tasks on a band. Each step writes the rows of the band and of its output's halo. Each
 /// reduction adds the rows of the band to its tally.
 fn run_band<T: Tables>(
@@ -88,7 +63,13 @@ fn run_band<T: Tables>(
 {
     let mut rest = tasks;
     while let Some((task, later)) = rest.split_first() {
-        do_task(tables, task, halos, band, planes, tallies);
+        match task {
+            Task::Write(step) => {
+                let rows = rows_for(step, halos, band, planes);
+                run_step(tables, step, rows, planes);
+            }
+            Task::Reduce(reduction) => reduce(reduction, band, planes, tallies),
+        }
         rest = later;
     }
 }
