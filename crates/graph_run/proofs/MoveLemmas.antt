@@ -1,7 +1,7 @@
 -- A graph that runs by its schedule: what its images and tallies need on their way out of a table and back.
 use Rattle.std.proofs.Common.{◌≡◌, ℕ, ◌<◌, ◌≤◌, List, ◌++◌, length, map, drop, get_or, Option, sym, ap, subst, ◌∙◌, arith, length-append}
 use Rattle.std.proofs.lemmas.List.{get_or-map, length-map}
-use Rattle.graph_run.proofs.Common.{Node, Reference, ObjectValue, NamedObject, with_written, VirtualOutput, Verified, place_of, planned_capacities, Samples, samples_format, resolved_operand, operand_held, run_of_graph, Format, U8}
+use Rattle.graph_run.proofs.Common.{Reference, ObjectValue, NamedObject, with_written, VirtualOutput, Verified, place_of, planned_capacities, Samples, samples_format, resolved_operand, operand_held, run_of_graph, Format, U8}
 use Rattle.graph_steps.specs.declared.step.Task.{Task}
 use Rattle.graph_steps.specs.declared.tally.Tally.{Tally}
 use Rattle.graph_steps.specs.Planes.{PlaneValue, no_plane, plane}
@@ -79,19 +79,19 @@ module _ {objects : List NamedObject} {v : Verified} {s : Schedule} (g : CanRunB
       all_planes = t.all ∙ ap (λ (l : List Reference). t.virtuals ++ image_planes objects l) same_clients
 
       pub lends : LendTables bare v.steps
-      lends = subst (λ (o : List NamedObject). LendTables o v.steps) (sym bare_is) (tables_lent objects g.nodes v g.ready g.names g.slots g.plan)
+      lends = subst (λ (o : List NamedObject). LendTables o v.steps) (sym bare_is) (tables_lent g)
 
       own_tables : tables_of bare v.steps ≡ tables_of objects v.steps
-      own_tables = ap (λ (o : List NamedObject). tables_of o v.steps) bare_is ∙ tables_same objects g.nodes v g.ready g.names g.slots g.plan
+      own_tables = ap (λ (o : List NamedObject). tables_of o v.steps) bare_is ∙ tables_same g
 
       pub runs : IsProgram (tables_of bare v.steps) s.high s.size s.halos.items s.tasks.items planes
       runs =
           subst (λ (t : ℕ → Option ObjectValue). IsProgram t s.high s.size s.halos.items s.tasks.items planes) (sym own_tables)
           (subst (IsProgram (tables_of objects v.steps) s.high s.size s.halos.items s.tasks.items) (sym all_planes)
-          (scheduled objects g.nodes v g.slots s t.virtuals blocks g.are g.ready g.plan g.schedule t.descs t.first planned))
+          (scheduled g planned t))
 
       pub reduces : CanReduceBand 0 s.tasks.items planes (tallies_of objects v.steps)
-      reduces = subst (λ (l : List PlaneValue). CanReduceBand 0 s.tasks.items l (tallies_of objects v.steps)) (sym all_planes) (scheduled_reduces objects g.nodes v g.slots s t.virtuals g.are g.ready g.plan g.schedule t.descs)
+      reduces = subst (λ (l : List PlaneValue). CanReduceBand 0 s.tasks.items l (tallies_of objects v.steps)) (sym all_planes) (scheduled_reduces g t)
 
       virtual_count : length t.virtuals ≡ count
       virtual_count = omega (arith, length-map t.virtuals (λ (q : PlaneValue). q.desc), ap length t.descs, length-map v.virtual_outputs (λ (o : VirtualOutput). o.desc))
@@ -122,13 +122,13 @@ module _ {objects : List NamedObject} {v : Verified} {s : Schedule} (g : CanRunB
         images_back =
             subst (λ (o : List NamedObject). HoldImages o clients) (sym bare_is)
             (subst (HoldImages (with_written objects (bare_images objects (client_cells v.steps v.virtual_outputs)))) (sym same_clients)
-            (back_images objects g.nodes v g.ready g.names g.are g.described g.slots g.plan (radius_of objects s.high) t.virtuals t.descs after counted all_leaves))
+            (back_images g t all_leaves))
 
         planes_back : AreFor bare clients back
         planes_back =
             subst (λ (o : List NamedObject). AreFor o clients back) (sym bare_is)
             (subst (λ (l : List Reference). AreFor (with_written objects (bare_images objects (client_cells v.steps v.virtual_outputs))) l back) (sym same_clients)
-            (back_for objects g.nodes v g.ready g.names g.are g.described g.slots g.plan (radius_of objects s.high) t.virtuals t.descs after counted all_leaves))
+            (back_for g t all_leaves))
 
         -- the objects once images are back
         abbrev came : List NamedObject
@@ -143,7 +143,7 @@ module _ {objects : List NamedObject} {v : Verified} {s : Schedule} (g : CanRunB
         tallies_back =
             subst (λ (o : List NamedObject). AreTalliesFor o s.tally_cells.items counted) (sym came_is)
             (subst (λ (l : List Reference). AreTalliesFor came l counted) (sym g.schedule.tally_cells)
-            (back_tallies objects g.nodes v g.ready g.names g.are g.described g.slots g.plan (radius_of objects s.high) t.virtuals t.descs after counted all_leaves))
+            (back_tallies g t all_leaves))
 
         pub can_return : capacities after ≡ capacities planes → (now : List Samples) → map samples_format now ≡ map samples_format blocks → CanReturn bare v s now after counted
         can_return kept now same =
@@ -163,4 +163,4 @@ module _ {objects : List NamedObject} {v : Verified} {s : Schedule} (g : CanRunB
         run_value =
             ap (λ (o : List NamedObject). with_written o (tally_objects s.tally_cells.items counted)) came_is
             ∙ ap (λ (l : List Reference). with_written came (tally_objects l counted)) g.schedule.tally_cells
-            ∙ value objects g.nodes v g.ready g.names g.are g.described g.slots g.plan (radius_of objects s.high) t.virtuals t.descs after counted all_leaves
+            ∙ value g t all_leaves

@@ -44,8 +44,8 @@ blocks_back old lent between new len lent_is first then all =
 
 pub begin_tallies-requires : goal.begin_tallies-requires
 begin_tallies-requires c =
-    subst (KeepTallies c.args.table.now.objects) (sym c.steps.ensures.steps)
-    (tallies_kept c.args.table.now.objects c.requires.ready.0 c.args.verified.now c.requires.ready.1 c.requires.names c.requires.schedule.0 c.requires.schedule.1)
+    let g = can_run c.args.table.now.objects c.args.verified.now c.args.schedule.now c.requires.objects c.requires.names c.requires.ready c.requires.schedule c.prove_descriptions.ensures in
+    subst (KeepTallies c.args.table.now.objects) (sym c.steps.ensures.steps) (tallies_kept g)
 
 pub fill_planes-requires-clause-runs : goal.fill_planes-requires-clause-runs
 fill_planes-requires-clause-runs c = can_run c.args.table.now.objects c.args.verified.now c.args.schedule.now c.requires.objects c.requires.names c.requires.ready c.requires.schedule c.prove_descriptions.ensures
@@ -129,6 +129,5 @@ returns-clause-value c = λ nodes ready.
 
 pub returns-clause-lasts : goal.returns-clause-lasts
 returns-clause-lasts c =
-    let objects = c.args.table.now.objects in
-    subst (Lasts objects) (sym (ap (λ (t : Context). t.objects) (returns-clause-value c c.requires.ready.0 c.requires.ready.1)))
-    (run_lasts objects c.requires.ready.0 c.args.verified.now c.requires.ready.1 c.requires.names c.requires.objects c.prove_descriptions.ensures)
+    let g = can_run c.args.table.now.objects c.args.verified.now c.args.schedule.now c.requires.objects c.requires.names c.requires.ready c.requires.schedule c.prove_descriptions.ensures in
+    subst (Lasts c.args.table.now.objects) (sym (ap (λ (t : Context). t.objects) (returns-clause-value c g.nodes g.ready))) (run_lasts g)
