@@ -20,7 +20,7 @@ use Rattle.graph_run.proofs.HoldSteps.{slots_within}
 use Rattle.graph_run.proofs.ReadyLemmas.{clients_apart, clients_hold}
 use Rattle.graph_run.proofs.ScheduleLemmas.{virtuals_below}
 use Rattle.graph_run.proofs.ScheduleSteps.{scheduled, scheduled_reduces}
-use Rattle.graph_run.proofs.SizeSteps.{virtual_format}
+use Rattle.graph_run.proofs.SizeSteps.{virtual_count, virtual_format}
 use Rattle.graph_run.proofs.SolutionStepsTaken.{back_for, back_images, back_tallies, tables_lent, tables_same, value}
 use Rattle.graph_run.proofs.VirtualLemmas.{same_format_at}
 
@@ -50,10 +50,10 @@ module _ {objects : List NamedObject} {v : Verified} {s : Schedule} (g : CanRunB
   cells_enough = omega (arith, virtuals_below v.steps v.virtual_outputs, ap length g.schedule.cells)
 
   pub clients_are_images : HoldImages objects clients
-  clients_are_images = subst (HoldImages objects) (sym same_clients) (clients_hold objects g.nodes v g.ready g.slots g.plan)
+  clients_are_images = rw same_clients (clients_hold objects g.nodes v g.ready g.slots g.plan)
 
   pub clients_are_apart : AreAllApart clients
-  clients_are_apart = subst AreAllApart (sym same_clients) (clients_apart objects g.nodes v g.ready g.slots g.plan)
+  clients_are_apart = rw same_clients (clients_apart objects g.nodes v g.ready g.slots g.plan)
 
   module _ (blocks : List Samples) (sizes : map block_size blocks ≡ s.rooms.items) where
     planned : map block_size blocks ≡ planned_capacities (band_plan s.size s.halos.items v.virtual_outputs s.slots.items g.slots)
@@ -69,98 +69,54 @@ module _ {objects : List NamedObject} {v : Verified} {s : Schedule} (g : CanRunB
         omega (arith, here, ap (λ (l : List ℕ). get_or l k 0) same, length-map blocks block_size)
 
     module _ {planes : List PlaneValue} (t : ArePlanes objects v s blocks planes) where
-      abbrev bare : List NamedObject
-      bare = bare_objects objects v s
-
-      bare_is : bare ≡ with_written objects (bare_images objects (client_cells v.steps v.virtual_outputs))
-      bare_is = ap (λ (l : List Reference). with_written objects (bare_images objects l)) same_clients
-
       all_planes : planes ≡ planes_of objects v.steps v.virtual_outputs t.virtuals
       all_planes = t.all ∙ ap (λ (l : List Reference). t.virtuals ++ image_planes objects l) same_clients
 
-      pub lends : LendTables bare v.steps
-      lends = subst (λ (o : List NamedObject). LendTables o v.steps) (sym bare_is) (tables_lent g)
+      pub lends : LendTables (bare_objects objects v s) v.steps
+      lends = rw same_clients (tables_lent g)
 
-      own_tables : tables_of bare v.steps ≡ tables_of objects v.steps
-      own_tables = ap (λ (o : List NamedObject). tables_of o v.steps) bare_is ∙ tables_same g
+      own_tables : tables_of (bare_objects objects v s) v.steps ≡ tables_of objects v.steps
+      own_tables = rw same_clients (tables_same g)
 
-      pub runs : IsProgram (tables_of bare v.steps) s.high s.size s.halos.items s.tasks.items planes
-      runs =
-          subst (λ (t : ℕ → Option ObjectValue). IsProgram t s.high s.size s.halos.items s.tasks.items planes) (sym own_tables)
-          (subst (IsProgram (tables_of objects v.steps) s.high s.size s.halos.items s.tasks.items) (sym all_planes)
-          (scheduled g planned t))
+      pub runs : IsProgram (tables_of (bare_objects objects v s) v.steps) s.high s.size s.halos.items s.tasks.items planes
+      runs = rw (own_tables, all_planes) (scheduled g planned t)
 
       pub reduces : CanReduceBand 0 s.tasks.items planes (tallies_of objects v.steps)
-      reduces = subst (λ (l : List PlaneValue). CanReduceBand 0 s.tasks.items l (tallies_of objects v.steps)) (sym all_planes) (scheduled_reduces g t)
-
-      virtual_count : length t.virtuals ≡ count
-      virtual_count = omega (arith, length-map t.virtuals (λ (q : PlaneValue). q.desc), ap length t.descs, length-map v.virtual_outputs (λ (o : VirtualOutput). o.desc))
+      reduces = rw all_planes (scheduled_reduces g t)
 
       -- after the tasks have run
-      module _ {after : List PlaneValue} {counted : List Tally} (leaves : Leaves (tables_of bare v.steps) s.tasks.items planes (tallies_of objects v.steps) after counted) where
-        abbrev back : List PlaneValue
-        back = drop count after
-
+      module _ {after : List PlaneValue} {counted : List Tally} (leaves : Leaves (tables_of (bare_objects objects v s) v.steps) s.tasks.items planes (tallies_of objects v.steps) after counted) where
         all_leaves : Leaves (tables_of objects v.steps) (graph_tasks v.steps v.virtual_outputs g.slots (radius_of objects s.high)) (planes_of objects v.steps v.virtual_outputs t.virtuals) (tallies_of objects v.steps) after counted
-        all_leaves =
-            subst (λ (l : List Task). Leaves (tables_of objects v.steps) l (planes_of objects v.steps v.virtual_outputs t.virtuals) (tallies_of objects v.steps) after counted) g.schedule.tasks
-            (subst (λ (l : List PlaneValue). Leaves (tables_of objects v.steps) s.tasks.items l (tallies_of objects v.steps) after counted) all_planes
-            (subst (λ (t : ℕ → Option ObjectValue). Leaves t s.tasks.items planes (tallies_of objects v.steps) after counted) own_tables leaves))
+        all_leaves = rw (← g.schedule.tasks, ← all_planes, ← own_tables) leaves
 
-        planes_enough : count ≤ length after
-        planes_enough = omega (arith, leaves.planes_count, ap length t.all, length-append t.virtuals (image_planes objects clients), virtual_count)
+        virtuals_fit : length t.virtuals ≡ length s.slots.items
+        virtuals_fit = virtual_count t.virtuals v.virtual_outputs t.descs ∙ sym slot_count
+
+        planes_enough : length s.slots.items ≤ length after
+        planes_enough = omega (arith, leaves.planes_count, ap length t.all, length-append t.virtuals (image_planes objects clients), virtuals_fit)
 
         formats_back : capacities after ≡ capacities planes → (now : List Samples) → map samples_format now ≡ map samples_format blocks → (k : ℕ) → k < length s.slots.items
             → (plane after k).format ≡ (block_capacity now (get_or s.slots.items k 0)).0
         formats_back kept now same k below =
-            same_formats after planes k kept (omega (arith, planes_enough, slot_count, below))
+            same_formats after planes k kept (omega (arith, planes_enough, below))
             ∙ ap (λ (l : List PlaneValue). (plane l k).format) t.all
-            ∙ virtual_format t.virtuals (image_planes objects clients) s.slots.items (block_capacity blocks) k t.first (omega (arith, virtual_count, slot_count)) below
+            ∙ virtual_format t.virtuals (image_planes objects clients) s.slots.items (block_capacity blocks) k t.first virtuals_fit below
             ∙ sym (same_format_at blocks now (get_or s.slots.items k 0) same)
 
-        images_back : HoldImages bare clients
-        images_back =
-            subst (λ (o : List NamedObject). HoldImages o clients) (sym bare_is)
-            (subst (HoldImages (with_written objects (bare_images objects (client_cells v.steps v.virtual_outputs)))) (sym same_clients)
-            (back_images g t all_leaves))
-
-        planes_back : AreFor bare clients back
-        planes_back =
-            subst (λ (o : List NamedObject). AreFor o clients back) (sym bare_is)
-            (subst (λ (l : List Reference). AreFor (with_written objects (bare_images objects (client_cells v.steps v.virtual_outputs))) l back) (sym same_clients)
-            (back_for g t all_leaves))
-
-        -- the objects once images are back
-        abbrev came : List NamedObject
-        came = with_written (with_written objects (bare_images objects (client_cells v.steps v.virtual_outputs))) (plane_objects (client_cells v.steps v.virtual_outputs) back)
-
-        came_is : with_written bare (schedule_objects v s after) ≡ came
-        came_is =
-            ap (λ (o : List NamedObject). with_written o (plane_objects clients back)) bare_is
-            ∙ ap (λ (l : List Reference). with_written (with_written objects (bare_images objects (client_cells v.steps v.virtual_outputs))) (plane_objects l back)) same_clients
-
-        tallies_back : AreTalliesFor (with_written bare (schedule_objects v s after)) s.tally_cells.items counted
-        tallies_back =
-            subst (λ (o : List NamedObject). AreTalliesFor o s.tally_cells.items counted) (sym came_is)
-            (subst (λ (l : List Reference). AreTalliesFor came l counted) (sym g.schedule.tally_cells)
-            (back_tallies g t all_leaves))
-
-        pub can_return : capacities after ≡ capacities planes → (now : List Samples) → map samples_format now ≡ map samples_format blocks → CanReturn bare v s now after counted
+        pub can_return : capacities after ≡ capacities planes → (now : List Samples) → map samples_format now ≡ map samples_format blocks → CanReturn (bare_objects objects v s) v s now after counted
         can_return kept now same =
             record {
               slot_count = slot_count;
               cell_count = cells_enough;
-              plane_count = planes_enough;
+              plane_count = omega (arith, planes_enough, slot_count);
               within = λ k below. omega (arith, slot_within k below, ap length same, length-map now samples_format, length-map blocks samples_format);
               formats = formats_back kept now same;
-              images = images_back;
+              images = rw same_clients (back_images g t all_leaves);
               apart = clients_are_apart;
-              planes_for = planes_back;
-              tallies_for = tallies_back;
+              planes_for = rw same_clients (back_for g t all_leaves);
+              tallies_for = rw (same_clients, g.schedule.tally_cells) (back_tallies g t all_leaves);
             }
 
-        pub run_value : with_written (with_written bare (schedule_objects v s after)) (tally_objects s.tally_cells.items counted) ≡ run_of_graph (resolved_operand (operand_held objects) g.nodes) g.nodes objects
-        run_value =
-            ap (λ (o : List NamedObject). with_written o (tally_objects s.tally_cells.items counted)) came_is
-            ∙ ap (λ (l : List Reference). with_written came (tally_objects l counted)) g.schedule.tally_cells
-            ∙ value g t all_leaves
+        pub run_value : with_written (with_written (bare_objects objects v s) (schedule_objects v s after)) (tally_objects s.tally_cells.items counted)
+            ≡ run_of_graph (resolved_operand (operand_held objects) g.nodes) g.nodes objects
+        run_value = rw (same_clients, g.schedule.tally_cells) (value g t all_leaves)

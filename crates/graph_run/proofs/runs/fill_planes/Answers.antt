@@ -24,7 +24,7 @@ add_virtual-requires c =
       none = c.requires.none;
       room = omega (arith, ap length images, cells_enough g, c.requires.room);
       count = ap length slots ∙ slot_count g ∙ sym (ap length images);
-      within = subst (λ (l : List ℕ). (k : ℕ) → k < length l → get_or l k 0 < length c.args.blocks.now) (sym slots) (slot_within g c.args.blocks.now c.requires.sizes);
+      within = rw slots (slot_within g c.args.blocks.now c.requires.sizes);
     }
 
 pub clients_of-requires : goal.clients_of-requires
@@ -36,8 +36,8 @@ take_out-requires c =
     let clients = clients_taken c.args.verified.now.virtual_outputs _ c.args.schedule.now.cells.items _ _ c.virtual_outputs-images.ensures c.deref-2.ensures.value c.clients_of.ensures in
     let descs = c.add_virtual.ensures.descs ∙ ap (map (λ (o : VirtualOutput). o.desc)) c.virtual_outputs-images.ensures in
     record {
-      images = subst (HoldImages c.args.table.now.objects) (sym clients) (clients_are_images g);
-      apart = subst AreAllApart (sym clients) (clients_are_apart g);
+      images = rw clients (clients_are_images g);
+      apart = rw clients (clients_are_apart g);
       room =
           omega (
             arith,
@@ -54,7 +54,6 @@ pub returns : goal.returns
 returns c =
     let g = c.requires.runs in
     let objects = c.args.table.now.objects in
-    let steps = c.args.verified.now.steps in
     let slots = c.deref.ensures.value in
     let descs = c.add_virtual.ensures.descs ∙ ap (map (λ (o : VirtualOutput). o.desc)) c.virtual_outputs-images.ensures in
     let clients = clients_taken c.args.verified.now.virtual_outputs _ c.args.schedule.now.cells.items _ _ c.virtual_outputs-images.ensures c.deref-2.ensures.value c.clients_of.ensures in
@@ -69,12 +68,10 @@ returns c =
     in
     record {
       planes = t;
-      lent = subst (λ (x : Context). LendTables x.objects steps) (sym left) (lends g c.args.blocks.now c.requires.sizes t);
-      program =
-          subst (λ (x : Context). IsProgram (tables_of x.objects steps) c.args.schedule.now.high c.args.schedule.now.size c.args.schedule.now.halos.items c.args.schedule.now.tasks.items c.take_out.new.planes.items) (sym left)
-          (runs g c.args.blocks.now c.requires.sizes t);
+      lent = rw left (lends g c.args.blocks.now c.requires.sizes t);
+      program = rw left (runs g c.args.blocks.now c.requires.sizes t);
       reduces = reduces g c.args.blocks.now c.requires.sizes t;
       formats = c.add_virtual.ensures.formats;
-      unused = subst (λ (l : List ℕ). (x : ℕ) → last_in x l ≡ None → block_capacity c.add_virtual.new.blocks x ≡ block_capacity c.args.blocks.now x) slots c.add_virtual.ensures.unused;
+      unused = rw slots at c.add_virtual.ensures.unused;
       left = left;
     }

@@ -27,12 +27,7 @@ can_run objects v s are names ready schedule described =
 -- the results of a run, of lists that are equal to those that were lent
 left_by : (objects bare : List NamedObject) (ns steps : List Node) (ts tasks : List Task) (ps planes after : List PlaneValue) (ls tallies counted : List Tally) → objects ≡ bare → ns ≡ steps → ts ≡ tasks → ps ≡ planes → ls ≡ tallies
     → Leaves (tables_of objects ns) ts ps ls after counted → Leaves (tables_of bare steps) tasks planes tallies after counted
-left_by objects bare ns steps ts tasks ps planes after ls tallies counted o n t p l leaves =
-    subst (λ (x : List NamedObject). Leaves (tables_of x steps) tasks planes tallies after counted) o
-    (subst (λ (x : List Node). Leaves (tables_of objects x) tasks planes tallies after counted) n
-    (subst (λ (x : List Task). Leaves (tables_of objects ns) x planes tallies after counted) t
-    (subst (λ (x : List PlaneValue). Leaves (tables_of objects ns) ts x tallies after counted) p
-    (subst (λ (x : List Tally). Leaves (tables_of objects ns) ts ps x after counted) l leaves))))
+left_by objects bare ns steps ts tasks ps planes after ls tallies counted o n t p l leaves = rw (← o, ← n, ← t, ← p, ← l) leaves
 
 -- the blocks, after they were lent as a slice
 blocks_back : (old lent between new : List Samples) (len : ℕ) → lent ≡ old → map samples_format between ≡ map samples_format lent → map samples_format new ≡ map samples_format between → len ≡ length old
@@ -55,20 +50,14 @@ fill_planes-requires-clause-sizes c = ap (map block_size) c.as_mut_slice-slots.e
 
 pub run-requires : goal.run-requires
 run-requires c =
-    let s = c.args.schedule.now in
+    let steps = c.steps-2.ensures.steps in
+    let halos = c.deref-3.ensures.value in
     let tasks = c.deref-2.ensures.value in
     let planes = c.as_mut_slice-planes.ensures.value in
     let tallies = c.as_mut_slice-tallies.ensures.value ∙ c.in_ok-begin_tallies.ensures ∙ ap (tallies_of c.args.table.now.objects) c.steps.ensures.steps in
     record {
-      program =
-          subst (λ (ns : List Node). IsProgram (tables_of c.fill_planes.new.table.objects ns) s.high s.size c.deref-3.result.now c.deref-2.result.now c.as_mut_slice-planes.result.now) (sym c.steps-2.ensures.steps)
-          (subst (λ (l : List ℕ). IsProgram (tables_of c.fill_planes.new.table.objects c.args.verified.now.steps) s.high s.size l c.deref-2.result.now c.as_mut_slice-planes.result.now) (sym c.deref-3.ensures.value)
-          (subst (λ (l : List Task). IsProgram (tables_of c.fill_planes.new.table.objects c.args.verified.now.steps) s.high s.size s.halos.items l c.as_mut_slice-planes.result.now) (sym tasks)
-          (subst (λ (l : List PlaneValue). IsProgram (tables_of c.fill_planes.new.table.objects c.args.verified.now.steps) s.high s.size s.halos.items s.tasks.items l) (sym planes) c.fill_planes.ensures.program)));
-      reduces =
-          subst (λ (l : List Task). CanReduceBand 0 l c.as_mut_slice-planes.result.now c.as_mut_slice-tallies.result.now) (sym tasks)
-          (subst (λ (l : List PlaneValue). CanReduceBand 0 s.tasks.items l c.as_mut_slice-tallies.result.now) (sym planes)
-          (subst (λ (l : List Tally). CanReduceBand 0 s.tasks.items c.fill_planes.new.planes.items l) (sym tallies) c.fill_planes.ensures.reduces));
+      program = rw (steps, halos, tasks, planes) c.fill_planes.ensures.program;
+      reduces = rw (tasks, planes, tallies) c.fill_planes.ensures.reduces;
     }
 
 pub empty_planes-requires : goal.empty_planes-requires
