@@ -1,7 +1,7 @@
 //! Runs a verified graph over planes. The samples of its images move from the table of objects to
 //! planes, its tasks run, and images and tallies move back.
-ghost use Rattle.std.specs.Prelude.{◌≡◌, ◌≤◌, ◌<◌, ◌+◌, ◌++◌, ℕ, [], List, drop, length, map};
-ghost use Rattle.std.specs.Prelude.{slice_index_or, vec_capacity, All, None, OnErr, OnOk, Some};
+ghost use Rattle.std.specs.Prelude.{◌≡◌, ◌≤◌, ◌<◌, ◌+◌, ℕ, [], List, drop, length, map};
+ghost use Rattle.std.specs.Prelude.{vec_capacity, All, None, OnErr, OnOk, Some};
 ghost use Rattle.std.specs.List.Sorted.{IsStrictlyIncreasing};
 ghost use Rattle.vx_base.specs.declared.format.Format.{Format as SampleFormat};
 ghost use Rattle.vx_base.specs.declared.node.Node.{Node as NodeFields};
@@ -18,19 +18,16 @@ ghost use Rattle.graph_run.specs.Operands.{operand_held, IsReady};
 ghost use Rattle.vx_base.specs.Picture.{samples_format};
 ghost use Rattle.object_table.specs.Context.{with_objects};
 ghost use Rattle.object_table.specs.NamedObject.{with_written};
-ghost use Rattle.graph_steps.specs.Planes.{PlaneValue, plane};
 ghost use Rattle.graph_steps.specs.Program.{IsProgram};
 ghost use Rattle.graph_steps.specs.Runs.{CanReduceBand};
 ghost use Rattle.graph_steps.specs.Steps.{capacities, capacity};
-ghost use Rattle.graph_run.specs.Bind.{AreAllApart, AreFor, HoldImages, bare_images};
-ghost use Rattle.graph_run.specs.Bind.{image_planes, plane_objects};
-ghost use Rattle.graph_run.specs.Blocks.{band_plan, block_size, block_capacity, room_count};
-ghost use Rattle.graph_run.specs.Bound.{AreTalliesFor, LendTables};
-ghost use Rattle.graph_run.specs.Program.{first_blocks, tables_of, tallies_of};
-ghost use Rattle.graph_run.specs.Results.{Leaves, tally_objects};
+ghost use Rattle.graph_run.specs.Bind.{AreAllApart, AreFor, HoldImages, plane_objects};
+ghost use Rattle.graph_run.specs.Blocks.{block_size, block_capacity, room_count};
+ghost use Rattle.graph_run.specs.Bound.{LendTables};
+ghost use Rattle.graph_run.specs.Program.{tables_of, tallies_of};
+ghost use Rattle.graph_run.specs.Results.{tally_objects};
 ghost use Rattle.graph_run.specs.Schedule.{ArePlanes, CanReturn, CanRunBy, IsSchedule};
 ghost use Rattle.graph_run.specs.Schedule.{bare_objects, schedule_objects};
-ghost use Rattle.graph_run.specs.Slots.{planned_capacities};
 ghost use Rattle.graph_run.specs.Tasks.{last_in};
 
 use crate::bind::{put_back, take_out};

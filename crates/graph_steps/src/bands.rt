@@ -1,17 +1,17 @@
 //! Runs programs band by band.
-ghost use Rattle.std.specs.Prelude.{◌≡◌, ◌-◌, ◌+◌, ◌<◌, ◌≤◌, ◌^◌, ℕ, length};
+ghost use Rattle.std.specs.Prelude.{◌≡◌, ◌-◌, ◌+◌, ◌<◌, ◌^◌, ℕ, length};
 ghost use Rattle.vx_base.specs.Image.{ImageValue};
 ghost use Rattle.graph_steps.specs.declared.step.Reduction.{Reduction as ReductionValue};
-ghost use Rattle.graph_steps.specs.Planes.{plane, plane_image, block_image, block_images};
+ghost use Rattle.graph_steps.specs.Planes.{plane, block_image, block_images};
 ghost use Rattle.graph_steps.specs.Planes.{with_halo, IsReadable, IsWhole};
 ghost use Rattle.graph_steps.specs.Steps.{capacities};
 ghost use Rattle.graph_steps.specs.Program.{KeepsBlock, IsProgram, Reduces, SolvesSteps};
-ghost use Rattle.graph_steps.specs.Program.{after_task, after_tasks};
+ghost use Rattle.graph_steps.specs.Program.{after_tasks};
 ghost use Rattle.graph_steps.specs.Program.{band_rows};
-ghost use Rattle.graph_steps.specs.Runs.{CanDo, CanRunBand, CanReduceBand};
-ghost use Rattle.graph_steps.specs.Tallies.{CanAdd, CanReduce, HaveOneReduction, IsNew};
+ghost use Rattle.graph_steps.specs.Runs.{CanRunBand, CanReduceBand};
+ghost use Rattle.graph_steps.specs.Tallies.{CanReduce, IsNew};
 ghost use Rattle.graph_steps.specs.Tallies.{after_reduction, all_tallies_after};
-ghost use Rattle.graph_steps.specs.Tallies.{tallies_after, tally_at, tally_of};
+ghost use Rattle.graph_steps.specs.Tallies.{tally_at, tally_of};
 
 use crate::one_step::run_step;
 use crate::plane::Plane;

@@ -2,8 +2,8 @@
 ghost use Rattle.std.specs.Prelude.{◌≡◌, ◌<◌, ℕ, length, Some};
 ghost use Rattle.image_core.specs.Second.{second_object};
 ghost use Rattle.graph_steps.specs.declared.step.SecondSource.TheVariants.{Plane as FromPlane};
-ghost use Rattle.graph_steps.specs.Planes.{plane, read_images, with_rows, IsReadable};
-ghost use Rattle.graph_steps.specs.Steps.{CanStep, CanWrite, after_step, rows_image, second_in};
+ghost use Rattle.graph_steps.specs.Planes.{plane, read_images, IsReadable};
+ghost use Rattle.graph_steps.specs.Steps.{CanStep, after_step, second_in};
 ghost use Rattle.graph_steps.specs.Steps.{with_output_block};
 
 use crate::kernel::Kernel;

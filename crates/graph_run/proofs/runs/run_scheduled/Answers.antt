@@ -70,7 +70,7 @@ empty_planes-requires c =
     let tallies = c.as_mut_slice-tallies.ensures.value ∙ c.in_ok-begin_tallies.ensures ∙ ap (tallies_of objects) c.steps.ensures.steps in
     let leaves : Leaves (tables_of c.fill_planes.new.table.objects c.steps-2.result.now) c.deref-2.result.now c.as_mut_slice-planes.result.now c.as_mut_slice-tallies.result.now c.run.new.planes c.run.new.tallies =
     record { images = c.run.ensures.solution; reductions = c.run.ensures.reductions; whole = c.run.ensures.whole; descs = c.run.ensures.descs; planes_count = c.run.ensures.count; tallies_count = c.run.auto.tallies } in
-    subst (λ (o : List NamedObject). CanReturn o c.args.verified.now c.args.schedule.now c.fill_planes.new.blocks c.run.new.planes c.run.new.tallies) (sym bare)
+    rw bare
     (can_return g c.as_mut_slice-slots.result.now sizes c.fill_planes.ensures.planes (left_by _ _ _ _ _ _ _ _ _ _ _ _ bare c.steps-2.ensures.steps c.deref-2.ensures.value planes tallies leaves)
     (c.run.ensures.blocks ∙ ap capacities planes) c.fill_planes.new.blocks c.fill_planes.ensures.formats)
 
