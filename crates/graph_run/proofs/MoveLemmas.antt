@@ -1,17 +1,16 @@
 -- A graph that runs by its schedule: what its images and tallies need on their way out of a table and back.
-use Rattle.std.proofs.Common.{◌≡◌, ℕ, ◌<◌, ◌≤◌, List, ◌++◌, length, map, drop, get_or, Option, sym, ap, subst, ◌∙◌, arith, length-append}
+use Rattle.std.proofs.Common.{◌≡◌, ℕ, ◌<◌, ◌≤◌, List, ◌++◌, length, map, drop, get_or, sym, ap, ◌∙◌, arith, length-append}
 use Rattle.std.proofs.lemmas.List.{get_or-map, length-map}
-use Rattle.graph_run.proofs.Common.{Reference, ObjectValue, NamedObject, with_written, VirtualOutput, Verified, place_of, planned_capacities, Samples, samples_format, resolved_operand, operand_held, run_of_graph, Format, U8}
-use Rattle.graph_steps.specs.declared.step.Task.{Task}
+use Rattle.graph_run.proofs.Common.{Reference, NamedObject, with_written, Verified, place_of, planned_capacities, Samples, samples_format, resolved_operand, operand_held, run_of_graph, Format, U8}
 use Rattle.graph_steps.specs.declared.tally.Tally.{Tally}
 use Rattle.graph_steps.specs.Planes.{PlaneValue, no_plane, plane}
 use Rattle.graph_steps.specs.Program.{IsProgram}
 use Rattle.graph_steps.specs.Runs.{CanReduceBand}
 use Rattle.graph_steps.specs.Steps.{capacities}
 use Rattle.graph_run.specs.declared.schedule.Schedule.{Schedule}
-use Rattle.graph_run.specs.Bind.{AreAllApart, AreFor, HoldImages, bare_images, image_planes, plane_objects}
+use Rattle.graph_run.specs.Bind.{AreAllApart, HoldImages, image_planes}
 use Rattle.graph_run.specs.Blocks.{band_plan, block_size, block_capacity}
-use Rattle.graph_run.specs.Bound.{AreTalliesFor, LendTables}
+use Rattle.graph_run.specs.Bound.{LendTables}
 use Rattle.graph_run.specs.Program.{client_cells, planes_of, radius_of, tables_of, tallies_of}
 use Rattle.graph_run.specs.Results.{Leaves, tally_objects}
 use Rattle.graph_run.specs.Schedule.{ArePlanes, CanReturn, CanRunBy, bare_objects, schedule_clients, schedule_objects}

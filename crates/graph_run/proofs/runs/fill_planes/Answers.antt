@@ -1,12 +1,9 @@
-use Rattle.std.proofs.Common.{◌≡◌, ◌<◌, ℕ, List, None, ◌++◌, ◌∙◌, ap, arith, drop, get_or, length, length-drop, map, subst, sym}
-use Rattle.graph_run.proofs.Common.{Context, Reference, VirtualOutput, with_objects, with_written}
-use Rattle.graph_steps.specs.Program.{IsProgram}
-use Rattle.graph_run.specs.Bind.{AreAllApart, HoldImages, bare_images, image_planes}
+use Rattle.std.proofs.Common.{◌≡◌, ℕ, List, ◌++◌, ◌∙◌, ap, arith, drop, length, length-drop, map, sym}
+use Rattle.graph_run.proofs.Common.{Reference, VirtualOutput, with_objects, with_written}
+use Rattle.graph_run.specs.Bind.{bare_images, image_planes}
 use Rattle.graph_run.specs.Blocks.{block_capacity}
-use Rattle.graph_run.specs.Bound.{LendTables}
-use Rattle.graph_run.specs.Program.{first_blocks, tables_of}
+use Rattle.graph_run.specs.Program.{first_blocks}
 use Rattle.graph_run.specs.Schedule.{ArePlanes}
-use Rattle.graph_run.specs.Tasks.{last_in}
 use Rattle.graph_run.proofs.MoveLemmas.{cells_enough, clients_are_apart, clients_are_images, lends, reduces, runs, slot_count, slot_within}
 use Rattle.graph_run.proofs.SizeSteps.{virtual_count}
 use Rattle.graph_run.proofs.runs.fill_planes.Goals as goal

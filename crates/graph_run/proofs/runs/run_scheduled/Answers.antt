@@ -4,15 +4,13 @@ use Rattle.graph_run.proofs.Common.{Context, IsDescription, IsObject, IsPlan, Is
 use Rattle.graph_steps.specs.declared.step.Task.{Task}
 use Rattle.graph_steps.specs.declared.tally.Tally.{Tally}
 use Rattle.graph_steps.specs.Planes.{PlaneValue}
-use Rattle.graph_steps.specs.Program.{IsProgram}
-use Rattle.graph_steps.specs.Runs.{CanReduceBand}
 use Rattle.graph_steps.specs.Steps.{capacities}
 use Rattle.graph_run.specs.declared.schedule.Schedule.{Schedule}
 use Rattle.graph_run.specs.Blocks.{block_size}
 use Rattle.graph_run.specs.Bound.{KeepTallies}
 use Rattle.graph_run.specs.Program.{tables_of, tallies_of}
 use Rattle.graph_run.specs.Results.{Leaves, tally_objects}
-use Rattle.graph_run.specs.Schedule.{CanReturn, CanRunBy, IsSchedule, schedule_objects}
+use Rattle.graph_run.specs.Schedule.{CanRunBy, IsSchedule, schedule_objects}
 use Rattle.graph_run.proofs.BlockLemmas.{blocks_counted, counts_stay, written_back}
 use Rattle.graph_run.proofs.MoveLemmas.{can_return, run_value}
 use Rattle.graph_run.proofs.SolutionStepsObjects.{run_lasts}
