@@ -34,7 +34,7 @@ pub mod VirtualLemmas
 pub mod TallyLemmas
 pub mod ScheduleLemmas
 pub mod ScheduleStays
-pub mod OverLemmas
+pub mod MoveLemmas
 pub mod SolutionStepsEnds
 pub mod SolutionStepsTasks
 pub mod SolutionStepsImages

@@ -4,9 +4,9 @@ use Rattle.std.proofs.lemmas.List.{length-map}
 use Rattle.std.proofs.lemmas.List.Elements.{All-append, All-map}
 use Rattle.std.proofs.lemmas.List.FromFn.{get_or-map-range_with_len}
 use Rattle.std.proofs.Math.ListN.{get_or-append, get_or-map as get_or-map_default}
-use Rattle.graph_run.proofs.Common.{All-from_map, map-append, Format, U8, Reference, Node, Description, NamedObject, image_held, VirtualOutput}
+use Rattle.graph_run.proofs.Common.{All-from_map, Format, U8, Reference, Node, Description, NamedObject, image_held, VirtualOutput}
 use Rattle.graph_steps.specs.Planes.{PlaneValue, no_plane, plane}
-use Rattle.graph_steps.specs.Steps.{capacities, capacity}
+use Rattle.graph_steps.specs.Steps.{capacities}
 use Rattle.graph_run.specs.Bind.{image_plane, image_planes}
 use Rattle.graph_run.specs.Program.{client_cells, first_blocks, planes_of}
 use Rattle.graph_run.specs.Tasks.{block_at, graph_cells}
@@ -50,13 +50,3 @@ virtual_format virtuals rest slots rooms k blocks count below =
     (sym (get_or-map_default (λ (q : PlaneValue). let b : Format × ℕ = (q.format, length q.samples) in b) virtuals k no_plane)
     ∙ ap (λ (l : List (Format × ℕ)). get_or l k (U8, 0)) blocks
     ∙ get_or-map-range_with_len (block_at slots rooms 0) 0 (length slots) k k (U8, 0) below (omega arith))
-
--- the block of a virtual plane is that of its slot, or an empty one
-pub virtual_capacity : (virtuals rest : List PlaneValue) (slots : List ℕ) (rooms : ℕ → Format × ℕ) (k : ℕ) → capacities virtuals ≡ first_blocks slots rooms → length virtuals ≡ length slots → k < length slots
-    → capacity (capacities (virtuals ++ rest)) k ≡ block_at slots rooms 0 k
-virtual_capacity virtuals rest slots rooms k blocks count below =
-    let size : PlaneValue → Format × ℕ = λ q. (q.format, length q.samples) in
-    ap (λ (l : List (Format × ℕ)). get_or l k (U8, 0)) (map-append size virtuals rest)
-    ∙ get_or-append (map size virtuals) (map size rest) (U8, 0) k (omega (arith, length-map virtuals size, count, below))
-    ∙ ap (λ (l : List (Format × ℕ)). get_or l k (U8, 0)) blocks
-    ∙ get_or-map-range_with_len (block_at slots rooms 0) 0 (length slots) k k (U8, 0) below (omega arith)

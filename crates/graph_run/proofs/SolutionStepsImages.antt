@@ -3,7 +3,7 @@ use Rattle.std.proofs.Common.{◌≡◌, ◌≢◌, ℕ, ◌+◌, ◌<◌, ◌�
 use Rattle.std.specs.List.{slice_get}
 use Rattle.std.proofs.lemmas.List.{get_or-append-add, get_or_append_left, get_or-map, length-map}
 use Rattle.std.proofs.lemmas.Option.{get_or_from_slice_get, slice_get_within}
-use Rattle.graph_run.proofs.Common.{accumulates, second_or_output, cases_lt, Reference, reference_to, Description, false_from_ne_true, flat_map, Function, optional_cells, object_at, held_is, HoldsImage, HoldsKind, image_held, Image, ImageObject, ImageValue, In, In-append, In-at, In-filter, In-from_any, In-from_filter, In-from_flat_map, In-from_map, In-from_same, In-left, In-right, IsDescription, IsImage, IsObject, IsPlan, IsReady, is_virtual, is_virtual_object, is_written, IsStrictlyIncreasing, Kind, NamedObject, names_cell, names_of, Node, node_image, node_output, object_held, object_kind, ObjectValue, operands, Output, First, Second, outputs, parameters, place_of, PlanView, second_kind, in_slot, has_twice, image_value, new_image, U8, description_of, Operand, operand_of, kind_in, Verified, VirtualOutput, written_from, written_in, writes}
+use Rattle.graph_run.proofs.Common.{accumulates, second_or_output, cases_lt, Reference, reference_to, Description, false_from_ne_true, flat_map, Function, optional_cells, object_at, held_is, HoldsImage, HoldsKind, image_held, Image, ImageObject, ImageValue, In, In-append, In-at, In-filter, In-from_any, In-from_filter, In-from_flat_map, In-from_map, In-from_same, In-left, In-right, IsImage, IsObject, is_virtual, is_virtual_object, is_written, Kind, NamedObject, names_cell, Node, node_image, node_output, object_held, object_kind, ObjectValue, operands, Output, First, Second, outputs, parameters, place_of, Samples, second_kind, in_slot, has_twice, image_value, new_image, U8, description_of, Operand, operand_of, kind_in, Verified, VirtualOutput, written_from, written_in, writes}
 use Rattle.vx_base.specs.declared.kind.Kind.TheVariants as kind
 use Rattle.vx_base.specs.Node.{with_kind}
 use Rattle.graph_steps.specs.declared.step.Step.{Step}
@@ -11,10 +11,12 @@ use Rattle.graph_steps.specs.declared.step.Task.{Task}
 use Rattle.graph_steps.specs.Planes.{PlaneValue, block_image, block_images, no_plane, plane}
 use Rattle.graph_steps.specs.Program.{IsStepOf, IsUnwritten, SolvesSteps}
 use Rattle.graph_steps.specs.Steps.{second_in, step_image}
+use Rattle.graph_run.specs.declared.schedule.Schedule.{Schedule}
 use Rattle.graph_run.specs.Bind.{image_plane, image_planes}
 use Rattle.graph_run.specs.Cells.{image_given, images_named, index_of, node_images}
-use Rattle.graph_run.specs.Program.{planes_of, table_by, tables_of}
+use Rattle.graph_run.specs.Program.{planes_of, radius_of, table_by, tables_of}
 use Rattle.graph_run.specs.Results.{images_in}
+use Rattle.graph_run.specs.Schedule.{ArePlanes, CanRunBy}
 use Rattle.graph_run.specs.Tasks.{HaveTasks, graph_cells, graph_tasks, source, step_for}
 use Rattle.graph_run.proofs.CellLemmas.{held_image}
 use Rattle.graph_run.proofs.IndexLemmas.{index_behind, at_index, cells_parts, in_either, index_at, index_below, index_left, once_all}
@@ -98,34 +100,33 @@ same_image n which a own other second (inr e) = rw (e.1, e.0) refl
 
 -- ---- the cells of a graph
 
-module _ (objects : List NamedObject) (nodes : List Node) (v : Verified) (h : IsReady objects nodes v) (names : IsStrictlyIncreasing (names_of objects))
-    (p : PlanView) (plan : IsPlan (steps objects nodes v h) (outs objects nodes v h) p) where
+module _ {objects : List NamedObject} {v : Verified} {s : Schedule} (g : CanRunBy objects v s) where
   abbrev pub starts : List NamedObject
-  starts = first objects nodes v h
+  starts = first g
 
   abbrev pub ends : List NamedObject
-  ends = last objects nodes v h
+  ends = last g
 
   abbrev pub order : List Node
-  order = steps objects nodes v h
+  order = steps g
 
   abbrev pub virtual : List Reference
-  virtual = map (λ (o : VirtualOutput). o.cell) (outs objects nodes v h)
+  virtual = map (λ (o : VirtualOutput). o.cell) (outs g)
 
   abbrev pub cells : List Reference
-  cells = graph_cells order (outs objects nodes v h)
+  cells = graph_cells order (outs g)
 
   abbrev pub clients : List Reference
-  clients = drop (length (outs objects nodes v h)) cells
+  clients = drop (length (outs g)) cells
 
   abbrev is_virtual_cell : Reference → Bool
-  is_virtual_cell c = is_virtual (is objects nodes v h c)
+  is_virtual_cell c = is_virtual (is g c)
 
-  pub have : HaveTasks order (outs objects nodes v h) p is_virtual_cell
-  have = have_tasks objects nodes v h p plan
+  pub have : HaveTasks order (outs g) g.slots is_virtual_cell
+  have = have_tasks objects g.nodes v g.ready g.slots g.plan
 
   pub cells_once : has_twice cells ≡ false
-  cells_once = once_all virtual (images_named order) plan.once
+  cells_once = once_all virtual (images_named order) g.plan.once
 
   pub virtual_is : (c : Reference) → In c virtual → is_virtual_cell c ≡ true
   virtual_is c i = (In-from_filter is_virtual_cell c (flat_map outputs order) (subst (In c) have.order i)).1
@@ -156,27 +157,27 @@ module _ (objects : List NamedObject) (nodes : List Node) (v : Verified) (h : Is
 
   -- it is a virtual image, or a client's image
   pub virtual_or : (c : Reference) → In c cells → In c virtual ⊎ In c clients
-  virtual_or c i = In-append c virtual clients (subst (In c) (cells_parts order (outs objects nodes v h)) i)
+  virtual_or c i = In-append c virtual clients (subst (In c) (cells_parts order (outs g)) i)
 
   virtual_there : (c : Reference) → In c virtual → In c cells
-  virtual_there c i = subst (In c) (sym (cells_parts order (outs objects nodes v h))) (In-left c virtual clients i)
+  virtual_there c i = subst (In c) (sym (cells_parts order (outs g))) (In-left c virtual clients i)
 
   pub client_there : (c : Reference) → In c clients → In c cells
-  client_there c i = subst (In c) (sym (cells_parts order (outs objects nodes v h))) (In-right c virtual clients i)
+  client_there c i = subst (In c) (sym (cells_parts order (outs g))) (In-right c virtual clients i)
 
   pub client_outside : (c : Reference) → In c clients → In c virtual → ⊥
-  client_outside c i j = once_across c virtual clients (ap has_twice (sym (cells_parts order (outs objects nodes v h))) ∙ cells_once) j i
+  client_outside c i j = once_across c virtual clients (ap has_twice (sym (cells_parts order (outs g))) ∙ cells_once) j i
 
   pub client_image : (c : Reference) → In c clients → HoldsImage objects c
-  client_image c i = clients_hold objects nodes v h p plan c i
+  client_image c i = clients_hold objects g.nodes v g.ready g.slots g.plan c i
 
   -- ---- the images that cells hold
 
   pub ends_image : (c : Reference) → In c cells → HoldsImage ends c
-  ends_image c i = let n = cell_by c i in last_kinds objects nodes v h names n.0 n.1 (c, kind.Image) (image_operand n.0 c n.2)
+  ends_image c i = let n = cell_by c i in last_kinds g n.0 n.1 (c, kind.Image) (image_operand n.0 c n.2)
 
   starts_image : (c : Reference) → In c cells → HoldsImage starts c
-  starts_image c i = let n = cell_by c i in first_kinds objects nodes v h names n.0 n.1 (c, kind.Image) (image_operand n.0 c n.2)
+  starts_image c i = let n = cell_by c i in first_kinds g n.0 n.1 (c, kind.Image) (image_operand n.0 c n.2)
 
   pub ends_held : (c : Reference) → In c cells → object_at ends c ≡ Some (ImageObject (image_held ends c))
   ends_held c i = held_image ends c (ends_image c i)
@@ -185,20 +186,20 @@ module _ (objects : List NamedObject) (nodes : List Node) (v : Verified) (h : Is
   starts_held c i = held_image starts c (starts_image c i)
 
   pub starts_client : (c : Reference) → In c clients → object_at starts c ≡ object_at objects c
-  starts_client c i = first_real objects nodes v h c (image_real objects c (client_image c i))
+  starts_client c i = first_real g c (image_real objects c (client_image c i))
 
   -- a node that writes a cell that is an image writes images
   image_writer : (n : Node) → In n order → (c : Reference) → In c (outputs n) → In c cells → (parameters n.function).output ≡ kind.Image
-  image_writer n i c j among = one_kind (object_at ends c) (parameters n.function).output kind.Image (last_kinds objects nodes v h names n i (c, (parameters n.function).output) (output_operand n c j)) (ends_image c among)
+  image_writer n i c j among = one_kind (object_at ends c) (parameters n.function).output kind.Image (last_kinds g n i (c, (parameters n.function).output) (output_operand n c j)) (ends_image c among)
 
   -- the tables that nodes read stay
-  table_written : (n : Node) → In n order → (c : Reference) → n.in2 ≡ Some c → second_kind n ≢ kind.Image → is_written nodes c ≡ false
-  table_written n i c e other = false_from_ne_true (is_written nodes c) (λ w.
-      let m = In-from_any (λ (x : Node). writes x c) nodes w in
-      let j = in_steps objects nodes v h m.0 m.1 in
+  table_written : (n : Node) → In n order → (c : Reference) → n.in2 ≡ Some c → second_kind n ≢ kind.Image → is_written g.nodes c ≡ false
+  table_written n i c e other = false_from_ne_true (is_written g.nodes c) (λ w.
+      let m = In-from_any (λ (x : Node). writes x c) g.nodes w in
+      let j = in_steps g m.0 m.1 in
       let same : second_kind n ≡ (parameters m.0.function).output =
-      one_kind (object_at ends c) (second_kind n) (parameters m.0.function).output (last_kinds objects nodes v h names n i (c, second_kind n) (second_operand n c e))
-      (last_kinds objects nodes v h names m.0 j (c, (parameters m.0.function).output) (output_operand m.0 c (In-from_same c (outputs m.0) m.2))) in
+      one_kind (object_at ends c) (second_kind n) (parameters m.0.function).output (last_kinds g n i (c, second_kind n) (second_operand n c e))
+      (last_kinds g m.0 j (c, (parameters m.0.function).output) (output_operand m.0 c (In-from_same c (outputs m.0) m.2))) in
       let clash : true ≡ false = sym (output_kinds m.0.function) ∙ ap written_kind (sym same) ∙ second_kinds n.function other in
       cc)
 
@@ -207,12 +208,12 @@ module _ (objects : List NamedObject) (nodes : List Node) (v : Verified) (h : Is
       let none = table_written n i c e other in
       let named : names_cell n c ≡ true = operand_named n (c, second_kind n) (second_operand n c e) in
       let real : is_virtual_cell c ≡ false = false_from_ne_true (is_virtual_cell c) (λ yes_virtual.
-      let w = virtual_written h.runs.0 (is objects nodes v h) nodes (graph_can objects nodes v h) n c (in_nodes objects nodes v h n i) named yes_virtual in
+      let w = virtual_written g.ready.runs.0 (is g) g.nodes (graph_can g) n c (in_nodes g n i) named yes_virtual in
       let clash : true ≡ false = sym w ∙ none in
       cc) in
-      let kinds = first_kinds objects nodes v h names n i (c, second_kind n) (second_operand n c e) in
-      (solves objects nodes v h).others c none (λ delay. second_no_delay n.function (one_kind (object_at starts c) (second_kind n) kind.Delay kinds delay))
-      ∙ first_real objects nodes v h c (named_real objects nodes v h n i c named real)
+      let kinds = first_kinds g n i (c, second_kind n) (second_operand n c e) in
+      (solves g).others c none (λ delay. second_no_delay n.function (one_kind (object_at starts c) (second_kind n) kind.Delay kinds delay))
+      ∙ first_real g c (named_real g n i c named real)
 
   -- a node without an output image writes an object of the client
   pub tally_kept : (n : Node) → In n order → (parameters n.function).output ≢ kind.Image → (c : Reference) → n.out1 ≡ Some c
@@ -221,8 +222,8 @@ module _ (objects : List NamedObject) (nodes : List Node) (v : Verified) (h : Is
       let j : In c (outputs n) = in_outputs_at n First c e in
       let plain : is_virtual_cell c ≡ false = false_from_ne_true (is_virtual_cell c) (λ yes_virtual.
       (let none : In c [] = subst (In c) (have.images n i other) (In-filter is_virtual_cell c (outputs n) j yes_virtual) in none)) in
-      let real = named_real objects nodes v h n i c (named_by_output n c j) plain in
-      (real, ap (option_map object_kind) (sym (first_real objects nodes v h c real)) ∙ first_kinds objects nodes v h names n i (c, (parameters n.function).output) (output_operand n c j))
+      let real = named_real g n i c (named_by_output n c j) plain in
+      (real, ap (option_map object_kind) (sym (first_real g c real)) ∙ first_kinds g n i (c, (parameters n.function).output) (output_operand n c j))
 
   -- ---- the new value of an output
 
@@ -235,7 +236,7 @@ module _ (objects : List NamedObject) (nodes : List Node) (v : Verified) (h : Is
       let w : Reference × ObjectValue = (c, node_output n which (ImageObject a) (option_and_then (object_at ends) n.in2) (ImageObject b)) in
       let holds : object_at ends c ≡ Some w.1 =
       In-from_All (λ (x : Reference × ObjectValue). object_at ends x.0 ≡ Some x.1) (written_from (object_at starts) n (object_at ends))
-      (In-from_All (λ (m : Node). All (λ (x : Reference × ObjectValue). object_at ends x.0 ≡ Some x.1) (written_from (object_at starts) m (object_at ends))) nodes (solves objects nodes v h).written n (in_nodes objects nodes v h n i))
+      (In-from_All (λ (m : Node). All (λ (x : Reference × ObjectValue). object_at ends x.0 ≡ Some x.1) (written_from (object_at starts) m (object_at ends))) g.nodes (solves g).written n (in_nodes g n i))
       w (written_there n which c (object_at starts) (object_at ends) (ImageObject a) (ImageObject b) e read (starts_held c among)) in
       ap (λ (o : Option ObjectValue). image_value (unwrap_or o (ImageObject (new_image 0 0 U8)))) holds
 
@@ -247,59 +248,62 @@ module _ (objects : List NamedObject) (nodes : List Node) (v : Verified) (h : Is
     pub client : (c : Reference) → In c clients → block_images planes (index_of cells c) ≡ image_held objects c
     pub format : (c : Reference) → In c virtual → (block_images planes (index_of cells c)).format ≡ (image_held starts c).format
 
-  module _ (virtuals : List PlaneValue) (descs : map (λ (q : PlaneValue). q.desc) virtuals ≡ map (λ (o : VirtualOutput). o.desc) (outs objects nodes v h)) where
-    pub client_plane : (c : Reference) → In c clients → plane (planes_of objects order (outs objects nodes v h) virtuals) (index_of cells c) ≡ image_plane (image_held objects c)
+  module _ {blocks : List Samples} {planes : List PlaneValue} (t : ArePlanes objects v s blocks planes) where
+    pub client_plane : (c : Reference) → In c clients → plane (planes_of objects order (outs g) t.virtuals) (index_of cells c) ≡ image_plane (image_held objects c)
     client_plane c i =
         let k : ℕ = index_of clients c in
-        let at : index_of cells c ≡ length virtuals + k =
-        ap (λ (l : List Reference). index_of l c) (cells_parts order (outs objects nodes v h))
+        let at : index_of cells c ≡ length t.virtuals + k =
+        ap (λ (l : List Reference). index_of l c) (cells_parts order (outs g))
         ∙ index_behind virtual clients c (client_outside c i)
-        ∙ ap (λ (m : ℕ). m + k) (length-map (outs objects nodes v h) (λ (o : VirtualOutput). o.cell) ∙ sym (virtual_count virtuals (outs objects nodes v h) descs)) in
-        ap (plane (planes_of objects order (outs objects nodes v h) virtuals)) at
-        ∙ get_or-append-add virtuals (image_planes objects clients) k no_plane
+        ∙ ap (λ (m : ℕ). m + k) (length-map (outs g) (λ (o : VirtualOutput). o.cell) ∙ sym (virtual_count t.virtuals (outs g) t.descs)) in
+        ap (plane (planes_of objects order (outs g) t.virtuals)) at
+        ∙ get_or-append-add t.virtuals (image_planes objects clients) k no_plane
         ∙ get_or-map (λ (x : Reference). image_plane (image_held objects x)) clients k c no_plane (index_below clients c i)
         ∙ ap (λ (x : Reference). image_plane (image_held objects x)) (at_index clients c c i)
 
-    shown_format : (c : Reference) → In c virtual → (block_images (planes_of objects order (outs objects nodes v h) virtuals) (index_of cells c)).format ≡ (image_held starts c).format
+    shown_format : (c : Reference) → In c virtual → (block_images (planes_of objects order (outs g) t.virtuals) (index_of cells c)).format ≡ (image_held starts c).format
     shown_format c i =
-        let os : List VirtualOutput = outs objects nodes v h in
+        let os : List VirtualOutput = outs g in
         let o = In-from_map (λ (x : VirtualOutput). x.cell) c os i in
         let k : ℕ = index_of virtual c in
         let at : index_of cells c ≡ k = ap (λ (l : List Reference). index_of l c) (cells_parts order os) ∙ index_left virtual clients c i in
         let below : k < length os = omega (arith, index_below virtual c i, length-map os (λ (x : VirtualOutput). x.cell)) in
-        let within : k < length virtuals = omega (arith, below, virtual_count virtuals (outs objects nodes v h) descs) in
+        let within : k < length t.virtuals = omega (arith, below, virtual_count t.virtuals (outs g) t.descs) in
         let own : VirtualOutput = get_or os k o.0 in
         let cell : own.cell ≡ c = sym (get_or-map (λ (x : VirtualOutput). x.cell) os k o.0 c below) ∙ at_index virtual c c i in
         let inside : In own os = In-at os k o.0 below in
-        let desc : (plane (planes_of objects order (outs objects nodes v h) virtuals) (index_of cells c)).desc ≡ own.desc =
-        ap (λ (m : ℕ). (plane (planes_of objects order (outs objects nodes v h) virtuals) m).desc) at
-        ∙ ap (λ (q : PlaneValue). q.desc) (get_or_append_left virtuals (image_planes objects clients) no_plane k within)
-        ∙ sym (get_or-map (λ (q : PlaneValue). q.desc) virtuals k no_plane own.desc within)
-        ∙ ap (λ (l : List Description). get_or l k own.desc) descs
+        let desc : (plane (planes_of objects order (outs g) t.virtuals) (index_of cells c)).desc ≡ own.desc =
+        ap (λ (m : ℕ). (plane (planes_of objects order (outs g) t.virtuals) m).desc) at
+        ∙ ap (λ (q : PlaneValue). q.desc) (get_or_append_left t.virtuals (image_planes objects clients) no_plane k within)
+        ∙ sym (get_or-map (λ (q : PlaneValue). q.desc) t.virtuals k no_plane own.desc within)
+        ∙ ap (λ (l : List Description). get_or l k own.desc) t.descs
         ∙ get_or-map (λ (x : VirtualOutput). x.desc) os k o.0 own.desc below in
         let n = virtual_by c i in
-        let found = (first_stands objects nodes v h names).found n.0 c (in_nodes objects nodes v h n.0 n.1) (named_by_output n.0 c n.2) in
-        let known_as : known objects nodes v h c ≡ Image own.desc = ap (known objects nodes v h) (sym cell) ∙ output_known (is objects nodes v h) nodes v h.verified own inside in
+        let found = (first_stands g).found n.0 c (in_nodes g n.0 n.1) (named_by_output n.0 c n.2) in
+        let known_as : known g c ≡ Image own.desc = ap (known g) (sym cell) ∙ output_known (is g) g.nodes v g.ready.verified own inside in
         let image : Some (Image (description_of (image_held starts c))) ≡ Some (Image own.desc) =
         ap (option_map operand_of) (sym (starts_held c (virtual_there c i))) ∙ found ∙ ap (λ (x : Operand). Some x) known_as in
         ap (λ (d : Description). d.format) desc ∙ described_format (image_held starts c) own.desc image
 
-    pub show_images : ShowImages (planes_of objects order (outs objects nodes v h) virtuals)
+    pub show_images : ShowImages (planes_of objects order (outs g) t.virtuals)
     show_images =
         record {
-          count = plane_count objects order (outs objects nodes v h) virtuals descs;
+          count = plane_count objects order (outs g) t.virtuals t.descs;
           client = λ c i. ap block_image (client_plane c i);
           format = shown_format;
         }
 
   -- ---- the solution
 
-  module _ (radius : Node → ℕ) (planes : List PlaneValue) (show : ShowImages planes) where
+  abbrev radius : Node → ℕ
+  radius = radius_of objects s.high
+
+  module _ (planes : List PlaneValue) (show : ShowImages planes) where
     abbrev tasks : List Task
-    tasks = graph_tasks order (outs objects nodes v h) p radius
+    tasks = graph_tasks order (outs g) g.slots radius
 
     abbrev slots : List ℕ
-    slots = map (place_of p) (outs objects nodes v h)
+    slots = map (place_of g.slots) (outs g)
 
     abbrev tables : ℕ → Option ObjectValue
     tables = tables_of objects order
@@ -377,10 +381,10 @@ module _ (objects : List NamedObject) (nodes : List Node) (v : Verified) (h : Is
         let s = step_there cells slots radius order 0 0 n i image which.0 c which.1 in
         none (step_for cells slots radius s.0 n which.0 c) s.1 refl
 
-    client_unwritten : (c : Reference) → In c clients → IsUnwritten tasks (index_of cells c) → is_written nodes c ≡ false
-    client_unwritten c i none = false_from_ne_true (is_written nodes c) (λ w.
-        let m = In-from_any (λ (x : Node). writes x c) nodes w in
-        let j = in_steps objects nodes v h m.0 m.1 in
+    client_unwritten : (c : Reference) → In c clients → IsUnwritten tasks (index_of cells c) → is_written g.nodes c ≡ false
+    client_unwritten c i none = false_from_ne_true (is_written g.nodes c) (λ w.
+        let m = In-from_any (λ (x : Node). writes x c) g.nodes w in
+        let j = in_steps g m.0 m.1 in
         let k = In-from_same c (outputs m.0) m.2 in
         step_writes m.0 j (image_writer m.0 j c k (client_there c i)) c k none)
 
@@ -392,7 +396,7 @@ module _ (objects : List NamedObject) (nodes : List Node) (v : Verified) (h : Is
       | inl old ↦ (let n = virtual_by c old in absurd (step_writes n.0 n.1 n.3 c n.2 none))
       | inr client ↦
           ap (λ (o : Option ObjectValue). image_value (unwrap_or o (ImageObject (new_image 0 0 U8))))
-          ((solves objects nodes v h).others c (client_unwritten c client none) (no_delay_image c among) ∙ starts_client c client)
+          ((solves g).others c (client_unwritten c client none) (no_delay_image c among) ∙ starts_client c client)
           ∙ sym (show.client c client)
     ]
 
@@ -409,13 +413,13 @@ module _ (objects : List NamedObject) (nodes : List Node) (v : Verified) (h : Is
     ]
 
     -- the images that the graph leaves in the cells are a solution of its steps
-    pub solution : All (λ o. IsObject o.object) objects → All (λ (o : VirtualOutput). IsDescription o.desc) (outs objects nodes v h) → SolvesSteps tables (length planes) tasks (block_images planes) whole
-    solution are described = record { images = images; written = written; others = others }
+    pub solution : SolvesSteps tables (length planes) tasks (block_images planes) whole
+    solution = record { images = images; written = written; others = others }
       where
         images : (k : ℕ) → k < length planes → IsImage (whole k)
         images k below =
             let within : k < length cells = omega (arith, below, show.count) in
             let c : Reference = get_or cells k (reference_to 0) in
             let among : In c cells = In-at cells k (reference_to 0) within in
-            let is_image : IsImage (image_held ends c) = subst (λ (o : Option ObjectValue). IfSome o IsObject) (ends_held c among) (held_is ends c (last_lasts objects nodes v h names are described).objects) in
+            let is_image : IsImage (image_held ends c) = subst (λ (o : Option ObjectValue). IfSome o IsObject) (ends_held c among) (held_is ends c (last_lasts g).objects) in
             subst IsImage (sym (picked k (length cells) (image_held ends c) (block_images planes k) within)) is_image

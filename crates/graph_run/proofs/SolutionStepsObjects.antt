@@ -1,7 +1,7 @@
 -- The objects written back to a table after a run over planes are the result of the graph's run.
 use Rattle.std.proofs.Common.{◌≡◌, ◌≢◌, ℕ, ◌+◌, ◌<◌, ◌≤◌, true, false, List, [], ◌∷◌, ◌++◌, map, length, drop, get_or, refl, sym, ap, subst, ◌∙◌, inl, inr, arith, All, Option, Some, None, ◌⊎◌, unwrap_or, option_map, option_and_then}
 use Rattle.std.proofs.lemmas.List.{get_or-drop, length-append, length-drop, length-map}
-use Rattle.graph_run.proofs.Common.{cases_Bool, Reference, cell_object, objects_at_end, form_of, object_at, image_held, ImageObject, ImageValue, In, in_slot, In-append, In-at, In-from_any, In-from_same, In-left, In-right, IsDescription, IsObject, IsPlan, IsReady, is_virtual_object, is_written, IsStrictlyIncreasing, Kind, label_of, Lasts, NamedObject, optional_cells, Operand, names_of, Node, node_output, First, object_held, object_kind, ObjectValue, operand_held, option_or, outputs, parameters, place_of, PlanView, resolved_operand, run_of_graph, Verified, VirtualOutput, with_written, written_from, writes, operand_of}
+use Rattle.graph_run.proofs.Common.{cases_Bool, Reference, cell_object, objects_at_end, form_of, object_at, image_held, ImageObject, ImageValue, In, in_slot, In-append, In-at, In-from_any, In-from_same, In-left, In-right, is_virtual_object, is_written, Kind, label_of, Lasts, NamedObject, optional_cells, Operand, Node, node_output, First, object_held, object_kind, ObjectValue, operand_held, option_or, outputs, parameters, place_of, resolved_operand, run_of_graph, Samples, Verified, VirtualOutput, with_written, written_from, writes, operand_of}
 use Rattle.vx_base.specs.declared.kind.Kind.TheVariants as kind
 use Rattle.vx_base.specs.PartialDescription.{PartialDescription}
 use Rattle.graph_verify.specs.declared.operand.Operand.TheVariants.{Virtual}
@@ -9,10 +9,12 @@ use Rattle.graph_steps.specs.declared.tally.Tally.{Tally}
 use Rattle.graph_steps.specs.Planes.{PlaneValue, block_image, block_images, no_plane}
 use Rattle.graph_steps.specs.Program.{KeepsBlock, SolvesSteps}
 use Rattle.graph_steps.specs.Tallies.{IsNew, tally_at, tally_of}
+use Rattle.graph_run.specs.declared.schedule.Schedule.{Schedule}
 use Rattle.graph_run.specs.Bind.{plane_objects}
 use Rattle.graph_run.specs.Cells.{index_of}
-use Rattle.graph_run.specs.Program.{node_tallies, planes_of, tables_of, tallies_of, tally_by}
+use Rattle.graph_run.specs.Program.{node_tallies, planes_of, radius_of, tables_of, tallies_of, tally_by}
 use Rattle.graph_run.specs.Results.{Leaves, images_in, tally_cells, tally_object, tally_objects}
+use Rattle.graph_run.specs.Schedule.{ArePlanes, CanRunBy}
 use Rattle.graph_run.specs.Tasks.{graph_tasks}
 use Rattle.graph_run.proofs.BegunLaws.{both_held, kept_virtual, labels-forgotten, object_held-forgotten}
 use Rattle.graph_run.proofs.HeldLaws.{AreWrites, labels-with_written, last_to, seen, seen-with_written}
@@ -50,21 +52,21 @@ own_tally objects n c old new out there is own =
     ∙ ap (λ (o : Option Reference). tally_by (parameters n.function).output (cell_object objects (unwrap_or o n.in1))) (sym out)
     ∙ own
 
-module _ (objects : List NamedObject) (nodes : List Node) (v : Verified) (h : IsReady objects nodes v) (names : IsStrictlyIncreasing (names_of objects))
-    (are : All (λ o. IsObject o.object) objects) (described : All (λ (o : VirtualOutput). IsDescription o.desc) v.virtual_outputs) where
+module _ {objects : List NamedObject} {v : Verified} {s : Schedule} (g : CanRunBy objects v s) where
   -- the run leaves objects, and of each what lasts
-  pub run_lasts : Lasts objects (run_of_graph (resolved_operand (operand_held objects) nodes) nodes objects)
+  pub run_lasts : Lasts objects (run_of_graph (resolved_operand (operand_held objects) g.nodes) g.nodes objects)
   run_lasts =
-      let l = last_lasts objects nodes v h names are described in
+      let l = last_lasts g in
       record {
-        objects = forgotten_are objects _ are l.objects;
-        lasting = forgotten_lasting (resolved_operand (operand_held objects) nodes) nodes objects _ l.lasting;
+        objects = forgotten_are objects _ g.are l.objects;
+        lasting = forgotten_lasting (resolved_operand (operand_held objects) g.nodes) g.nodes objects _ l.lasting;
       }
 
-  module _ (p : PlanView) (plan : IsPlan v.steps v.virtual_outputs p) (radius : Node → ℕ)
-      (virtuals : List PlaneValue) (descs : map (λ (q : PlaneValue). q.desc) virtuals ≡ map (λ (o : VirtualOutput). o.desc) v.virtual_outputs)
-      (after : List PlaneValue) (counted : List Tally)
-      (leaves : Leaves (tables_of objects v.steps) (graph_tasks v.steps v.virtual_outputs p radius) (planes_of objects v.steps v.virtual_outputs virtuals) (tallies_of objects v.steps) after counted) where
+  module _ {blocks : List Samples} {first_planes : List PlaneValue} (t : ArePlanes objects v s blocks first_planes) {after : List PlaneValue} {counted : List Tally}
+      (leaves : Leaves (tables_of objects v.steps) (graph_tasks v.steps v.virtual_outputs g.slots (radius_of objects s.high)) (planes_of objects v.steps v.virtual_outputs t.virtuals) (tallies_of objects v.steps) after counted) where
+    abbrev radius : Node → ℕ
+    radius = radius_of objects s.high
+
     abbrev pub outs : List VirtualOutput
     outs = v.virtual_outputs
 
@@ -72,31 +74,31 @@ module _ (objects : List NamedObject) (nodes : List Node) (v : Verified) (h : Is
     steps = v.steps
 
     abbrev pub all : List Reference
-    all = cells objects nodes v h names p plan
+    all = cells g
 
     abbrev pub theirs : List Reference
-    theirs = clients objects nodes v h names p plan
+    theirs = clients g
 
     abbrev pub last : List NamedObject
-    last = ends objects nodes v h names p plan
+    last = ends g
 
     abbrev pub first : List NamedObject
-    first = starts objects nodes v h names p plan
+    first = starts g
 
     abbrev pub planes : List PlaneValue
-    planes = planes_of objects steps outs virtuals
+    planes = planes_of objects steps outs t.virtuals
 
     abbrev pub whole : ℕ → ImageValue
     whole = images_in last all (block_images planes)
 
-    pub show_all : ShowImages objects nodes v h names p plan planes
-    show_all = show_images objects nodes v h names p plan virtuals descs
+    pub show_all : ShowImages g planes
+    show_all = show_images g t
 
-    solved : SolvesSteps (tables_of objects steps) (length planes) (graph_tasks steps outs p radius) (block_images planes) whole
-    solved = solution objects nodes v h names p plan radius planes show_all are described
+    solved : SolvesSteps (tables_of objects steps) (length planes) (graph_tasks steps outs g.slots radius) (block_images planes) whole
+    solved = solution g planes show_all
 
     whole_of : (c : Reference) → In c all → whole (index_of all c) ≡ image_held last c
-    whole_of c i = whole_at objects nodes v h names p plan radius planes show_all c i
+    whole_of c i = whole_at g planes show_all c i
 
     -- the values written back are the result of the run, and not virtual images
     pub record IsLeft (w : Reference × ObjectValue) : Type 0 where
@@ -110,15 +112,15 @@ module _ (objects : List NamedObject) (nodes : List Node) (v : Verified) (h : Is
     theirs_count =
         omega (arith, ap length (cells_parts steps outs), length-append (map (λ (o : VirtualOutput). o.cell) outs) theirs, length-map outs (λ (o : VirtualOutput). o.cell))
 
-    pub theirs_keep : (k : ℕ) → k < length theirs → KeepsBlock (length planes) (graph_tasks steps outs p radius) (length outs + k)
+    pub theirs_keep : (k : ℕ) → k < length theirs → KeepsBlock (length planes) (graph_tasks steps outs g.slots radius) (length outs + k)
     theirs_keep k below =
-        turns_kept (map (place_of p) outs) (graph_tasks steps outs p radius) (turns steps outs p _ (have objects nodes v h names p plan) radius) (length planes) (length outs + k)
-        (omega (arith, length-map outs (place_of p))) (omega (arith, below, theirs_count, show_all.count))
+        turns_kept (map (place_of g.slots) outs) (graph_tasks steps outs g.slots radius) (turns steps outs g.slots _ (have g) radius) (length planes) (length outs + k)
+        (omega (arith, length-map outs (place_of g.slots))) (omega (arith, below, theirs_count, show_all.count))
 
     pub theirs_index : (k : ℕ) (d : Reference) → k < length theirs → index_of all (get_or theirs k d) ≡ length outs + k
     theirs_index k d below =
         let within : length outs + k < length all = omega (arith, below, theirs_count) in
-        ap (index_of all) (get_or-drop (length outs) all k d) ∙ index_at all (length outs + k) d (cells_once objects nodes v h names p plan) within
+        ap (index_of all) (get_or-drop (length outs) all k d) ∙ index_at all (length outs + k) d (cells_once g) within
 
     image_left : (w : Reference × ObjectValue) → In w (plane_objects theirs (drop (length outs) after)) → IsLeft w
     image_left w i =
@@ -127,41 +129,41 @@ module _ (objects : List NamedObject) (nodes : List Node) (v : Verified) (h : Is
         let at : ℕ = length outs + k in
         let c : Reference = get_or theirs k w.0 in
         let inside : In c theirs = In-at theirs k w.0 r.1 in
-        let among : In c all = client_there objects nodes v h names p plan c inside in
+        let among : In c all = client_there g c inside in
         let image : block_image (get_or (drop (length outs) after) k no_plane) ≡ image_held last c =
         ap block_image (get_or-drop (length outs) after k no_plane) ∙ leaves.images whole solved at (theirs_keep k r.1) ∙ ap whole (sym (theirs_index k w.0 r.1)) ∙ whole_of c among in
         let is_w : w ≡ (c, ImageObject (image_held last c)) = r.2 ∙ ap (λ (a : ImageValue). let pair : Reference × ObjectValue = (c, ImageObject a) in pair) image in
         subst IsLeft (sym is_w)
-        (record { left = ends_held objects nodes v h names p plan c among; real = image_real objects c (client_image objects nodes v h names p plan c inside); plain = refl })
+        (record { left = ends_held g c among; real = image_real objects c (client_image g c inside); plain = refl })
 
     -- ---- tallies
 
     -- the tally at an index, of a node that writes no image: that of the image that the node reads
-    pub record IsTallied (t : ℕ) : Type 0 where
+    pub record IsTallied (place : ℕ) : Type 0 where
       pub node : Node
       pub inside : In node steps
       pub other : (parameters node.function).output ≢ kind.Image
       pub cell : Reference
       pub out : node.out1 ≡ Some cell
-      pub at : (d : Reference) → get_or (tally_cells steps) t d ≡ cell
+      pub at : (d : Reference) → get_or (tally_cells steps) place d ≡ cell
       pub real : (x : ObjectValue) → object_held objects cell.name ≡ Some x → is_virtual_object x ≡ false
       pub old : ObjectValue
       pub held_before : object_at objects cell ≡ Some old
       pub kind_is : object_kind old ≡ (parameters node.function).output
-      pub own : tally_by (object_kind old) old ≡ tally_at (tallies_of objects steps) t ∷ []
-      pub tallied : tally_at counted t ≡ tally_of (image_held last node.in1) (tally_at (tallies_of objects steps) t)
+      pub own : tally_by (object_kind old) old ≡ tally_at (tallies_of objects steps) place ∷ []
+      pub tallied : tally_at counted place ≡ tally_of (image_held last node.in1) (tally_at (tallies_of objects steps) place)
 
-    pub tally_facts : (t : ℕ) → t < length (tally_cells steps) → IsTallied t
-    tally_facts t below =
-        let r = reduction_at all (map (place_of p) outs) radius objects steps 0 0 t below in
+    pub tally_facts : (place : ℕ) → place < length (tally_cells steps) → IsTallied place
+    tally_facts place below =
+        let r = reduction_at all (map (place_of g.slots) outs) radius objects steps 0 0 place below in
         let n : Node = r.node in
-        let out = one_output n (is_node_of objects nodes v h n r.inside).shape r.other in
+        let out = one_output n (is_node_of g n r.inside).shape r.other in
         let c : Reference = out.0 in
-        let index : r.index ≡ t = omega (arith, r.same) in
-        let kept = tally_kept objects nodes v h names p plan n r.inside r.other c out.1 in
+        let index : r.index ≡ place = omega (arith, r.same) in
+        let kept = tally_kept g n r.inside r.other c out.1 in
         let old = some_kind (object_at objects c) (parameters n.function).output kept.1 in
-        let own : tally_by (object_kind old.0) old.0 ≡ tally_at (tallies_of objects steps) t ∷ [] = own_tally objects n c old.0 (tally_at (tallies_of objects steps) t) out.1 old.1 old.2 (r.new _) in
-        let new : IsNew (tally_at (tallies_of objects steps) r.index) = subst (λ (k : ℕ). IsNew (tally_at (tallies_of objects steps) k)) (sym index) (tally_is_new (object_kind old.0) old.0 (tally_at (tallies_of objects steps) t) own) in
+        let own : tally_by (object_kind old.0) old.0 ≡ tally_at (tallies_of objects steps) place ∷ [] = own_tally objects n c old.0 (tally_at (tallies_of objects steps) place) out.1 old.1 old.2 (r.new _) in
+        let new : IsNew (tally_at (tallies_of objects steps) r.index) = subst (λ (k : ℕ). IsNew (tally_at (tallies_of objects steps) k)) (sym index) (tally_is_new (object_kind old.0) old.0 (tally_at (tallies_of objects steps) place) own) in
         record {
           node = n;
           inside = r.inside;
@@ -178,7 +180,7 @@ module _ (objects : List NamedObject) (nodes : List Node) (v : Verified) (h : Is
               ap (tally_at counted) (sym index)
               ∙ leaves.reductions whole solved (record { input = index_of all n.in1; tally = r.index }) r.task new
               ∙ ap (λ (k : ℕ). tally_of (whole (index_of all n.in1)) (tally_at (tallies_of objects steps) k)) index
-              ∙ ap (λ (b : ImageValue). tally_of b (tally_at (tallies_of objects steps) t)) (whole_of n.in1 (cell_there objects nodes v h names p plan n r.inside n.in1 (inl refl)));
+              ∙ ap (λ (b : ImageValue). tally_of b (tally_at (tallies_of objects steps) place)) (whole_of n.in1 (cell_there g n r.inside n.in1 (inl refl)));
         }
 
     tally_left : (w : Reference × ObjectValue) → In w (tally_objects (tally_cells steps) counted) → IsLeft w
@@ -186,12 +188,12 @@ module _ (objects : List NamedObject) (nodes : List Node) (v : Verified) (h : Is
         let back = tally_back (tally_cells steps) counted w i in
         let r : IsTallied back.0 = tally_facts back.0 back.1 in
         let n : Node = r.node in
-        let read = ends_held objects nodes v h names p plan n.in1 (cell_there objects nodes v h names p plan n r.inside n.in1 (inl refl)) in
+        let read = ends_held g n.in1 (cell_there g n r.inside n.in1 (inl refl)) in
         let made : Reference × ObjectValue = (r.cell, node_output n First (ImageObject (image_held last n.in1)) (option_and_then (object_at last) n.in2) r.old) in
         let holds : object_at last r.cell ≡ Some made.1 =
         In-from_All (λ (x : Reference × ObjectValue). object_at last x.0 ≡ Some x.1) (written_from (object_at first) n (object_at last))
-        (In-from_All (λ (m : Node). All (λ (x : Reference × ObjectValue). object_at last x.0 ≡ Some x.1) (written_from (object_at first) m (object_at last))) nodes (solves objects nodes v h).written n (in_nodes objects nodes v h n r.inside))
-        made (written_there n First r.cell (object_at first) (object_at last) (ImageObject (image_held last n.in1)) r.old r.out read (first_real objects nodes v h r.cell r.real ∙ r.held_before)) in
+        (In-from_All (λ (m : Node). All (λ (x : Reference × ObjectValue). object_at last x.0 ≡ Some x.1) (written_from (object_at first) m (object_at last))) g.nodes (solves g).written n (in_nodes g n r.inside))
+        made (written_there n First r.cell (object_at first) (object_at last) (ImageObject (image_held last n.in1)) r.old r.out read (first_real g r.cell r.real ∙ r.held_before)) in
         let counted_as : made.1 ≡ tally_object (tally_at counted back.0) =
         tally_output n First (image_held last n.in1) (option_and_then (object_at last) n.in2) r.old (tally_at (tallies_of objects steps) back.0)
         (subst (λ (k : Kind). (k ≡ kind.Distribution) ⊎ (k ≡ kind.Extremes)) (sym r.kind_is) (counted_kind n.function r.other)) r.own
@@ -219,18 +221,18 @@ module _ (objects : List NamedObject) (nodes : List Node) (v : Verified) (h : Is
         let l = all_left w i in
         record {
           form =
-              ap (option_map form_of) (sym (first_real objects nodes v h w.0 l.real))
-              ∙ sym ((solves objects nodes v h).forms w.0)
+              ap (option_map form_of) (sym (first_real g w.0 l.real))
+              ∙ sym ((solves g).forms w.0)
               ∙ ap (option_map form_of) l.left;
           whole = l.plain;
         }
 
     -- a virtual image that a node writes is one as an object
-    virtual_object : (c : Reference) → In c (virtual objects nodes v h names p plan) → ((x : ObjectValue) → object_held objects c.name ≡ Some x → is_virtual_object x ≡ false) → ⊥
+    virtual_object : (c : Reference) → In c (virtual g) → ((x : ObjectValue) → object_held objects c.name ≡ Some x → is_virtual_object x ≡ false) → ⊥
     virtual_object c i real =
-        let n = virtual_by objects nodes v h names p plan c i in
-        let found = h.cells.found n.0 c (in_nodes objects nodes v h n.0 n.1) (named_by_output n.0 c n.2) in
-        let partial_desc = outline_of_virtual (is objects nodes v h c) (virtual_is objects nodes v h names p plan c i) in
+        let n = virtual_by g c i in
+        let found = g.ready.cells.found n.0 c (in_nodes g n.0 n.1) (named_by_output n.0 c n.2) in
+        let partial_desc = outline_of_virtual (is g c) (virtual_is g c i) in
         no_virtual (object_held objects c.name) partial_desc.0 found partial_desc.1 real
       where
         no_virtual : (o : Option ObjectValue) (declared : PartialDescription) → option_map operand_of (option_and_then (in_slot c.slot) o) ≡ Some (operand_held objects c) → operand_held objects c ≡ Virtual declared
@@ -245,7 +247,7 @@ module _ (objects : List NamedObject) (nodes : List Node) (v : Verified) (h : Is
     comes : (n : Node) → In n steps → (c : Reference) → In c (outputs n) → ((x : ObjectValue) → object_held objects c.name ≡ Some x → is_virtual_object x ≡ false)
         → (x : ObjectValue) × In (c, x) (images ++ tallies)
     comes n i c j real = elim (image_or (parameters n.function).output) [
-      | inl image ↦ elim (virtual_or objects nodes v h names p plan c (cell_there objects nodes v h names p plan n i c (image_named n c image j))) [
+      | inl image ↦ elim (virtual_or g c (cell_there g n i c (image_named n c image j))) [
         | inl old ↦ absurd (virtual_object c old real)
         | inr client ↦
             (let enough : length theirs ≤ length (drop (length outs) after) = omega (arith, length-drop (length outs) after, theirs_count, leaves.planes_count, show_all.count) in
@@ -253,7 +255,7 @@ module _ (objects : List NamedObject) (nodes : List Node) (v : Verified) (h : Is
             (x.0, In-left (c, x.0) images tallies x.1))
       ]
       | inr other ↦
-          (let out = one_output n (is_node_of objects nodes v h n i).shape other in
+          (let out = one_output n (is_node_of g n i).shape other in
           let inside : In (unwrap_or n.out1 n.in1) (tally_cells steps) = tally_there steps n i other in
           let same : unwrap_or n.out1 n.in1 ≡ c = only_output n.out1 n.out2 out.0 out.1 out.2 j in
           let enough : length (tally_cells steps) ≤ length counted = omega (arith, leaves.tallies_count, tally_count objects steps) in
@@ -270,7 +272,7 @@ module _ (objects : List NamedObject) (nodes : List Node) (v : Verified) (h : Is
     -- ---- each cell
 
     labels_end : map label_of objects ≡ map label_of last
-    labels_end = sym (last_labels objects nodes v h)
+    labels_end = sym (last_labels g)
 
     forgotten_held : (c : Reference) → object_at (objects_at_end objects last) c ≡ option_and_then (in_slot c.slot) (kept_virtual (object_held objects c.name) (object_held last c.name))
     forgotten_held c = ap (option_and_then (in_slot c.slot)) (object_held-forgotten objects last labels_end c.name)
@@ -291,12 +293,12 @@ module _ (objects : List NamedObject) (nodes : List Node) (v : Verified) (h : Is
 
     -- objects that no node writes are as before, and all others were written back
     untouched : (c : Reference) → ((x : ObjectValue) → object_held objects c.name ≡ Some x → is_virtual_object x ≡ false) → last_to c (images ++ tallies) ≡ None → seen objects c ≡ seen last c
-    untouched c real none = elim (cases_Bool (is_written nodes c)) [
+    untouched c real none = elim (cases_Bool (is_written g.nodes c)) [
       | inl w ↦
-          (let n = In-from_any (λ (m : Node). writes m c) nodes w in
-          let x = comes n.0 (in_steps objects nodes v h n.0 n.1) c (In-from_same c (outputs n.0) n.2) real in
+          (let n = In-from_any (λ (m : Node). writes m c) g.nodes w in
+          let x = comes n.0 (in_steps g n.0 n.1) c (In-from_same c (outputs n.0) n.2) real in
           absurd (last_some c x.0 (images ++ tallies) x.1 none))
-      | inr w ↦ ap (option_map shown) (sym (first_real objects nodes v h c real)) ∙ sym (unwritten_seen objects nodes v h c w)
+      | inr w ↦ ap (option_map shown) (sym (first_real g c real)) ∙ sym (unwritten_seen g c w)
     ]
 
     seen_real : (c : Reference) → ((x : ObjectValue) → object_held objects c.name ≡ Some x → is_virtual_object x ≡ false) → seen (with_written objects (images ++ tallies)) c ≡ seen (objects_at_end objects last) c
@@ -319,8 +321,8 @@ module _ (objects : List NamedObject) (nodes : List Node) (v : Verified) (h : Is
           | inr plain ↦ seen_real c (λ x there. (let same : ◌≡◌ {A = Option ObjectValue} (Some y) (Some x) = sym e ∙ there in let one : y ≡ x = cc in ap is_virtual_object (sym one) ∙ plain))
         ]
 
-    pub returns : with_written objects (images ++ tallies) ≡ run_of_graph (resolved_operand (operand_held objects) nodes) nodes objects
+    pub returns : with_written objects (images ++ tallies) ≡ run_of_graph (resolved_operand (operand_held objects) g.nodes) g.nodes objects
     returns =
         let kept : map label_of (with_written objects (images ++ tallies)) ≡ map label_of objects = labels-with_written (images ++ tallies) objects in
-        same_objects (with_written objects (images ++ tallies)) (objects_at_end objects last) (subst Rising (sym kept) (rising objects (pairs_of objects names)))
+        same_objects (with_written objects (images ++ tallies)) (objects_at_end objects last) (subst Rising (sym kept) (rising objects (pairs_of objects g.names)))
         (kept ∙ labels_end ∙ sym (labels-forgotten objects last labels_end)) seen_same

@@ -1,17 +1,19 @@
 -- The table of a graph's objects while the samples of its images are in planes, and when they move back.
-use Rattle.std.proofs.Common.{◌≡◌, ◌≢◌, ℕ, suc, ◌+◌, ◌<◌, ◌≤◌, List, [], ◌∷◌, map, length, drop, get_or, refl, sym, ap, subst, ◌∙◌, inl, inr, arith, All, Option, Some, None, ◌⊎◌, IfSome, unwrap_or, option_map, option_and_then}
+use Rattle.std.proofs.Common.{◌≡◌, ◌≢◌, ℕ, suc, ◌+◌, ◌<◌, ◌≤◌, List, [], ◌∷◌, map, length, drop, get_or, refl, sym, ap, subst, ◌∙◌, inl, inr, arith, Option, Some, None, ◌⊎◌, IfSome, unwrap_or, option_map, option_and_then}
 use Rattle.std.proofs.lemmas.List.{get_or-drop, length-drop}
-use Rattle.graph_run.proofs.Common.{Reference, Function, object_at, HoldsImage, HoldsKind, image_held, ImageObject, ImageValue, In, In-at, IsDescription, IsObject, IsPlan, IsReady, IsStrictlyIncreasing, Kind, kind_in, NamedObject, names_of, Node, object_kind, ObjectValue, operand_held, option_or, PlanView, resolved_operand, run_of_graph, second_kind, Verified, VirtualOutput, with_written, description_of, parameters, U8, new_image, image_value, distribution_value, DistributionObject, ExtremesObject}
+use Rattle.graph_run.proofs.Common.{Reference, Function, object_at, HoldsImage, HoldsKind, image_held, ImageObject, ImageValue, In, In-at, Kind, kind_in, NamedObject, Node, object_kind, ObjectValue, operand_held, option_or, resolved_operand, run_of_graph, Samples, second_kind, Verified, with_written, description_of, parameters, U8, new_image, image_value, distribution_value, DistributionObject, ExtremesObject}
 use Rattle.vx_base.specs.declared.kind.Kind.TheVariants as kind
 use Rattle.graph_steps.specs.declared.tally.Tally.{Tally}
 use Rattle.graph_steps.specs.declared.tally.Tally.TheVariants as tally
 use Rattle.graph_steps.specs.Tallies.{tally_at, tally_of}
 use Rattle.vx_base.specs.Object.{new_distribution, no_extremes}
 use Rattle.graph_steps.specs.Planes.{PlaneValue, no_plane, plane}
+use Rattle.graph_run.specs.declared.schedule.Schedule.{Schedule}
 use Rattle.graph_run.specs.Bind.{AreFor, HoldImages, bare_images, plane_objects, without_samples}
 use Rattle.graph_run.specs.Bound.{AreTalliesFor, IsLent, IsTallyFor, KeepTallies, KeepsTally, LendTables}
-use Rattle.graph_run.specs.Program.{client_cells, node_table, planes_of, table_by, tables_of, tallies_of, tally_by}
+use Rattle.graph_run.specs.Program.{client_cells, node_table, planes_of, radius_of, table_by, tables_of, tallies_of, tally_by}
 use Rattle.graph_run.specs.Results.{Leaves, last_objects, tally_cells, tally_objects}
+use Rattle.graph_run.specs.Schedule.{ArePlanes, CanRunBy}
 use Rattle.graph_run.specs.Tasks.{graph_cells, graph_tasks}
 use Rattle.graph_run.proofs.BindLemmas.{bare_written, out_and_back, planes_written}
 use Rattle.graph_run.proofs.OutputLemmas.{length-histogram}
@@ -110,20 +112,19 @@ map_alike f g (n ∷ ns) same = ap (λ x. x ∷ map f ns) (same n (inl refl)) �
 lent_kinds : (f : Function) → unwrap_or (parameters f).second_input kind.Image ≢ kind.Image → IsLent (unwrap_or (parameters f).second_input kind.Image)
 lent_kinds f other = grind arith
 
-module _ (objects : List NamedObject) (nodes : List Node) (v : Verified) (h : IsReady objects nodes v) (names : IsStrictlyIncreasing (names_of objects))
-    (p : PlanView) (plan : IsPlan v.steps v.virtual_outputs p) where
+module _ {objects : List NamedObject} {v : Verified} {s : Schedule} (g : CanRunBy objects v s) where
   abbrev theirs : List Reference
   theirs = client_cells v.steps v.virtual_outputs
 
   hold : HoldImages objects theirs
-  hold = client_image objects nodes v h names p plan
+  hold = client_image g
 
   abbrev bare : List NamedObject
   bare = with_written objects (bare_images objects theirs)
 
   table_kind : (n : Node) → In n v.steps → (c : Reference) → n.in2 ≡ Some c → second_kind n ≢ kind.Image → HoldsKind objects (c, second_kind n)
   table_kind n i c e other =
-      ap (option_map object_kind) (sym (table_stays objects nodes v h names p plan n i c e other)) ∙ last_kinds objects nodes v h names n i (c, second_kind n) (second_operand n c e)
+      ap (option_map object_kind) (sym (table_stays g n i c e other)) ∙ last_kinds g n i (c, second_kind n) (second_operand n c e)
 
   table_same : (n : Node) → In n v.steps → node_table bare n ≡ node_table objects n
   table_same n i = by_kind (second_kind n) n.in2 refl refl
@@ -171,8 +172,8 @@ module _ (objects : List NamedObject) (nodes : List Node) (v : Verified) (h : Is
   tallies_kept =
       All-from_In (λ (n : Node). KeepsTally objects (parameters n.function).output (unwrap_or n.out1 n.in1)) v.steps (λ n i.
       keeps_tally objects (parameters n.function).output (unwrap_or n.out1 n.in1) (λ other.
-      (let out = one_output n (is_node_of objects nodes v h n i).shape other in (
-        subst (λ (o : Option Reference). HoldsKind objects (unwrap_or o n.in1, (parameters n.function).output)) (sym out.1) (tally_kept objects nodes v h names p plan n i other out.0 out.1).1,
+      (let out = one_output n (is_node_of g n i).shape other in (
+        subst (λ (o : Option Reference). HoldsKind objects (unwrap_or o n.in1, (parameters n.function).output)) (sym out.1) (tally_kept g n i other out.0 out.1).1,
         counted_kind n.function other,
       ))))
 
@@ -206,12 +207,9 @@ tallies_each l (c ∷ cells) (t ∷ tallies) enough each = (each 0 c (omega arit
 
 -- ---- moving back
 
-module _ (objects : List NamedObject) (nodes : List Node) (v : Verified) (h : IsReady objects nodes v) (names : IsStrictlyIncreasing (names_of objects))
-    (are : All (λ o. IsObject o.object) objects) (described : All (λ (o : VirtualOutput). IsDescription o.desc) v.virtual_outputs)
-    (p : PlanView) (plan : IsPlan v.steps v.virtual_outputs p) (radius : Node → ℕ)
-    (virtuals : List PlaneValue) (descs : map (λ (q : PlaneValue). q.desc) virtuals ≡ map (λ (o : VirtualOutput). o.desc) v.virtual_outputs)
-    (after : List PlaneValue) (counted : List Tally)
-    (leaves : Leaves (tables_of objects v.steps) (graph_tasks v.steps v.virtual_outputs p radius) (planes_of objects v.steps v.virtual_outputs virtuals) (tallies_of objects v.steps) after counted) where
+module _ {objects : List NamedObject} {v : Verified} {s : Schedule} (g : CanRunBy objects v s)
+    {blocks : List Samples} {planes : List PlaneValue} (t : ArePlanes objects v s blocks planes) {after : List PlaneValue} {counted : List Tally}
+    (leaves : Leaves (tables_of objects v.steps) (graph_tasks v.steps v.virtual_outputs g.slots (radius_of objects s.high)) (planes_of objects v.steps v.virtual_outputs t.virtuals) (tallies_of objects v.steps) after counted) where
   abbrev first_client : ℕ
   first_client = length v.virtual_outputs
 
@@ -219,23 +217,23 @@ module _ (objects : List NamedObject) (nodes : List Node) (v : Verified) (h : Is
   back = drop first_client after
 
   abbrev clients : List Reference
-  clients = theirs objects nodes v h names p plan
+  clients = theirs g
 
   abbrev out : List NamedObject
-  out = bare objects nodes v h names p plan
+  out = bare g
 
   abbrev came : List NamedObject
   came = with_written out (plane_objects clients back)
 
   holding : HoldImages objects clients
-  holding = hold objects nodes v h names p plan
+  holding = hold g
 
   total : first_client + length clients ≡ length (graph_cells v.steps v.virtual_outputs)
-  total = theirs_count objects nodes v h names are described p plan radius virtuals descs after counted leaves
+  total = theirs_count g t leaves
 
   enough_back : length clients ≤ length back
   enough_back =
-      omega (arith, length-drop first_client after, total, leaves.planes_count, (show_all objects nodes v h names are described p plan radius virtuals descs after counted leaves).count)
+      omega (arith, length-drop first_client after, total, leaves.planes_count, (show_all g t leaves).count)
 
   planes_for : AreFor objects clients back
   planes_for = for_each objects clients back enough_back each
@@ -246,12 +244,12 @@ module _ (objects : List NamedObject) (nodes : List Node) (v : Verified) (h : Is
           let at : ℕ = first_client + k in
           let c : Reference = get_or clients k d in
           let there : get_or back k no_plane ≡ plane after at = get_or-drop first_client after k no_plane in
-          let index = theirs_index objects nodes v h names are described p plan radius virtuals descs after counted leaves k d below in
-          let keeps = theirs_keep objects nodes v h names are described p plan radius virtuals descs after counted leaves k below in (
+          let index = theirs_index g t leaves k d below in
+          let keeps = theirs_keep g t leaves k below in (
             ap (λ (q : PlaneValue). q.desc) there
                 ∙ leaves.descs at
-                ∙ ap (λ (m : ℕ). (plane (planes_of objects v.steps v.virtual_outputs virtuals) m).desc) (sym index)
-                ∙ ap (λ (q : PlaneValue). q.desc) (client_plane objects nodes v h names p plan virtuals descs c (In-at clients k d below)),
+                ∙ ap (λ (m : ℕ). (plane (planes_of objects v.steps v.virtual_outputs t.virtuals) m).desc) (sym index)
+                ∙ ap (λ (q : PlaneValue). q.desc) (client_plane g t c (In-at clients k d below)),
             subst (λ (q : PlaneValue). q.format ≡ q.desc.format) (sym there) (leaves.whole at keeps).format,
           )
 
@@ -263,11 +261,11 @@ module _ (objects : List NamedObject) (nodes : List Node) (v : Verified) (h : Is
   back_for = taken_for objects clients holding clients back (λ c i. i) planes_for
 
   came_is : came ≡ with_written objects (plane_objects clients back)
-  came_is = out_and_back objects clients back (pairs_of objects names) holding planes_for
+  came_is = out_and_back objects clients back (pairs_of objects g.names) holding planes_for
 
   -- the tallies are of objects that are still there
-  tally_held : (t : ℕ) → (below : t < length (tally_cells v.steps)) → (r : IsTallied objects nodes v h names are described p plan radius virtuals descs after counted leaves t) → object_at came r.cell ≡ Some r.old
-  tally_held t below r =
+  tally_held : (k : ℕ) → (below : k < length (tally_cells v.steps)) → (r : IsTallied g t leaves k) → object_at came r.cell ≡ Some r.old
+  tally_held k below r =
       ap (λ (l : List NamedObject). object_at l r.cell) came_is
       ∙ same_elsewhere objects (plane_objects clients back) (planes_written objects clients back holding planes_for) r.cell
       (last_none r.cell (plane_objects clients back) (λ w i e.
@@ -283,14 +281,14 @@ module _ (objects : List NamedObject) (nodes : List Node) (v : Verified) (h : Is
   pub back_tallies : AreTalliesFor came (tally_cells v.steps) counted
   back_tallies =
       tallies_each came (tally_cells v.steps) counted (omega (arith, leaves.tallies_count, tally_count objects v.steps)) (λ k d below.
-      (let r = tally_facts objects nodes v h names are described p plan radius virtuals descs after counted leaves k below in
+      (let r = tally_facts g t leaves k below in
       subst (λ (c : Reference). IsTallyFor came c (tally_at counted k)) (sym (r.at d))
-      (tally_for came r.cell r.old (image_held (last_objects objects nodes) r.node.in1) (tally_at (tallies_of objects v.steps) k) (tally_at counted k) (tally_held k below r)
+      (tally_for came r.cell r.old (image_held (last_objects objects g.nodes) r.node.in1) (tally_at (tallies_of objects v.steps) k) (tally_at counted k) (tally_held k below r)
       (subst (λ (x : Kind). (x ≡ kind.Distribution) ⊎ (x ≡ kind.Extremes)) (sym r.kind_is) (counted_kind r.node.function r.other)) r.own r.tallied)))
 
   -- all values written back together are the result of the run
-  pub value : with_written came (tally_objects (tally_cells v.steps) counted) ≡ run_of_graph (resolved_operand (operand_held objects) nodes) nodes objects
+  pub value : with_written came (tally_objects (tally_cells v.steps) counted) ≡ run_of_graph (resolved_operand (operand_held objects) g.nodes) g.nodes objects
   value =
       ap (λ (l : List NamedObject). with_written l (tally_objects (tally_cells v.steps) counted)) came_is
       ∙ sym (with_written-append objects (plane_objects clients back) (tally_objects (tally_cells v.steps) counted))
-      ∙ returns objects nodes v h names are described p plan radius virtuals descs after counted leaves
+      ∙ returns g t leaves

@@ -1,6 +1,6 @@
 -- Blocks that planes of virtual images have, and that they leave to their slots.
 use Rattle.std.proofs.Common.{Bool, true, false, zero, suc, eqb-true, eq-eqb, ◌≡◌, ◌≢◌, ℕ, ◌+◌, ◌≤◌, ◌<◌, ◌==◌, List, [], ◌∷◌, ◌++◌, length, drop, map, take, get_or, slice_set, refl, sym, ap, ◌∙◌, arith, if◌then◌else◌, is_none, not, Option, Some, None}
-use Rattle.std.proofs.lemmas.List.{map-set, ext_get_or, get_or_default, get_or-map, get_or-set_other, get_or-set_same, length-map, take_more}
+use Rattle.std.proofs.lemmas.List.{map-set, get_or_default, get_or-map, get_or-set_other, get_or-set_same, length-map, take_more}
 use Rattle.std.proofs.lemmas.List.FromFn.{map-range_with_len_more}
 use Rattle.graph_run.proofs.Common.{list_any, range_with_len, map-append, nat_tests, Format, U8, Samples, samples_format, values, VirtualOutput}
 use Rattle.graph_steps.specs.Planes.{PlaneValue, no_plane, plane}
@@ -139,26 +139,6 @@ back_stays slots blocks sizes k other before s j there below = before s j there 
         let last : last_in (get_or slots k 0) slots ≡ Some j = ap (λ x. last_in x slots) at ∙ there in
         let is : is_at k (last_in (get_or slots k 0) slots) ≡ true = ap (is_at k) last ∙ eq-eqb j k same in
         grind (arith, is, other)
-
--- before a run the last image in a slot has its block
-full_block : (slots : List ℕ) (rooms : ℕ → Format × ℕ) (s k : ℕ) → last_in s slots ≡ Some k → block_at slots rooms 0 k ≡ rooms s
-full_block slots rooms s k last =
-    let t = get_or slots k 0 in
-    let at : t ≡ s = (last_below s slots k 0 last).1 in
-    let is : is_at k (last_in t slots) ≡ true = ap (λ x. is_at k (last_in x slots)) at ∙ ap (is_at k) last ∙ eq-eqb k k refl in
-    ap (λ (here : Bool). ((rooms t).0, (if here then (rooms t).1 else 0))) is ∙ ap rooms at
-
--- once all have, each slot has its block again
-pub rooms_back : (slots : List ℕ) (old between new : List Samples) (sizes : List (Format × ℕ)) → length new ≡ length old
-    → ((k : ℕ) → k < length slots → capacity sizes k ≡ block_at slots (block_capacity old) 0 k) → ((s : ℕ) → last_in s slots ≡ None → block_capacity between s ≡ block_capacity old s)
-    → ((s k : ℕ) → last_in s slots ≡ Some k → block_capacity new s ≡ capacity sizes k) → ((s : ℕ) → last_in s slots ≡ None → block_capacity new s ≡ block_capacity between s)
-    → map block_size new ≡ map block_size old
-rooms_back slots old between new sizes count first unused back left =
-    ext_get_or (U8, 0) (map block_size new) (map block_size old) (omega (arith, count, length-map new block_size, length-map old block_size)) (λ s below. by_last s (last_in s slots) refl)
-  where
-    by_last : (s : ℕ) (last : Option ℕ) → last_in s slots ≡ last → block_capacity new s ≡ block_capacity old s
-    by_last s None e = left s e ∙ unused s e
-    by_last s (Some k) e = back s k e ∙ first k (last_below s slots k 0 e).0 ∙ full_block slots (block_capacity old) s k e
 
 -- ---- one plane more
 

@@ -1,17 +1,25 @@
 -- Schedules: the planes, tasks and bands of a run of a verified graph.
-use Rattle.std.specs.Prelude.{◌≡◌, ◌≤◌, ◌<◌, List, drop, length, map, All}
+use Rattle.std.specs.Prelude.{◌≡◌, ◌≤◌, ◌<◌, ◌++◌, ℕ, List, drop, length, map, slice_index_or, All}
+use Rattle.std.specs.List.Sorted.{IsStrictlyIncreasing}
+use Rattle.vx_base.specs.declared.node.Node.{Node}
+use Rattle.vx_base.specs.declared.samples.Samples.{Samples}
 use Rattle.vx_base.specs.Reference.{Reference}
-use Rattle.vx_base.specs.Object.{ObjectValue}
-use Rattle.object_table.specs.NamedObject.{NamedObject}
+use Rattle.vx_base.specs.Description.{IsDescription}
+use Rattle.vx_base.specs.Object.{ObjectValue, IsObject}
+use Rattle.object_table.specs.NamedObject.{NamedObject, with_written}
 use Rattle.object_table.specs.Table.{image_held}
 use Rattle.graph_verify.specs.declared.verified.Verified.{Verified}
-use Rattle.buffer_plan.specs.Plan.{PlanView}
-use Rattle.graph_steps.specs.Planes.{PlaneValue}
+use Rattle.buffer_plan.specs.Plan.{IsPlan, PlanView}
+use Rattle.graph_steps.specs.declared.tally.Tally.{Tally}
+use Rattle.graph_steps.specs.Planes.{PlaneValue, plane}
 use Rattle.graph_steps.specs.Program.{Suffice}
+use Rattle.graph_steps.specs.Steps.{capacities}
 use Rattle.graph_run.specs.declared.schedule.Schedule.{Schedule}
-use Rattle.graph_run.specs.Bind.{plane_objects}
-use Rattle.graph_run.specs.Blocks.{band_plan}
-use Rattle.graph_run.specs.Program.{AddOnce, client_cells, radius_of}
+use Rattle.graph_run.specs.Bind.{AreAllApart, AreFor, HoldImages, bare_images, image_planes, plane_objects}
+use Rattle.graph_run.specs.Blocks.{band_plan, block_capacity}
+use Rattle.graph_run.specs.Bound.{AreTalliesFor}
+use Rattle.graph_run.specs.Operands.{IsReady}
+use Rattle.graph_run.specs.Program.{AddOnce, client_cells, first_blocks, radius_of}
 use Rattle.graph_run.specs.Results.{tally_cells}
 use Rattle.graph_run.specs.Slots.{place_of, planned_capacities}
 use Rattle.graph_run.specs.Tasks.{graph_cells, graph_tasks}
@@ -38,3 +46,40 @@ schedule_clients v s = drop (length v.virtual_outputs) s.cells.items
 -- references to the clients' images, each with the image of its plane
 abbrev pub schedule_objects : Verified → Schedule → List PlaneValue → List (Reference × ObjectValue)
 schedule_objects v s planes = plane_objects (schedule_clients v s) (drop (length v.virtual_outputs) planes)
+
+-- ---- runs by a schedule
+
+-- a verified graph can run on these objects by this schedule
+pub record CanRunBy (objects : List NamedObject) (v : Verified) (s : Schedule) : Type 0 where
+  pub are : All (λ o. IsObject o.object) objects
+  pub names : IsStrictlyIncreasing (map (λ o. o.name) objects)
+  pub nodes : List Node
+  pub ready : IsReady objects nodes v
+  pub slots : PlanView
+  pub plan : IsPlan v.steps v.virtual_outputs slots
+  pub schedule : IsSchedule objects v slots s
+  pub described : All (λ o. IsDescription o.desc) v.virtual_outputs
+
+-- the objects while the samples of the clients' images are in planes
+abbrev pub bare_objects : List NamedObject → Verified → Schedule → List NamedObject
+bare_objects objects v s = with_written objects (bare_images objects (schedule_clients v s))
+
+-- the planes before the tasks run: the planes of virtual images over the blocks of their slots, and
+-- then the planes of the clients' images
+pub record ArePlanes (objects : List NamedObject) (v : Verified) (s : Schedule) (blocks : List Samples) (planes : List PlaneValue) : Type 0 where
+  pub virtuals : List PlaneValue
+  pub descs : map (λ q. q.desc) virtuals ≡ map (λ o. o.desc) v.virtual_outputs
+  pub first : capacities virtuals ≡ first_blocks s.slots.items (block_capacity blocks)
+  pub all : planes ≡ virtuals ++ image_planes objects (schedule_clients v s)
+
+-- the samples of planes can move back to these blocks and objects, and the tallies to the objects
+pub record CanReturn (objects : List NamedObject) (v : Verified) (s : Schedule) (blocks : List Samples) (planes : List PlaneValue) (tallies : List Tally) : Type 0 where
+  pub slot_count : length s.slots.items ≡ length v.virtual_outputs
+  pub cell_count : length v.virtual_outputs ≤ length s.cells.items
+  pub plane_count : length v.virtual_outputs ≤ length planes
+  pub within : (k : ℕ) → k < length s.slots.items → slice_index_or s.slots.items k 0 < length blocks
+  pub formats : (k : ℕ) → k < length s.slots.items → (plane planes k).format ≡ (block_capacity blocks (slice_index_or s.slots.items k 0)).0
+  pub images : HoldImages objects (schedule_clients v s)
+  pub apart : AreAllApart (schedule_clients v s)
+  pub planes_for : AreFor objects (schedule_clients v s) (drop (length v.virtual_outputs) planes)
+  pub tallies_for : AreTalliesFor (with_written objects (schedule_objects v s planes)) s.tally_cells.items tallies

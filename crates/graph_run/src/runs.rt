@@ -1,7 +1,7 @@
 //! Runs a verified graph over planes. The samples of its images move from the table of objects to
 //! planes, its tasks run, and images and tallies move back.
-ghost use Rattle.std.specs.Prelude.{◌≡◌, ◌≤◌, ◌<◌, ◌+◌, ◌++◌, ℕ, [], List, drop, length, map};
-ghost use Rattle.std.specs.Prelude.{slice_index_or, vec_capacity, All, None, OnErr, OnOk, Some};
+ghost use Rattle.std.specs.Prelude.{◌≡◌, ◌≤◌, ◌<◌, ◌+◌, ℕ, [], List, drop, length, map};
+ghost use Rattle.std.specs.Prelude.{vec_capacity, All, None, OnErr, OnOk, Some};
 ghost use Rattle.std.specs.List.Sorted.{IsStrictlyIncreasing};
 ghost use Rattle.vx_base.specs.declared.format.Format.{Format as SampleFormat};
 ghost use Rattle.vx_base.specs.declared.node.Node.{Node as NodeFields};
@@ -18,18 +18,16 @@ ghost use Rattle.graph_run.specs.Operands.{operand_held, IsReady};
 ghost use Rattle.vx_base.specs.Picture.{samples_format};
 ghost use Rattle.object_table.specs.Context.{with_objects};
 ghost use Rattle.object_table.specs.NamedObject.{with_written};
-ghost use Rattle.graph_steps.specs.Planes.{PlaneValue, plane};
 ghost use Rattle.graph_steps.specs.Program.{IsProgram};
 ghost use Rattle.graph_steps.specs.Runs.{CanReduceBand};
 ghost use Rattle.graph_steps.specs.Steps.{capacities, capacity};
-ghost use Rattle.graph_run.specs.Bind.{AreAllApart, AreFor, HoldImages, bare_images};
-ghost use Rattle.graph_run.specs.Bind.{image_planes, plane_objects};
-ghost use Rattle.graph_run.specs.Blocks.{band_plan, block_size, block_capacity, room_count};
-ghost use Rattle.graph_run.specs.Bound.{AreTalliesFor, LendTables};
-ghost use Rattle.graph_run.specs.Program.{first_blocks, tables_of, tallies_of};
-ghost use Rattle.graph_run.specs.Results.{Leaves, tally_objects};
-ghost use Rattle.graph_run.specs.Schedule.{IsSchedule, schedule_clients, schedule_objects};
-ghost use Rattle.graph_run.specs.Slots.{planned_capacities};
+ghost use Rattle.graph_run.specs.Bind.{AreAllApart, AreFor, HoldImages, plane_objects};
+ghost use Rattle.graph_run.specs.Blocks.{block_size, block_capacity, room_count};
+ghost use Rattle.graph_run.specs.Bound.{LendTables};
+ghost use Rattle.graph_run.specs.Program.{tables_of, tallies_of};
+ghost use Rattle.graph_run.specs.Results.{tally_objects};
+ghost use Rattle.graph_run.specs.Schedule.{ArePlanes, CanReturn, CanRunBy, IsSchedule};
+ghost use Rattle.graph_run.specs.Schedule.{bare_objects, schedule_objects};
 ghost use Rattle.graph_run.specs.Tasks.{last_in};
 
 use crate::bind::{put_back, take_out};
@@ -122,91 +120,16 @@ pub fn run_scheduled(
     ensures free { OnOk result ((format : SampleFormat) →
         room_count schedule.now.rooms.items format ≤ free_count (free_of pool.new format)) }
 {
+    prove_descriptions(verified);
     let (planes, blocks) = (&mut lists.planes, &mut lists.blocks);
     begin_tallies(&mut lists.tallies, table, verified.steps())?;
     planes.clear();
     planes.reserve(schedule.cells.len())?;
     take_blocks(blocks, pool, &schedule.rooms)?;
-    run_over(
-        alloc,
-        verified,
-        schedule,
-        table,
-        blocks,
-        planes,
-        &mut lists.tallies,
-    );
-    give_back(blocks, pool);
-    Ok(())
-}
-
-/// Runs a verified graph by its schedule. `blocks` has the block of each slot.
-fn run_over(
-    alloc: Global,
-    verified: &Verified,
-    schedule: &Schedule,
-    table: &mut Table,
-    blocks: &mut Vec<Block>,
-    planes: &mut Vec<Plane>,
-    tallies: &mut [Tally],
-)
-    requires objects { All (λ o. IsObject o.object) table.old.objects }
-    requires names { IsStrictlyIncreasing (map (λ o. o.name) table.old.objects) }
-    requires ready { (nodes : List NodeFields) ×
-        IsReady table.old.objects nodes verified.now }
-    requires schedule { (p : PlanView) ×
-        IsPlan verified.now.steps verified.now.virtual_outputs p ×
-        IsSchedule table.old.objects verified.now p schedule.now ×
-        (map block_size blocks.old.items ≡ planned_capacities (band_plan schedule.now.size
-        schedule.now.halos.items verified.now.virtual_outputs
-        schedule.now.slots.items p)) }
-    requires none { planes.old.items ≡ [] }
-    requires room { length schedule.now.cells.items ≤ vec_capacity planes.old }
-    requires tallies { tallies.old ≡ tallies_of table.old.objects verified.now.steps }
-    ensures value { (nodes : List NodeFields) → IsReady table.old.objects nodes verified.now →
-        table.new ≡ with_objects table.old
-        (run_of_graph (resolved_operand (operand_held table.old.objects) nodes) nodes
-        table.old.objects) }
-    ensures lasts { Lasts table.old.objects table.new.objects }
-    ensures formats { map samples_format blocks.new.items ≡ map samples_format blocks.old.items }
-    ensures rooms { map block_size blocks.new.items ≡ map block_size blocks.old.items }
-{
-    prove_descriptions(verified);
-    let blocks = blocks.as_mut_slice();
-    take(alloc, verified, schedule, table, blocks, planes);
+    let slots = blocks.as_mut_slice();
+    fill_planes(alloc, verified, schedule, table, slots, planes);
     let planes = planes.as_mut_slice();
-    run_tasks(table, verified, schedule, planes, tallies);
-    give(verified, schedule, table, blocks, planes, tallies);
-}
-
-/// Proves that the sides of all descriptions are in range. The prover learns the ranges only by
-/// reading each description, so a loop reads them all; the compiler removes the loop.
-fn prove_descriptions(verified: &Verified)
-    ensures { All (λ o. IsDescription o.desc) verified.now.virtual_outputs }
-{
-    for image in verified.virtual_outputs() {
-        image.desc.prove_sides();
-    }
-}
-
-/// Runs the tasks of a schedule over planes. The lookup tables, thresholds and matrices that nodes
-/// read are in the table of objects.
-fn run_tasks(
-    table: &Table,
-    verified: &Verified,
-    schedule: &Schedule,
-    planes: &mut [Plane],
-    tallies: &mut [Tally],
-)
-    requires lent { LendTables table.now.objects verified.now.steps }
-    requires program { IsProgram (tables_of table.now.objects verified.now.steps)
-        schedule.now.high schedule.now.size schedule.now.halos.items
-        schedule.now.tasks.items planes.old }
-    requires reduces { CanReduceBand 0 schedule.now.tasks.items planes.old tallies.old }
-    ensures leaves { Leaves (tables_of table.now.objects verified.now.steps)
-        schedule.now.tasks.items planes.old tallies.old planes.new tallies.new }
-    ensures blocks { capacities planes.new ≡ capacities planes.old }
-{
+    let tallies = lists.tallies.as_mut_slice();
     let tables = NodeTables {
         table,
         steps: verified.steps(),
@@ -220,11 +143,24 @@ fn run_tasks(
         planes,
         tallies,
     );
+    empty_planes(verified, schedule, table, slots, planes, tallies);
+    give_back(blocks, pool);
+    Ok(())
 }
 
-/// Adds planes of the graph's virtual images over blocks, and then planes of the clients' images,
-/// whose samples are taken from the table.
-fn take(
+/// Proves that the sides of all descriptions are in range. The prover learns the ranges only by
+/// reading each description, so a loop reads them all; the compiler removes the loop.
+fn prove_descriptions(verified: &Verified)
+    ensures { All (λ o. IsDescription o.desc) verified.now.virtual_outputs }
+{
+    for image in verified.virtual_outputs() {
+        image.desc.prove_sides();
+    }
+}
+
+/// Fills the empty list of planes: adds planes of the graph's virtual images over blocks, and then
+/// planes of the clients' images, whose samples are taken from the table. The tasks can then run.
+fn fill_planes(
     alloc: Global,
     verified: &Verified,
     schedule: &Schedule,
@@ -232,26 +168,23 @@ fn take(
     blocks: &mut [Block],
     planes: &mut Vec<Plane>,
 )
-    requires count { length schedule.now.slots.items ≡ length verified.now.virtual_outputs }
-    requires cells { length verified.now.virtual_outputs ≤ length schedule.now.cells.items }
+    requires runs { CanRunBy table.old.objects verified.now schedule.now }
+    requires sizes { map block_size blocks.old ≡ schedule.now.rooms.items }
     requires none { planes.old.items ≡ [] }
     requires room { length schedule.now.cells.items ≤ vec_capacity planes.old }
-    requires within { (k : ℕ) → k < length schedule.now.slots.items →
-        slice_index_or schedule.now.slots.items k 0 < length blocks.old }
-    requires images { HoldImages table.old.objects
-        (schedule_clients verified.now schedule.now) }
-    requires apart { AreAllApart (schedule_clients verified.now schedule.now) }
-    ensures planes { (virtuals : List PlaneValue) ×
-        (map (λ q. q.desc) virtuals ≡ map (λ o. o.desc) verified.now.virtual_outputs) ×
-        (capacities virtuals ≡ first_blocks schedule.now.slots.items (block_capacity blocks.old)) ×
-        (planes.new.items ≡ virtuals ++ image_planes table.old.objects
-        (schedule_clients verified.now schedule.now)) }
+    ensures planes { ArePlanes table.old.objects verified.now schedule.now blocks.old
+        planes.new.items }
+    ensures lent { LendTables table.new.objects verified.now.steps }
+    ensures program { IsProgram (tables_of table.new.objects verified.now.steps)
+        schedule.now.high schedule.now.size schedule.now.halos.items
+        schedule.now.tasks.items planes.new.items }
+    ensures reduces { CanReduceBand 0 schedule.now.tasks.items planes.new.items
+        (tallies_of table.old.objects verified.now.steps) }
     ensures formats { map samples_format blocks.new ≡ map samples_format blocks.old }
     ensures unused { (s : ℕ) → last_in s schedule.now.slots.items ≡ None →
         block_capacity blocks.new s ≡ block_capacity blocks.old s }
-    ensures left { table.new ≡ with_objects table.old (with_written table.old.objects
-        (bare_images table.old.objects
-        (schedule_clients verified.now schedule.now))) }
+    ensures left { table.new ≡ with_objects table.old
+        (bare_objects table.old.objects verified.now schedule.now) }
 {
     let images = verified.virtual_outputs();
     add_virtual(alloc, images, &schedule.slots, blocks, planes);
@@ -260,7 +193,7 @@ fn take(
 
 /// Returns the blocks of the virtual images to their slots. Moves the samples of the clients'
 /// images back to the table, and writes the tallies to objects of the table.
-fn give(
+fn empty_planes(
     verified: &Verified,
     schedule: &Schedule,
     table: &mut Table,
@@ -268,21 +201,8 @@ fn give(
     planes: &mut [Plane],
     tallies: &[Tally],
 )
-    requires count { length schedule.now.slots.items ≡ length verified.now.virtual_outputs }
-    requires cells { length verified.now.virtual_outputs ≤ length schedule.now.cells.items }
-    requires planes { length verified.now.virtual_outputs ≤ length planes.old }
-    requires within { (k : ℕ) → k < length schedule.now.slots.items →
-        slice_index_or schedule.now.slots.items k 0 < length blocks.old }
-    requires formats { (k : ℕ) → k < length schedule.now.slots.items →
-        (plane planes.old k).format
-        ≡ (block_capacity blocks.old (slice_index_or schedule.now.slots.items k 0)).0 }
-    requires images { HoldImages table.old.objects (schedule_clients verified.now schedule.now) }
-    requires apart { AreAllApart (schedule_clients verified.now schedule.now) }
-    requires back { AreFor table.old.objects (schedule_clients verified.now schedule.now)
-        (drop (length verified.now.virtual_outputs) planes.old) }
-    requires tallies { AreTalliesFor (with_written table.old.objects
-        (schedule_objects verified.now schedule.now planes.old))
-        schedule.now.tally_cells.items tallies.now }
+    requires { CanReturn table.old.objects verified.now schedule.now blocks.old planes.old
+        tallies.now }
     ensures value { table.new ≡ with_objects table.old (with_written
         (with_written table.old.objects
         (schedule_objects verified.now schedule.now planes.old))

@@ -122,10 +122,10 @@ module _ (tables : ℕ → Option ObjectValue) (high : ℕ) (halos : List ℕ) (
   }
 
   -- the next task can be done, and after it the others can
-  pub task_can : (t : Task) (later : List Task) (planes : List PlaneValue) → Can (t ∷ later) planes → (tallies : List Tally) → CanReduceBand band.start (t ∷ later) planes tallies → CanDo tables high halos band t planes tallies
-  task_can (Write s) later planes can tallies reduces =
+  can_do : (t : Task) (later : List Task) (planes : List PlaneValue) (tallies : List Tally) → Can (t ∷ later) planes → CanReduceBand band.start (t ∷ later) planes tallies → CanDo tables high halos band t planes tallies
+  can_do (Write s) later planes tallies can reduces =
       ((let o = (can.within s (inl refl)).output in let n = can.halo_count in omega arith), step_fits s later planes can)
-  task_can (Reduce r) later planes can tallies reduces = (can.reads r.input (inl refl), reduces.reduces r (inl refl))
+  can_do (Reduce r) later planes tallies can reduces = (can.reads r.input (inl refl), reduces.reduces r (inl refl))
 
   pub task_next : (t : Task) (later : List Task) (planes : List PlaneValue) → Can (t ∷ later) planes → Can later (after_task tables halos band t planes)
   task_next (Write s) later planes can = step_next s later planes can
@@ -186,3 +186,9 @@ module _ (tables : ℕ → Option ObjectValue) (high : ℕ) (halos : List ℕ) (
             subst P (sym e) (λ j a b n. after_elsewhere tables high s rows planes fits (keeps_none s later planes can j) x y a b n) k across low elsewhere
         | inr other ↦ ap (λ p. pixel_at (block_image p) x y) (after_others tables high s rows planes fits c other (untaken s later planes can c k))
       ]
+
+-- the next of the remaining tasks can be done
+pub task_can : {tables : ℕ → Option ObjectValue} {high : ℕ} {halos : List ℕ} {band : Band} {kept : ℕ → Type 0} {t : Task} {rest later : List Task} {planes : List PlaneValue} {tallies : List Tally}
+    → rest ≡ t ∷ later → CanRunBand tables high halos band kept rest planes → CanReduceBand band.start rest planes tallies → CanDo tables high halos band t planes tallies
+task_can {tables} {high} {halos} {band} {kept} {t} {rest} {later} {planes} {tallies} is can reduces =
+    can_do tables high halos band kept t later planes tallies (subst (λ (l : List Task). CanRunBand tables high halos band kept l planes) is can) (subst (λ (l : List Task). CanReduceBand band.start l planes tallies) is reduces)

@@ -1,8 +1,10 @@
 -- A kernel writes the step's image.
-use Rattle.std.proofs.Common.{◌≡◌, ℕ, ℤ, ◌*◌, ◌+◌, ◌-◌, ◌<◌, zero, suc, true, List, length, map, take, drop, Option, Some, None, IfSome, refl, ap, ◌∙◌, sym, arith, cond, ◌==◌, eqb-true, add-zero, subst}
+use Rattle.std.proofs.Common.{◌≡◌, ℕ, ℤ, ◌*◌, ◌+◌, ◌-◌, ◌<◌, ◌≤◌, ◌++◌, zero, suc, true, List, length, map, take, drop, Option, Some, None, IfSome, refl, ap, ◌∙◌, sym, arith, cond, ◌==◌, eqb-true, add-zero, subst}
 use borrow.Rule.Slice.PartMut.{put_mid}
 use Rattle.std.proofs.lemmas.Bool.{and_parts}
+use Rattle.std.proofs.lemmas.List.{length-map}
 use Rattle.std.proofs.lemmas.Bool.Decides.{nat_tests}
+use Rattle.std.specs.Option.{option_and_then}
 use Rattle.vx_base.specs.declared.format.Format.{Format}
 use Rattle.vx_base.specs.declared.format.Format.TheVariants.{U8, U32}
 use Rattle.vx_base.specs.declared.function.Function.{Function}
@@ -14,7 +16,7 @@ use Rattle.vx_base.specs.Rectangle.{Rectangle, empty_rectangle}
 use Rattle.vx_base.specs.Formats.{takes_formats}
 use Rattle.vx_base.specs.Function.{parameters, accumulates}
 use Rattle.vx_base.specs.Image.{ImageValue, description_of, image_over, band, pixel_at}
-use Rattle.vx_base.specs.Object.{ObjectValue, ImageObject, object_kind}
+use Rattle.vx_base.specs.Object.{ObjectValue, ImageObject, object_format, object_kind}
 use Rattle.vx_base.specs.Outputs.{node_image, second_or_output}
 use Rattle.vx_base.proofs.TableLaws.{band-same, length-table}
 use Rattle.vx_base.proofs.ImageLaws.{samples_are_band}
@@ -32,7 +34,7 @@ use Rattle.graph_steps.specs.declared.step.Step.{Step}
 use Rattle.graph_steps.specs.declared.kernel.Kernel.{Kernel}
 use Rattle.graph_steps.specs.Planes.{IsWhole, PlaneValue, TakesRows, block_image, plane_image, rows_of_block, with_read_rows, with_rows, written_among}
 use Rattle.graph_steps.specs.Steps.{CanMake, image_from_inputs, is_integral, kernel_image, held_image, scan_image}
-use Rattle.graph_steps.proofs.PlaneLaws.{all_read, lent_rows, rows_among, written_whole}
+use Rattle.graph_steps.proofs.PlaneLaws.{all_read, held_part, lent_rows, rows_among, written_whole}
 
 -- ---- by the function
 
@@ -143,25 +145,60 @@ rows_made k d valid rows samples of old new can of_is old_is same is =
       ap (λ (v : ImageValue). v.samples) made,
     )
 
--- the result of a kernel in these rows of a block, with samples of any type
-pub block_written : {T : Type 0} (value : T → ℤ) (k : Kernel) (d : Description) (valid : Rectangle) (top : ℕ) (rows : Band) (from n w : ℕ) (out part : List T) (samples lent : List ℤ) (after : Rectangle)
-    → from ≡ rows.start - top → n ≡ rows.count → w ≡ d.width → map value out ≡ samples → CanMake k.step.now k.first.now (second_object k.second.now) d
-    → lent ≡ map value (take (from * w + n * w - from * w) (drop (from * w) out))
-    → map value part ≡ (rows_in rows (kernel_image k (image_over_rows d valid rows lent))).samples → after ≡ (kernel_image k (image_over_rows d valid rows lent)).valid
-    → (map value (put_mid (from * w) (from * w + n * w - from * w) out part) ≡ written_among top rows (kernel_image k (image_over_rows d valid rows (rows_of_block d.width top rows samples))) samples)
-    × (after ≡ (kernel_image k (image_over_rows d valid rows (rows_of_block d.width top rows samples))).valid)
-block_written value k d valid top rows from n w out part samples lent after start count wide is can lent_is made valid_is =
-    let own = image_over_rows d valid rows (rows_of_block d.width top rows samples) in
-    let same = lent_is ∙ lent_rows value d.width top rows from n w out out samples start count wide refl is in
-    let desc = made_description k.step.now k.first.now (second_object k.second.now) d own can refl in (
-      rows_among value (kernel_image k own) top rows from n w _ _ out part start count (wide ∙ sym (ap (λ (e : Description). e.width) desc)) refl refl
-          (made ∙ ap (λ l. (rows_in rows (kernel_image k (image_over_rows d valid rows l))).samples) same)
-          ∙ ap (written_among top rows (kernel_image k own)) is,
-      valid_is ∙ ap (λ l. (kernel_image k (image_over_rows d valid rows l)).valid) same,
-    )
+-- a plane to whose block the result of a kernel in these rows is written; `shown` gives the samples of
+-- a block as numbers
+module _ {T : Type 0} (value : T → ℤ) (shown : List T → List ℤ) (shows : (l : List T) → shown l ≡ map value l) (k : Kernel) (p q : PlaneValue) (same : p ≡ q) (rows : Band)
+    (room : (rows.start - q.top + rows.count) * q.desc.width ≤ length q.samples) (can : CanMake k.step.now k.first.now (second_object k.second.now) q.desc)
+    (from n w len : ℕ) (items block part : List T) (format : Format) (after : Rectangle) where
+  abbrev start : ℕ
+  start = from * w
+
+  abbrev many : ℕ
+  many = from * w + n * w - from * w
+
+  abbrev written_to : PlaneValue
+  written_to =
+      record { desc = p.desc; valid = after; top = p.top; rows = rows; format = format; samples = shown (take len (put_mid start many block part ++ drop (length (put_mid start many block part)) items)) }
+
+  abbrev made_from : List ℤ → ImageValue
+  made_from samples = kernel_image k (image_over_rows p.desc p.valid rows samples)
+
+  pub plane_written : from ≡ rows.start - p.top → n ≡ rows.count → w ≡ p.desc.width → block ≡ items → length block ≡ len → p.samples ≡ shown items → p.format ≡ format → length part ≡ length (take many (drop start block))
+      → map value part ≡ (rows_in rows (made_from (map value (take many (drop start block))))).samples → after ≡ (made_from (map value (take many (drop start block)))).valid
+      → written_to ≡ with_rows rows (kernel_image k (plane_image (with_read_rows rows q))) q
+  plane_written from_is n_is wide block_is long samples_are format_is part_long made valid_is =
+      let own = image_over_rows p.desc p.valid rows (rows_of_block p.desc.width p.top rows p.samples) in
+      let image = kernel_image k own in
+      let whole : map value block ≡ p.samples = ap (map value) block_is ∙ sym (samples_are ∙ shows items) in
+      let lent = lent_rows value p.desc.width p.top rows from n w block block p.samples from_is n_is wide refl whole in
+      let desc = made_description k.step.now k.first.now (second_object k.second.now) p.desc own (subst (λ (o : PlaneValue). CanMake k.step.now k.first.now (second_object k.second.now) o.desc) (sym same) can) refl in
+      let fits : start + many ≤ length block =
+      sizes (rows.start - p.top) rows.count p.desc.width from_is n_is wide
+      (subst (λ (l : List ℤ). (rows.start - p.top + rows.count) * p.desc.width ≤ length l) (sym whole) (subst (λ (o : PlaneValue). (rows.start - o.top + rows.count) * o.desc.width ≤ length o.samples) (sym same) room)) in
+      let samples : shown (take len (put_mid start many block part ++ drop (length (put_mid start many block part)) items)) ≡ written_among p.top rows image p.samples =
+      ap shown (held_part start many len items block part long part_long fits)
+      ∙ shows (put_mid start many block part)
+      ∙ rows_among value image p.top rows from n w _ _ block part from_is n_is (wide ∙ sym (ap (λ (e : Description). e.width) desc)) refl refl (made ∙ ap (λ l. (rows_in rows (made_from l)).samples) lent)
+      ∙ ap (written_among p.top rows image) whole in
+      let of : Format → Rectangle → List ℤ → PlaneValue = λ f v l. record { desc = p.desc; valid = v; top = p.top; rows = rows; format = f; samples = l } in
+      ap (of format after) samples
+      ∙ ap (λ f. of f after (written_among p.top rows image p.samples)) (sym format_is)
+      ∙ ap (λ v. of p.format v (written_among p.top rows image p.samples)) (valid_is ∙ ap (λ l. (made_from l).valid) lent)
+      ∙ ap (λ o. with_rows rows (kernel_image k (plane_image (with_read_rows rows o))) o) same
+    where
+      sizes : (a b c : ℕ) → from ≡ a → n ≡ b → w ≡ c → (a + b) * c ≤ length (map value block) → start + many ≤ length block
+      sizes a b c e f h enough = rw (e, f, h) (let long = length-map block value in grind arith)
 
 pub same_sides : (a b : Description) → same_size a b ≡ true → (a.width ≡ b.width) × (a.height ≡ b.height)
 same_sides a b h = let p = and_parts (a.width == b.width) (a.height == b.height) h in (eqb-true a.width b.width p.0, eqb-true a.height b.height p.1)
+
+-- the formats and sides of an integral image and its input
+pub can_sum : (s : Step) (first : ImageValue) (second : Option ObjectValue) (out : Description) → is_integral s.node.function ≡ true → CanMake s first second out
+    → (first.format ≡ U8) × (out.format ≡ U32) × (first.width ≡ out.width) × (first.height ≡ out.height)
+can_sum s first second out scans can =
+    let formats = integral_formats s.node.function first.format (option_and_then object_format second) out.format scans can.formats in
+    let sides = same_sides out (description_of first) can.size in
+    (formats.0, formats.1, sym sides.0, sym sides.1)
 
 -- the step's image has a sample for each pixel
 pub sized_image : (s : Step) (first : ImageValue) (second : Option ObjectValue) (own : ImageValue) → length (image_from_inputs s first second own).samples ≡ first.height * first.width

@@ -52,6 +52,21 @@ rows_among value image top rows from n width start count out part a b w at_start
     both : (k m w : ℕ) → k * w + m * w ≡ (k + m) * w
     both k m w = grind arith
 
+-- a vector, once a part of its samples is written
+pub held_part : {T : Type 0} (start count len : ℕ) (items block part : List T) → length block ≡ len → length part ≡ length (take count (drop start block)) → start + count ≤ length block
+    → take len (put_mid start count block part ++ drop (length (put_mid start count block part)) items) ≡ put_mid start count block part
+held_part start count len items block part long written fits =
+    take_at (put_mid start count block part) (drop (length (put_mid start count block part)) items) len
+    (length-append (take start block) (part ++ drop count (drop start block))
+    ∙ omega (
+      arith,
+      length-take-le start block (omega arith),
+      length-append part (drop count (drop start block)),
+      length-drop count (drop start block),
+      length-drop start block,
+      length-take-le count (drop start block) (omega (arith, length-drop start block)),
+    ))
+
 -- the image whose rows are read from this plane
 module _ (p : PlaneValue) (rows : Band) (image : ImageValue) (desc : p.desc ≡ description_of image) (room : (rows.start - p.top + rows.count) * p.desc.width ≤ length p.samples) where
   abbrev made : List ℤ

@@ -13,7 +13,7 @@ use Rattle.graph_steps.specs.declared.tally.Tally.{Tally}
 use Rattle.graph_steps.specs.declared.tally.Tally.TheVariants as tally
 use Rattle.graph_steps.specs.Planes.{PlaneValue, plane, plane_image, with_halo}
 use Rattle.graph_steps.specs.Steps.{after_step}
-use Rattle.graph_steps.specs.Program.{Reduces, halo, band_rows, after_task}
+use Rattle.graph_steps.specs.Program.{Reduces, halo, band_rows, after_task, after_tasks}
 use Rattle.graph_steps.specs.Runs.{CanReduceBand, CanRunBand}
 use Rattle.graph_steps.specs.Tallies.{TakesFormat, IsBounded, with_rows_added, tally_at, after_reduction, tallies_after, all_tallies_after}
 use Rattle.graph_steps.proofs.StepLaws.{after_count, after_desc}
@@ -150,3 +150,20 @@ module _ (tables : ℕ → Option ObjectValue) (high : ℕ) (halos : List ℕ) (
   pub band_adds_whole : (tasks : List Task) (planes : List PlaneValue) (tallies : List Tally) → IsKnown tasks planes → CanReduceBand band.start tasks planes tallies
       → (r : Reduction) → Reduces r tasks → Adds tables high halos band kept AgreesWith planes tallies (all_tallies_after tables halos band tasks planes tallies) r
   band_adds_whole = adds_each tables high halos band kept AgreesWith IsKnown (λ tasks planes k. k.can) known_task (λ q later planes k. (k.known q.input (inl refl)).agrees)
+
+-- after the next of the remaining tasks, the others can run, and end as all of these do
+pub task_done : {tables : ℕ → Option ObjectValue} {high : ℕ} {halos : List ℕ} {band : Band} {kept : ℕ → Type 0} {t : Task} {rest later : List Task} {planes new last : List PlaneValue} {tallies counted all : List Tally}
+    → rest ≡ t ∷ later → CanRunBand tables high halos band kept rest planes → CanReduceBand band.start rest planes tallies → new ≡ after_task tables halos band t planes → counted ≡ tallies_after band t planes tallies
+    → after_tasks tables halos band rest planes ≡ last → all_tallies_after tables halos band rest planes tallies ≡ all
+    → CanRunBand tables high halos band kept later new × CanReduceBand band.start later new counted × (after_tasks tables halos band later new ≡ last) × (all_tallies_after tables halos band later new counted ≡ all)
+task_done {tables} {high} {halos} {band} {kept} {t} {rest} {later} {planes} {new} {last} {tallies} {counted} {all} is can_rest reduces_rest ran added ends sums =
+    let can = subst (λ (l : List Task). CanRunBand tables high halos band kept l planes) is can_rest in
+    let reduces = subst (λ (l : List Task). CanReduceBand band.start l planes tallies) is reduces_rest in (
+      rw ran (task_next tables high halos band kept t later planes can),
+      rw (added, ran) (reduces_next tables high halos band kept t later planes tallies can reduces),
+      ap (after_tasks tables halos band later) ran ∙ ap (λ (l : List Task). after_tasks tables halos band l planes) (sym is) ∙ ends,
+      ap (λ (l : List PlaneValue). all_tallies_after tables halos band later l counted) ran
+          ∙ ap (all_tallies_after tables halos band later (after_task tables halos band t planes)) added
+          ∙ ap (λ (l : List Task). all_tallies_after tables halos band l planes tallies) (sym is)
+          ∙ sums,
+    )

@@ -1,17 +1,17 @@
 //! Runs programs band by band.
-ghost use Rattle.std.specs.Prelude.{◌≡◌, ◌-◌, ◌+◌, ◌<◌, ◌≤◌, ◌^◌, ℕ, length};
+ghost use Rattle.std.specs.Prelude.{◌≡◌, ◌-◌, ◌+◌, ◌<◌, ◌^◌, ℕ, length};
 ghost use Rattle.vx_base.specs.Image.{ImageValue};
 ghost use Rattle.graph_steps.specs.declared.step.Reduction.{Reduction as ReductionValue};
-ghost use Rattle.graph_steps.specs.Planes.{plane, plane_image, block_image, block_images};
+ghost use Rattle.graph_steps.specs.Planes.{plane, block_image, block_images};
 ghost use Rattle.graph_steps.specs.Planes.{with_halo, IsReadable, IsWhole};
 ghost use Rattle.graph_steps.specs.Steps.{capacities};
 ghost use Rattle.graph_steps.specs.Program.{KeepsBlock, IsProgram, Reduces, SolvesSteps};
-ghost use Rattle.graph_steps.specs.Program.{after_task, after_tasks};
+ghost use Rattle.graph_steps.specs.Program.{after_tasks};
 ghost use Rattle.graph_steps.specs.Program.{band_rows};
-ghost use Rattle.graph_steps.specs.Runs.{CanDo, CanRunBand, CanReduceBand};
-ghost use Rattle.graph_steps.specs.Tallies.{CanAdd, CanReduce, HaveOneReduction, IsNew};
+ghost use Rattle.graph_steps.specs.Runs.{CanRunBand, CanReduceBand};
+ghost use Rattle.graph_steps.specs.Tallies.{CanReduce, IsNew};
 ghost use Rattle.graph_steps.specs.Tallies.{after_reduction, all_tallies_after};
-ghost use Rattle.graph_steps.specs.Tallies.{tallies_after, tally_at, tally_of};
+ghost use Rattle.graph_steps.specs.Tallies.{tally_at, tally_of};
 
 use crate::one_step::run_step;
 use crate::plane::Plane;
@@ -43,31 +43,6 @@ fn reduce(reduction: &Reduction, band: Band, planes: &[Plane], tallies: &mut [Ta
     tallies[reduction.tally].add(&input.image(), rows);
 }
 
-/// Runs a task on a band.
-fn do_task<T: Tables>(
-    tables: &T,
-    task: &Task,
-    halos: &[u16],
-    band: Band,
-    planes: &mut [Plane],
-    tallies: &mut [Tally],
-)
-    requires fits { band.start + band.count < 2 ^ 16 }
-    requires can { (high : ℕ) ×
-        CanDo (T.tables tables.now) high halos.now band task.now planes.old tallies.old }
-    ensures planes { planes.new
-        ≡ after_task (T.tables tables.now) halos.now band task.now planes.old }
-    ensures tallies { tallies.new ≡ tallies_after band task.now planes.old tallies.old }
-{
-    match task {
-        Task::Write(step) => {
-            let rows = rows_for(step, halos, band, planes);
-            run_step(tables, step, rows, planes);
-        }
-        Task::Reduce(reduction) => reduce(reduction, band, planes, tallies),
-    }
-}
-
 /// Runs all tasks on a band. Each step writes the rows of the band and of its output's halo. Each
 /// reduction adds the rows of the band to its tally.
 fn run_band<T: Tables>(
@@ -88,7 +63,13 @@ fn run_band<T: Tables>(
 {
     let mut rest = tasks;
     while let Some((task, later)) = rest.split_first() {
-        do_task(tables, task, halos, band, planes, tallies);
+        match task {
+            Task::Write(step) => {
+                let rows = rows_for(step, halos, band, planes);
+                run_step(tables, step, rows, planes);
+            }
+            Task::Reduce(reduction) => reduce(reduction, band, planes, tallies),
+        }
         rest = later;
     }
 }

@@ -2,8 +2,8 @@
 ghost use Rattle.std.specs.Prelude.{◌≡◌, ◌<◌, ℕ, length, Some};
 ghost use Rattle.image_core.specs.Second.{second_object};
 ghost use Rattle.graph_steps.specs.declared.step.SecondSource.TheVariants.{Plane as FromPlane};
-ghost use Rattle.graph_steps.specs.Planes.{plane, read_images, with_rows, IsReadable};
-ghost use Rattle.graph_steps.specs.Steps.{CanStep, CanWrite, after_step, rows_image, second_in};
+ghost use Rattle.graph_steps.specs.Planes.{plane, read_images, IsReadable};
+ghost use Rattle.graph_steps.specs.Steps.{CanStep, after_step, second_in};
 ghost use Rattle.graph_steps.specs.Steps.{with_output_block};
 
 use crate::kernel::Kernel;
@@ -50,27 +50,12 @@ pub fn run_step<T: Tables>(tables: &T, step: &Step, rows: Band, planes: &mut [Pl
 {
     make_ready(step, rows.start, planes);
     let mut output = planes[step.output].take_out();
-    write_output(tables, step, rows, planes, &mut output);
-    planes[step.output] = output;
-}
-
-/// Writes rows of the step's output, which has been taken out of `planes`.
-fn write_output<T: Tables>(
-    tables: &T,
-    step: &Step,
-    rows: Band,
-    planes: &[Plane],
-    output: &mut Plane,
-)
-    requires { CanWrite (T.tables tables.now) step.now rows planes.now output.old }
-    ensures { output.new ≡ with_rows rows (rows_image (T.tables tables.now) step.now rows
-        (read_images planes.now) output.old) output.old }
-{
-    let first = planes[step.first].image();
+    let inputs: &[Plane] = planes;
+    let first = inputs[step.first].image();
     if step.is_integral() {
         output.write_sums(&first, rows);
     } else {
-        let second = second_input(tables, step.second, planes);
+        let second = second_input(tables, step.second, inputs);
         let kernel = Kernel {
             step,
             first: &first,
@@ -78,4 +63,5 @@ fn write_output<T: Tables>(
         };
         output.write(&kernel, rows);
     }
+    planes[step.output] = output;
 }

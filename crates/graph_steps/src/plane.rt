@@ -11,7 +11,7 @@ ghost use Rattle.graph_steps.specs.Planes.{IsReadable};
 ghost use Rattle.graph_steps.specs.Steps.{CanMake, kernel_image, scan_image};
 
 use crate::kernel::Kernel;
-use crate::rows::{read_rows, write_rows, write_sums};
+use crate::rows::{RowSample, read_rows, write_sums};
 use image_core::{Band, Image};
 use std::marker::Model;
 use vx_base::{Desc, Rect, Samples};
@@ -159,19 +159,22 @@ impl Plane {
         ensures { self.new ≡ with_rows rows
             (kernel_image kernel.now (plane_image (with_read_rows rows self.old))) self.old }
     {
-        let (desc, top, valid) = (self.desc, self.top, self.valid);
+        let (desc, valid) = (self.desc, self.valid);
+        let width = usize::from(desc.width());
+        let start = usize::from(rows.start - self.top) * width;
+        let end = start + usize::from(rows.count) * width;
         self.rows = rows;
-        self.valid = match &mut self.samples {
-            Samples::U8(samples) => {
-                write_rows(desc, top, rows, valid, samples.as_mut_slice(), kernel)
+        match &mut self.samples {
+            Samples::U8(block) => {
+                self.valid = u8::make_rows(desc, rows, valid, &mut block[start..end], kernel);
             }
-            Samples::S16(samples) => {
-                write_rows(desc, top, rows, valid, samples.as_mut_slice(), kernel)
+            Samples::S16(block) => {
+                self.valid = i16::make_rows(desc, rows, valid, &mut block[start..end], kernel);
             }
-            Samples::U32(samples) => {
-                write_rows(desc, top, rows, valid, samples.as_mut_slice(), kernel)
+            Samples::U32(block) => {
+                self.valid = u32::make_rows(desc, rows, valid, &mut block[start..end], kernel);
             }
-        };
+        }
     }
 
     /// Writes these rows of the integral image of `image`, and sets the plane's valid rectangle to

@@ -109,37 +109,6 @@ impl RowSample for u32 {
     }
 }
 
-/// Writes the rows that a kernel computes to a block that begins with row `top`. Returns the
-/// output's valid rectangle; `valid` is the previous one.
-pub fn write_rows<T: RowSample>(
-    desc: Desc,
-    top: u16,
-    rows: Band,
-    valid: Rect,
-    samples: &mut [T],
-    kernel: &Kernel<'_, '_, '_>,
-) -> Rect
-    requires format { desc.format ≡ T.format }
-    requires can { CanMake kernel.now.step.now kernel.now.first.now
-        (second_object kernel.now.second.now) desc }
-    requires rows { IsInRows desc.height rows }
-    requires within { IsWithin valid desc.width desc.height }
-    requires top { top ≤ rows.start }
-    requires room { (rows.start - top + rows.count) * desc.width ≤ length samples.old }
-    ensures samples { map T.value samples.new ≡ written_among top rows (kernel_image kernel.now
-        (image_over_rows desc valid rows
-        (rows_of_block desc.width top rows (map T.value samples.old)))) (map T.value samples.old) }
-    ensures valid { result ≡ (kernel_image kernel.now
-        (image_over_rows desc valid rows
-        (rows_of_block desc.width top rows (map T.value samples.old)))).valid }
-{
-    let width = usize::from(desc.width());
-    let start = usize::from(rows.start - top) * width;
-    let count = usize::from(rows.count) * width;
-    let part = &mut samples[start..start + count];
-    T::make_rows(desc, rows, valid, part, kernel)
-}
-
 /// Writes these rows of an image's integral image to a block that begins with row `top`. The first
 /// row continues from the row above it, if the block has that row.
 pub fn write_sums(width: u16, top: u16, rows: Band, image: &Image<'_>, samples: &mut [u32])

@@ -1,32 +1,120 @@
-use Rattle.std.proofs.Common.{sym, subst, ◌∙◌, arith}
+use Rattle.std.proofs.Common.{◌≡◌, ℕ, List, ◌++◌, All, ap, arith, drop, length, map, subst, sym, take, ◌∙◌}
+use Rattle.std.proofs.lemmas.List.{length-map}
+use Rattle.graph_run.proofs.Common.{Context, IsDescription, IsObject, IsPlan, IsReady, IsStrictlyIncreasing, Lasts, NamedObject, Node, PlanView, Samples, Verified, names_of, samples_format, with_objects, with_written}
+use Rattle.graph_steps.specs.declared.step.Task.{Task}
+use Rattle.graph_steps.specs.declared.tally.Tally.{Tally}
+use Rattle.graph_steps.specs.Planes.{PlaneValue}
+use Rattle.graph_steps.specs.Steps.{capacities}
+use Rattle.graph_run.specs.declared.schedule.Schedule.{Schedule}
+use Rattle.graph_run.specs.Blocks.{block_size}
 use Rattle.graph_run.specs.Bound.{KeepTallies}
-use Rattle.graph_run.proofs.BlockLemmas.{blocks_counted, counts_stay}
+use Rattle.graph_run.specs.Program.{tables_of, tallies_of}
+use Rattle.graph_run.specs.Results.{Leaves, tally_objects}
+use Rattle.graph_run.specs.Schedule.{CanRunBy, IsSchedule, schedule_objects}
+use Rattle.graph_run.proofs.BlockLemmas.{blocks_counted, counts_stay, written_back}
+use Rattle.graph_run.proofs.MoveLemmas.{can_return, run_value}
+use Rattle.graph_run.proofs.SolutionStepsObjects.{run_lasts}
 use Rattle.graph_run.proofs.SolutionStepsTaken.{tallies_kept}
 use Rattle.graph_run.proofs.runs.run_scheduled.Goals as goal
 
+abbrev can_run : (objects : List NamedObject) (v : Verified) (s : Schedule) → All (λ o. IsObject o.object) objects → IsStrictlyIncreasing (names_of objects) → (nodes : List Node) × IsReady objects nodes v
+    → (p : PlanView) × IsPlan v.steps v.virtual_outputs p × IsSchedule objects v p s → All (λ o. IsDescription o.desc) v.virtual_outputs → CanRunBy objects v s
+can_run objects v s are names ready schedule described =
+    record { are = are; names = names; nodes = ready.0; ready = ready.1; slots = schedule.0; plan = schedule.1; schedule = schedule.2; described = described }
+
+-- the results of a run, of lists that are equal to those that were lent
+left_by : (objects bare : List NamedObject) (ns steps : List Node) (ts tasks : List Task) (ps planes after : List PlaneValue) (ls tallies counted : List Tally) → objects ≡ bare → ns ≡ steps → ts ≡ tasks → ps ≡ planes → ls ≡ tallies
+    → Leaves (tables_of objects ns) ts ps ls after counted → Leaves (tables_of bare steps) tasks planes tallies after counted
+left_by objects bare ns steps ts tasks ps planes after ls tallies counted o n t p l leaves = rw (← o, ← n, ← t, ← p, ← l) leaves
+
+-- the blocks, after they were lent as a slice
+blocks_back : (old lent between new : List Samples) (len : ℕ) → lent ≡ old → map samples_format between ≡ map samples_format lent → map samples_format new ≡ map samples_format between → len ≡ length old
+    → map samples_format (take len (new ++ drop (length new) old)) ≡ map samples_format old
+blocks_back old lent between new len lent_is first then all =
+    let formats : map samples_format new ≡ map samples_format old = then ∙ first ∙ ap (map samples_format) lent_is in
+    let long : length new ≡ length old = omega (arith, ap length formats, length-map new samples_format, length-map old samples_format) in
+    ap (map samples_format) (written_back old new len long all) ∙ formats
+
 pub begin_tallies-requires : goal.begin_tallies-requires
 begin_tallies-requires c =
-    subst (KeepTallies c.args.table.now.objects) (sym c.steps.ensures.steps)
-    (tallies_kept c.args.table.now.objects c.requires.ready.0 c.args.verified.now c.requires.ready.1 c.requires.names c.requires.schedule.0 c.requires.schedule.1)
+    let g = can_run c.args.table.now.objects c.args.verified.now c.args.schedule.now c.requires.objects c.requires.names c.requires.ready c.requires.schedule c.prove_descriptions.ensures in
+    subst (KeepTallies c.args.table.now.objects) (sym c.steps.ensures.steps) (tallies_kept g)
 
-pub run_over-requires-clause-schedule : goal.run_over-requires-clause-schedule
-run_over-requires-clause-schedule c =
-    let h = c.requires.schedule in
-    (h.0, h.1, h.2, c.in_ok-take_blocks.ensures.rooms ∙ c.deref.ensures.value ∙ h.2.rooms)
+pub fill_planes-requires-clause-runs : goal.fill_planes-requires-clause-runs
+fill_planes-requires-clause-runs c = can_run c.args.table.now.objects c.args.verified.now c.args.schedule.now c.requires.objects c.requires.names c.requires.ready c.requires.schedule c.prove_descriptions.ensures
+
+pub fill_planes-requires-clause-sizes : goal.fill_planes-requires-clause-sizes
+fill_planes-requires-clause-sizes c = ap (map block_size) c.as_mut_slice-slots.ensures.value ∙ c.in_ok-take_blocks.ensures.rooms ∙ c.deref.ensures.value
+
+pub run-requires : goal.run-requires
+run-requires c =
+    let steps = c.steps-2.ensures.steps in
+    let halos = c.deref-3.ensures.value in
+    let tasks = c.deref-2.ensures.value in
+    let planes = c.as_mut_slice-planes.ensures.value in
+    let tallies = c.as_mut_slice-tallies.ensures.value ∙ c.in_ok-begin_tallies.ensures ∙ ap (tallies_of c.args.table.now.objects) c.steps.ensures.steps in
+    record {
+      program = rw (steps, halos, tasks, planes) c.fill_planes.ensures.program;
+      reduces = rw (tasks, planes, tallies) c.fill_planes.ensures.reduces;
+    }
+
+pub empty_planes-requires : goal.empty_planes-requires
+empty_planes-requires c =
+    let objects = c.args.table.now.objects in
+    let g = can_run objects c.args.verified.now c.args.schedule.now c.requires.objects c.requires.names c.requires.ready c.requires.schedule c.prove_descriptions.ensures in
+    let sizes = ap (map block_size) c.as_mut_slice-slots.ensures.value ∙ c.in_ok-take_blocks.ensures.rooms ∙ c.deref.ensures.value in
+    let bare = ap (λ (x : Context). x.objects) c.fill_planes.ensures.left in
+    let planes = c.as_mut_slice-planes.ensures.value in
+    let tallies = c.as_mut_slice-tallies.ensures.value ∙ c.in_ok-begin_tallies.ensures ∙ ap (tallies_of objects) c.steps.ensures.steps in
+    let leaves : Leaves (tables_of c.fill_planes.new.table.objects c.steps-2.result.now) c.deref-2.result.now c.as_mut_slice-planes.result.now c.as_mut_slice-tallies.result.now c.run.new.planes c.run.new.tallies =
+    record { images = c.run.ensures.solution; reductions = c.run.ensures.reductions; whole = c.run.ensures.whole; descs = c.run.ensures.descs; planes_count = c.run.ensures.count; tallies_count = c.run.auto.tallies } in
+    rw bare
+    (can_return g c.as_mut_slice-slots.result.now sizes c.fill_planes.ensures.planes (left_by _ _ _ _ _ _ _ _ _ _ _ _ bare c.steps-2.ensures.steps c.deref-2.ensures.value planes tallies leaves)
+    (c.run.ensures.blocks ∙ ap capacities planes) c.fill_planes.new.blocks c.fill_planes.ensures.formats)
 
 pub give_back-requires : goal.give_back-requires
-give_back-requires c = λ f. omega (arith, counts_stay c.take_blocks.new.blocks.items c.run_over.new.blocks.items c.run_over.ensures.formats f, c.in_ok-take_blocks.ensures.lends f)
+give_back-requires c =
+    let blocks = blocks_back c.take_blocks.new.blocks.items c.as_mut_slice-slots.result.now c.fill_planes.new.blocks c.empty_planes.new.blocks c.take_blocks.new.blocks.len c.as_mut_slice-slots.ensures.value
+    c.fill_planes.ensures.formats c.empty_planes.ensures.formats (omega (arith, c.take_blocks.new.blocks.ok.0)) in
+    λ f. omega (arith, counts_stay _ _ blocks f, c.in_ok-take_blocks.ensures.lends f)
 
 pub returns-clause-lent : goal.returns-clause-lent
-returns-clause-lent c = λ f. omega (arith, counts_stay c.take_blocks.new.blocks.items c.run_over.new.blocks.items c.run_over.ensures.formats f, c.in_ok-take_blocks.ensures.lends f, c.give_back.ensures.lent f)
+returns-clause-lent c =
+    let blocks = blocks_back c.take_blocks.new.blocks.items c.as_mut_slice-slots.result.now c.fill_planes.new.blocks c.empty_planes.new.blocks c.take_blocks.new.blocks.len c.as_mut_slice-slots.ensures.value
+    c.fill_planes.ensures.formats c.empty_planes.ensures.formats (omega (arith, c.take_blocks.new.blocks.ok.0)) in
+    λ f. omega (arith, counts_stay _ _ blocks f, c.in_ok-take_blocks.ensures.lends f, c.give_back.ensures.lent f)
 
 pub returns-clause-free : goal.returns-clause-free
 returns-clause-free c =
+    let blocks = blocks_back c.take_blocks.new.blocks.items c.as_mut_slice-slots.result.now c.fill_planes.new.blocks c.empty_planes.new.blocks c.take_blocks.new.blocks.len c.as_mut_slice-slots.ensures.value
+    c.fill_planes.ensures.formats c.empty_planes.ensures.formats (omega (arith, c.take_blocks.new.blocks.ok.0)) in
     λ f. omega (
       arith,
-      counts_stay c.take_blocks.new.blocks.items c.run_over.new.blocks.items c.run_over.ensures.formats f,
+      counts_stay _ _ blocks f,
       blocks_counted c.take_blocks.new.blocks.items c.args.schedule.now.rooms.items (c.in_ok-take_blocks.ensures.rooms ∙ c.deref.ensures.value) f,
       c.in_ok-take_blocks.ensures.lends f,
       c.give_back.ensures.lent f,
       c.give_back.ensures.blocks f,
     )
+
+pub returns-clause-value : goal.returns-clause-value
+returns-clause-value c = λ nodes ready.
+    let objects = c.args.table.now.objects in
+    let v = c.args.verified.now in
+    let s = c.args.schedule.now in
+    let g = can_run objects v s c.requires.objects c.requires.names (nodes, ready) c.requires.schedule c.prove_descriptions.ensures in
+    let sizes = ap (map block_size) c.as_mut_slice-slots.ensures.value ∙ c.in_ok-take_blocks.ensures.rooms ∙ c.deref.ensures.value in
+    let bare = ap (λ (x : Context). x.objects) c.fill_planes.ensures.left in
+    let planes = c.as_mut_slice-planes.ensures.value in
+    let tallies = c.as_mut_slice-tallies.ensures.value ∙ c.in_ok-begin_tallies.ensures ∙ ap (tallies_of objects) c.steps.ensures.steps in
+    let leaves : Leaves (tables_of c.fill_planes.new.table.objects c.steps-2.result.now) c.deref-2.result.now c.as_mut_slice-planes.result.now c.as_mut_slice-tallies.result.now c.run.new.planes c.run.new.tallies =
+    record { images = c.run.ensures.solution; reductions = c.run.ensures.reductions; whole = c.run.ensures.whole; descs = c.run.ensures.descs; planes_count = c.run.ensures.count; tallies_count = c.run.auto.tallies } in
+    c.empty_planes.ensures.value
+    ∙ ap (λ (t : Context). with_objects t (with_written (with_written t.objects (schedule_objects v s c.run.new.planes)) (tally_objects s.tally_cells.items c.run.new.tallies))) c.fill_planes.ensures.left
+    ∙ ap (with_objects c.args.table.now)
+    (run_value g c.as_mut_slice-slots.result.now sizes c.fill_planes.ensures.planes (left_by _ _ _ _ _ _ _ _ _ _ _ _ bare c.steps-2.ensures.steps c.deref-2.ensures.value planes tallies leaves))
+
+pub returns-clause-lasts : goal.returns-clause-lasts
+returns-clause-lasts c =
+    let g = can_run c.args.table.now.objects c.args.verified.now c.args.schedule.now c.requires.objects c.requires.names c.requires.ready c.requires.schedule c.prove_descriptions.ensures in
+    subst (Lasts c.args.table.now.objects) (sym (ap (λ (t : Context). t.objects) (returns-clause-value c g.nodes g.ready))) (run_lasts g)
