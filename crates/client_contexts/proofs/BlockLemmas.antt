@@ -1,6 +1,6 @@
 -- The number of blocks that hold a context's samples, when an object is added and when objects are written.
 use Rattle.std.proofs.Common.{◌≡◌, ◌∙◌, ℕ, ◌+◌, ◌-◌, true, List, [], Option, Some, length, take, drop, refl, sym, ap, subst, arith, sum, sum_by, unwrap_or, take-append-drop}
-use Rattle.client_contexts.proofs.Common.{IsStrictlyIncreasing, option_map, All-weaker, sum-map, Format, U8, Reference, reference_to, Description, GraphValue, ImageValue, new_image, image_over, description_of, ObjectValue, ImageObject, DelayObject, GraphObject, object_kind, blocks_in, KeepsBlocks, Context, with_graph, in_slot, NamedObject, object_held, object_at, with_object, image_value, aged_object, IsUnder, HoldsImage, object_under, image_held, names_of, map_some}
+use Rattle.client_contexts.proofs.Common.{with_new_keeps, IsStrictlyIncreasing, option_map, All-weaker, sum-map, Format, U8, Reference, reference_to, Description, GraphValue, ImageValue, new_image, image_over, description_of, ObjectValue, ImageObject, DelayObject, GraphObject, object_kind, blocks_in, KeepsBlocks, Context, with_graph, in_slot, NamedObject, object_held, object_at, with_object, image_value, aged_object, IsUnder, HoldsImage, object_under, image_held, names_of, map_some}
 use Rattle.std.proofs.lemmas.List.Sums.{sum_by-append}
 use Rattle.std.proofs.lemmas.Option.{option_and_then_some}
 use Rattle.vx_base.specs.declared.kind.Kind.TheVariants as kind
@@ -23,6 +23,9 @@ pub blocks_more : (c new : Context) (object : ObjectValue) (format : Format) →
     → blocks_in new.objects format ≡ blocks_in c.objects format + object_blocks object format
 blocks_more c new object format is =
     rw is (blocks-with_new c.objects (record { name = c.next; live = true; object = object }) format)
+
+-- an object that is added keeps the limits
+pub ruleset insert_steps = (blocks_more, with_new_keeps)
 
 -- ---- objects that are written
 

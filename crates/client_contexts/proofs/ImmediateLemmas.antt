@@ -1,7 +1,6 @@
 -- A node that runs immediately, or is refused.
 use Rattle.std.proofs.Common.{◌≡◌, Bool, true, false, List, IfSome, Option, Some, None, refl, sym, ap, ◌∙◌, All, unwrap_or, ◌||◌, if◌then◌else◌, option_to_list, Err, Ok}
-use Rattle.client_contexts.proofs.Common.{list_any, option_map, option_and_then, list_any-append, Kind, Node, Reference, parameters, operands, with_kind, second_kind, ObjectValue, object_kind, Operands, is_virtual, verdict_on, NamedObject, object_at, Refusal, Empty, Context, with_objects, reply_unless, operands_refusal, immediate, operand_held, OfOperands, of_operands, IsFound, all_operands}
-use Rattle.graph_verify.specs.declared.verdict.Verdict.{Verdict}
+use Rattle.client_contexts.proofs.Common.{list_any, option_map, list_any-append, Kind, Node, Reference, parameters, operands, with_kind, second_kind, ObjectValue, object_kind, Operands, is_virtual, verdict_on, NamedObject, object_at, Refusal, Empty, Outcome, Context, with_objects, reply_unless, operands_refusal, immediate, operand_held, OfOperands, of_operands, IsFound, all_operands}
 use Rattle.client_model.specs.declared.refusal.Refusal.TheVariants.{Rejected, OptimizedAway}
 use Rattle.std.specs.Option.{option_or}
 use Rattle.std.proofs.lemmas.Bool.{or_parts}
@@ -42,82 +41,79 @@ module _ (objects : List NamedObject) (operand : Reference × Kind) (found : IsF
   holds_kind : is_virtual (operand_held objects operand.0) ≡ false → HoldsKind objects operand
   holds_kind solid = ap (option_map object_kind) found.1 ∙ ap Some (of_kind found.0 operand.1 (ap is_virtual (sym operand_is) ∙ solid) found.2)
 
-module _ (c : Context) (n : Node) where
-  refused_is : (refusal : Refusal) → node_refusal c.objects n ≡ Some refusal → immediate c n ≡ Err refusal
-  refused_is refusal e = ap (λ r. reply_unless r Empty (with_objects c (with_written c.objects (written_by n (object_at c.objects))))) e
+-- ---- the operands of a node that are found
 
-  abbrev verdict_part : Option Refusal
-  verdict_part = option_map Rejected (option_and_then (verdict_on n) (operands_in c.objects n))
+module _ (objects : List NamedObject) (n : Node) (found : All (IsFound objects) (operands n)) where
+  abbrev held_operands : Operands
+  held_operands = operands_of (operand_held objects) n
 
-  module _ (found : All (IsFound c.objects) (operands n)) (known : None ≡ operands_refusal None c.objects (operands n)) where
-    abbrev held_operands : Operands
-    held_operands = operands_of (operand_held c.objects) n
+  each : OfOperands (IsFound objects) n
+  each = of_operands (IsFound objects) n found
 
-    each : OfOperands (IsFound c.objects) n
-    each = of_operands (IsFound c.objects) n found
+  operand_if_there : (cell : Option Reference) (wanted : Kind) → IfSome cell (λ x. IsFound objects (x, wanted)) → operand_if objects cell ≡ option_map (operand_held objects) cell
+  operand_if_there None wanted s = refl
+  operand_if_there (Some cell) wanted s = operand_there objects (cell, wanted) s
 
-    operand_if_there : (cell : Option Reference) (wanted : Kind) → IfSome cell (λ x. IsFound c.objects (x, wanted)) → operand_if c.objects cell ≡ option_map (operand_held c.objects) cell
-    operand_if_there None wanted s = refl
-    operand_if_there (Some cell) wanted s = operand_there c.objects (cell, wanted) s
+  operands_there : operands_in objects n ≡ Some held_operands
+  operands_there =
+      rw (
+        operand_there objects (n.in1, kind.Image) each.in1,
+        operand_if_there n.in2 (second_kind n) each.in2,
+        operand_if_there n.out1 (parameters n.function).output each.out1,
+        operand_if_there n.out2 (parameters n.function).output each.out2,
+      )
 
-    operands_there : operands_in c.objects n ≡ Some held_operands
-    operands_there =
-        rw (
-          operand_there c.objects (n.in1, kind.Image) each.in1,
-          operand_if_there n.in2 (second_kind n) each.in2,
-          operand_if_there n.out1 (parameters n.function).output each.out1,
-          operand_if_there n.out2 (parameters n.function).output each.out2,
-        )
+  abbrev is_away : Reference × Kind → Bool
+  is_away operand = is_some_virtual (object_at objects operand.0)
 
-    -- ---- virtual images
+  away_if_there : (cell : Option Reference) (wanted : Kind) → IfSome cell (λ x. IsFound objects (x, wanted))
+      → list_any is_away (with_kind wanted cell) ≡ list_any is_virtual (option_to_list (option_map (operand_held objects) cell))
+  away_if_there None wanted s = refl
+  away_if_there (Some cell) wanted s = ap (λ b. b || false) (away_there objects (cell, wanted) s)
 
-    abbrev is_away : Reference × Kind → Bool
-    is_away operand = is_some_virtual (object_at c.objects operand.0)
+  away_is : list_any is_away (operands n) ≡ list_any is_virtual (all_operands held_operands)
+  away_is =
+      let output = (parameters n.function).output in
+      simp list_any-append
+      (rw (away_there objects (n.in1, kind.Image) each.in1, away_if_there n.in2 (second_kind n) each.in2, away_if_there n.out1 output each.out1, away_if_there n.out2 output each.out2))
 
-    away_if_there : (cell : Option Reference) (wanted : Kind) → IfSome cell (λ x. IsFound c.objects (x, wanted))
-        → list_any is_away (with_kind wanted cell) ≡ list_any is_virtual (option_to_list (option_map (operand_held c.objects) cell))
-    away_if_there None wanted s = refl
-    away_if_there (Some cell) wanted s = ap (λ b. b || false) (away_there c.objects (cell, wanted) s)
+  -- only a virtual image or the verdict can refuse the node
+  pub refusal_is : None ≡ operands_refusal None objects (operands n)
+      → node_refusal objects n ≡ option_or (if list_any is_virtual (all_operands held_operands) then Some OptimizedAway else None) (option_map Rejected (verdict_on n held_operands))
+  refusal_is known = rw (← known, away_is, operands_there)
 
-    away_is : list_any is_away (operands n) ≡ list_any is_virtual (all_operands held_operands)
-    away_is =
+  -- unless it is a virtual image, each operand has the wanted kind
+  module _ (solid : list_any is_virtual (all_operands held_operands) ≡ false) where
+    of_kind_if : (cell : Option Reference) (wanted : Kind) → list_any is_virtual (option_to_list (option_map (operand_held objects) cell)) ≡ false → IfSome cell (λ x. IsFound objects (x, wanted)) → IfSome cell (λ x. HoldsKind objects (x, wanted))
+    of_kind_if None wanted plain s = tt
+    of_kind_if (Some cell) wanted plain s = holds_kind objects (cell, wanted) s (or_parts (is_virtual (operand_held objects cell)) false plain).0
+
+    pub all_of_kind : All (HoldsKind objects) (operands n)
+    all_of_kind =
+        let o = held_operands in
         let output = (parameters n.function).output in
-        simp list_any-append
-        (rw (away_there c.objects (n.in1, kind.Image) each.in1, away_if_there n.in2 (second_kind n) each.in2, away_if_there n.out1 output each.out1, away_if_there n.out2 output each.out2))
+        let first = or_parts (is_virtual o.in1) (list_any is_virtual (other_operands o)) solid in
+        let second = or_parts (list_any is_virtual (option_to_list o.in2)) (list_any is_virtual (written_operands o)) (sym (list_any-append is_virtual (option_to_list o.in2) (written_operands o)) ∙ first.1) in
+        let outs = or_parts (list_any is_virtual (option_to_list o.out1)) (list_any is_virtual (option_to_list o.out2)) (sym (list_any-append is_virtual (option_to_list o.out1) (option_to_list o.out2)) ∙ second.1) in
+        to_operands (HoldsKind objects) n
+        (record {
+          in1 = holds_kind objects (n.in1, kind.Image) each.in1 first.0;
+          in2 = of_kind_if n.in2 (second_kind n) second.0 each.in2;
+          out1 = of_kind_if n.out1 output outs.0 each.out1;
+          out2 = of_kind_if n.out2 output outs.1 each.out2;
+        })
 
-    refusal_is : node_refusal c.objects n ≡ option_or (if list_any is_virtual (all_operands held_operands) then Some OptimizedAway else None) (option_map Rejected (verdict_on n held_operands))
-    refusal_is = rw (← known, away_is, operands_there)
+-- ---- the outcome of a node
 
-    -- an operand is a virtual image
-    pub away_refuses : list_any is_virtual (all_operands held_operands) ≡ true → immediate c n ≡ Err OptimizedAway
-    away_refuses away = refused_is OptimizedAway (rw (refusal_is, away))
+module _ (c : Context) (node n : Node) (same : n ≡ node) where
+  abbrev outcome : Option Refusal → Outcome
+  outcome refusal = reply_unless refusal Empty (with_objects c (with_written c.objects (written_by n (object_at c.objects))))
 
-    module _ (solid : list_any is_virtual (all_operands held_operands) ≡ false) where
-      verdict_is : node_refusal c.objects n ≡ option_map Rejected (verdict_on n held_operands)
-      verdict_is = rw (refusal_is, solid)
+  pub refused_is : (refusal : Refusal) → Some refusal ≡ node_refusal c.objects n → immediate c node ≡ Err refusal
+  refused_is refusal is = ap (immediate c) (sym same) ∙ ap outcome (sym is)
 
-      pub verdict_refuses : (verdict : Verdict) → verdict_on n held_operands ≡ Some verdict → immediate c n ≡ Err (Rejected verdict)
-      verdict_refuses verdict e = refused_is (Rejected verdict) (rw (verdict_is, e))
+  pub done_is : (after : Context) → None ≡ node_refusal c.objects n → after ≡ with_objects c (with_written c.objects (written_by n (object_at c.objects))) → immediate c node ≡ Ok (Empty, Some after)
+  done_is after allowed is = ap (immediate c) (sym same) ∙ ap outcome (sym allowed) ∙ ap (λ (t : Context). let done : Outcome = Ok (Empty, Some t) in done) (sym is)
 
-      pub nothing_refuses : verdict_on n held_operands ≡ None → immediate c n ≡ Ok (Empty, Some (with_objects c (with_written c.objects (written_by n (object_at c.objects)))))
-      nothing_refuses e = rw (verdict_is, e)
-
-      -- then the objects that are found have the wanted kinds
-      of_kind_if : (cell : Option Reference) (wanted : Kind) → list_any is_virtual (option_to_list (option_map (operand_held c.objects) cell)) ≡ false → IfSome cell (λ x. IsFound c.objects (x, wanted)) → IfSome cell (λ x. HoldsKind c.objects (x, wanted))
-      of_kind_if None wanted plain s = tt
-      of_kind_if (Some cell) wanted plain s = holds_kind c.objects (cell, wanted) s (or_parts (is_virtual (operand_held c.objects cell)) false plain).0
-
-      pub all_of_kind : All (HoldsKind c.objects) (operands n)
-      all_of_kind =
-          let o = held_operands in
-          let output = (parameters n.function).output in
-          let first = or_parts (is_virtual o.in1) (list_any is_virtual (other_operands o)) solid in
-          let second = or_parts (list_any is_virtual (option_to_list o.in2)) (list_any is_virtual (written_operands o)) (sym (list_any-append is_virtual (option_to_list o.in2) (written_operands o)) ∙ first.1) in
-          let outs = or_parts (list_any is_virtual (option_to_list o.out1)) (list_any is_virtual (option_to_list o.out2)) (sym (list_any-append is_virtual (option_to_list o.out1) (option_to_list o.out2)) ∙ second.1) in
-          to_operands (HoldsKind c.objects) n
-          (record {
-            in1 = holds_kind c.objects (n.in1, kind.Image) each.in1 first.0;
-            in2 = of_kind_if n.in2 (second_kind n) second.0 each.in2;
-            out1 = of_kind_if n.out1 output outs.0 each.out1;
-            out2 = of_kind_if n.out2 output outs.1 each.out2;
-          })
+-- the refusals of a node, and its outcome
+pub ruleset immediate_steps = (refusal_is, refused_is, done_is)

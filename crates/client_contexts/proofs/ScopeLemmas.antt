@@ -1,6 +1,6 @@
 -- The lookup of operands, with or without the scope of a graph.
-use Rattle.std.proofs.Common.{◌≡◌, ℕ, IsTrue, List, [], ◌∷◌, Option, Some, None, IfSome, sym, ap, subst, ◌∙◌, All, Result, Ok, OnOk}
-use Rattle.client_contexts.proofs.Common.{All-nil, All-cons, All-append, Kind, Parameters, Node, Reference, reference_to, parameters, operands, second_kind, with_kind, ObjectValue, object_kind, NamedObject, Operands, OfOperands, Refusal, operands_refusal, holds_operand, OperandsStand, IsFound, first_class}
+use Rattle.std.proofs.Common.{◌≡◌, ℕ, IsTrue, List, [], Option, Some, None, IfSome, sym, ap, subst, ◌∙◌, All, Result, Ok, OnOk}
+use Rattle.client_contexts.proofs.Common.{All-nil, All-cons, All-append, Kind, Parameters, Node, Reference, parameters, operands, second_kind, with_kind, ObjectValue, object_kind, NamedObject, Operands, OfOperands, Refusal, operands_refusal, holds_operand, OperandsStand, IsFound}
 use Rattle.vx_base.specs.declared.kind.Kind.TheVariants as kind
 use Rattle.client_model.specs.Operands.{is_kind}
 use Rattle.client_model.specs.States.{kind_held}
@@ -8,7 +8,6 @@ use Rattle.client_model.proofs.HoldLaws.{stands_from}
 use Rattle.client_model.proofs.NamedLaws.{held_kind}
 use Rattle.client_model.proofs.NodeStepLaws.{Passes, operands_pass}
 use Rattle.client_contexts.specs.Steps.{refusal_in}
-use Rattle.client_contexts.proofs.LookupLemmas.{refusal-append}
 
 -- a property of each operand of a node holds for the list of all
 pub to_operands : (P : Reference × Kind → Type 0) (n : Node) → OfOperands P n → All P (operands n)
@@ -46,9 +45,3 @@ module _ (graph : ℕ) (objects : List NamedObject) where
       let are : All (IsFound objects) (operands n) = subst (λ (r : Result Operands Refusal). OnOk r (All (IsFound objects) (operands n))) is all in
       let pass = operands_pass (Some graph) objects (operands n) (sym refused ∙ ap refusal_in is) in
       λ k d below. stand_one _ (are k d below) (pass k d below)
-
-  -- the first refusal by class among those of the graph's name and the operands
-  pub graph_for_refused : (n : Node) (cell : Reference) (named found both : Option Refusal) → cell ≡ reference_to graph → named ≡ operands_refusal (Some graph) objects ((cell, kind.Graph) ∷ [])
-      → found ≡ operands_refusal (Some graph) objects (operands n) → both ≡ first_class named found → both ≡ operands_refusal (Some graph) objects ((reference_to graph, kind.Graph) ∷ operands n)
-  graph_for_refused n cell named found both is by_name by_operands joined =
-      rw (joined, by_name, by_operands, refusal-append (Some graph) objects ((cell, kind.Graph) ∷ []) (operands n), is)

@@ -1,5 +1,7 @@
 //! Requests that create and query images, write and read their samples, also as PGM texts, and set
 //! valid rectangles. OpenVX 1.3, "Object: Image". Writes from a source or a text are in `incoming`.
+#![tactic(auto, using(crate::proofs::OutcomeLemmas::image_steps))]
+
 ghost use Rattle.std.specs.Prelude.{◌≡◌, Some, Ok, Err, IfOk, IfErr, OnOk};
 ghost use Rattle.vx_base.specs.declared.format.Format.TheVariants.{U8 as FormatU8};
 ghost use Rattle.vx_base.specs.Image.{IsImage};

@@ -1,4 +1,6 @@
 //! Finds objects by reference, by name, and by the operands of a node.
+#![tactic(auto, using(crate::proofs::LookupLemmas::refusal_steps))]
+
 ghost use Rattle.std.specs.Prelude.{◌≡◌, ◌∷◌, [], is_some, Some, Ok, Err, IsTrue, All, IfOk, IfErr};
 ghost use Rattle.std.specs.Prelude.{OnOk};
 ghost use Rattle.std.specs.List.{list_any};

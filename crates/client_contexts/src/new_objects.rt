@@ -1,4 +1,6 @@
 //! Checks the limits for a client's new objects, and inserts the objects.
+#![tactic(auto, using(crate::proofs::BlockLemmas::insert_steps))]
+
 ghost use Rattle.std.specs.Prelude.{◌≡◌, ◌*◌, ◌+◌, ◌≤◌, if◌then◌else◌, IsTrue, [], Ok, Err};
 ghost use Rattle.vx_base.specs.Object.{IsObject, object_bytes};
 ghost use Rattle.vx_base.specs.declared.format.Format.{Format};

@@ -39,8 +39,7 @@ pub fn take_image(table: &mut Table, cell: ObjRef) -> Plane
     ensures left { table.new ≡ with_objects table.old (with_object table.old.objects cell
         (ImageObject (without_samples (image_held table.old.objects cell)))) }
 {
-    let valid = table.image(cell).valid();
-    let (desc, samples) = table.take(cell);
+    let (desc, valid, samples) = table.take_with_valid(cell);
     Plane::of_image(desc, valid, samples)
 }
 

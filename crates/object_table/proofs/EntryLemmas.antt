@@ -51,6 +51,10 @@ pub written : (entries : List (ℕ × Entry)) (cell : Reference) (old new : Entr
 written [] cell old new object order found live is = cc
 written (e ∷ entries) cell old new object order found live is = grind (arith, written entries cell old new object (sorted_tail nat_cmp e.0 (keys_of entries) order), none_written entries cell object, past_head e entries cell.name order, same_name cell.name e.0)
 
+pub written_name : (entries : List (ℕ × Entry)) (name : ℕ) (old new : Entry) (object : ObjectValue) → InOrder entries → lookup (is_at (nat_cmp name)) entries ≡ Some old
+    → new.live ≡ old.live → new.object ≡ object → map entry_object (set_value (is_at (nat_cmp name)) entries new) ≡ with_object (map entry_object entries) (reference_to name) object
+written_name entries name old new object order found live is = written entries (reference_to name) old new object order found live is
+
 -- a property of all entries, which holds of the new entry if it held of the old one
 pub All-written : (P : ℕ × Entry → Type 0) (entries : List (ℕ × Entry)) (name : ℕ) (old new : Entry) → lookup (is_at (nat_cmp name)) entries ≡ Some old → ((k : ℕ) → P (k, old) → P (k, new)) → All P entries
     → All P (set_value (is_at (nat_cmp name)) entries new)
@@ -180,13 +184,6 @@ module _ (t : Context) (next : ℕ) (entries : List (ℕ × Entry)) (view : ◌�
     pub image_there : HoldsImage t.objects cell → HasImage slot old.object
     image_there h = grind (arith, held_under name old found)
 
-    pub shown_cell : (f : ObjectValue → ObjectValue) (object : ObjectValue) (after : List (ℕ × Entry)) → InOrder entries → after ≡ set_value (is_at (nat_cmp name)) entries (record old { object = object })
-        → object ≡ with_slot slot (f (object_in slot old.object)) old.object
-        → ◌≡◌ {A = Context} (record { next = next; objects = map entry_object after }) (with_objects t (with_object t.objects cell (f (cell_object t.objects cell))))
-    shown_cell f object after order then is =
-        let here : lookup (is_at (nat_cmp cell.name)) entries ≡ Some old = ap (λ k. lookup (is_at (nat_cmp k)) entries) (sym at) ∙ found in
-        grind (arith, written entries cell old (record old { object = object }) (f (object_in slot old.object)) order here refl, cell_is)
-
 -- an image that is written over an image leaves no nodes
 pub no_nodes : (slot : Option ℕ) (image : ImageValue) (object : ObjectValue) → HasImage slot object → nodes_in (with_slot slot (ImageObject image) object) ≡ nodes_in object
 no_nodes slot image object h = grind arith
@@ -210,5 +207,5 @@ module _ (t : Context) (next : ℕ) (entries : List (ℕ × Entry)) (view : ◌�
   pub kind_under : (wanted : Kind) (name : ℕ) (old : Entry) → lookup (is_at (nat_cmp name)) entries ≡ Some old → IsUnder t.objects wanted name → object_kind old.object ≡ wanted
   kind_under wanted name old found h = grind (arith, held_under t next entries view name old found)
 
--- what is held under a name or in a cell whose entry was looked up
-pub ruleset entry_steps = (held_is, held_under, none_held, under_is, nothing_under, kind_under, nothing_held, found_under, image_is, image_there)
+-- what is held under a name or in a cell whose entry was looked up, and what a change of the entry shows
+pub ruleset entry_steps = (held_is, held_under, none_held, under_is, nothing_under, kind_under, nothing_held, found_under, image_is, image_there, written, written_name)

@@ -241,10 +241,28 @@ impl Table {
             (with_samples (cell_object self.old.objects cell)
             (image_held self.old.objects cell).valid [])) }
     {
+        let (desc, _, samples) = self.take_with_valid(cell);
+        (desc, samples)
+    }
+
+    /// Takes the samples out as `take` does, and returns the valid rectangle too.
+    pub fn take_with_valid(&mut self, cell: ObjRef) -> (Desc, Rect, Samples)
+        requires { HoldsImage self.old.objects cell }
+        ensures desc { result.0 ≡ description_of (image_held self.old.objects cell) }
+        ensures valid { result.1 ≡ (image_held self.old.objects cell).valid }
+        ensures value { values result.2 ≡ (image_held self.old.objects cell).samples }
+        ensures format { samples_format result.2 ≡ (image_held self.old.objects cell).format }
+        ensures left { self.new ≡ with_objects self.old
+            (with_object self.old.objects cell
+            (with_samples (cell_object self.old.objects cell)
+            (image_held self.old.objects cell).valid [])) }
+    {
         let Some(entry) = self.entries.get_mut(&cell.name()) else {
             unreachable!()
         };
-        entry.object.take(cell.slot())
+        let valid = entry.object.image(cell.slot()).valid();
+        let (desc, samples) = entry.object.take(cell.slot());
+        (desc, valid, samples)
     }
 
     /// Puts samples into the image that a reference names, and sets the image's valid rectangle.

@@ -1,11 +1,8 @@
 use Rattle.std.proofs.Common.{◌∙◌, ap, sym, subst}
 use Rattle.client_contexts.proofs.Common.{Context, with_objects, image_held, with_object, ImageValue, description_of, with_valid, ImageObject, valid_refusal, KeepsLimits, KeepsBlocks}
 use Rattle.client_contexts.proofs.BlockLemmas.{image_blocks_kept}
-use Rattle.client_contexts.proofs.OutcomeLemmas.{holder_is, set_keeps}
+use Rattle.client_contexts.proofs.OutcomeLemmas.{set_keeps}
 use Rattle.client_contexts.proofs.images.set_valid.Goals as goal
-
-pub set_valid-requires-clause-object : goal.set_valid-requires-clause-object
-set_valid-requires-clause-object c = holder_is c.requires.0 c.args.table.now c.args.reference c.requires.1 c.in_ok-find_image.ensures.ok.there
 
 pub returns-clause-within_limits : goal.returns-clause-within_limits
 returns-clause-within_limits c = λ limits h.

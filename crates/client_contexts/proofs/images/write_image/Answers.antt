@@ -1,11 +1,7 @@
 use Rattle.std.proofs.Common.{sym, subst}
 use Rattle.client_contexts.proofs.Common.{KeepsBlocks, Context, KeepsLimits, IsImageFor}
-use Rattle.client_contexts.proofs.OutcomeLemmas.{holder_is}
 use Rattle.client_contexts.proofs.WriteLemmas.{written_keeps, written_blocks}
 use Rattle.client_contexts.proofs.images.write_image.Goals as goal
-
-pub write-requires-clause-object : goal.write-requires-clause-object
-write-requires-clause-object c = holder_is c.requires.0 c.args.table.now c.args.reference c.requires.1 c.in_ok-find_image_for.ensures.ok.named.there
 
 pub returns-clause-within_limits : goal.returns-clause-within_limits
 returns-clause-within_limits c = λ limits h.

@@ -1,17 +1,9 @@
-use Rattle.std.proofs.Common.{◌≡◌, ◌∙◌, Option, ap, subst, rules, All, Ok, Result, IfOk, OnOk, unwrap_or}
+use Rattle.std.proofs.Common.{◌≡◌, ◌∙◌, Option, ap, subst, All, Ok, Result, IfOk, OnOk, unwrap_or}
 use Rattle.client_contexts.proofs.Common.{Parameters, with_kind, Refusal, IsFound}
 use Rattle.vx_base.specs.declared.kind.Kind.TheVariants as kind
 use Rattle.graph_verify.specs.declared.operand.Operand.{Operand}
-use Rattle.client_contexts.proofs.LookupLemmas.{operands_refused}
 use Rattle.client_contexts.proofs.ScopeLemmas.{operands_found}
 use Rattle.client_contexts.proofs.lookup.find_operands.Goals as goal
-
-pub returns-in_err-in1-clause-err : goal.returns-in_err-in1-clause-err
-returns-in_err-in1-clause-err c =
-    let refused = operands_refused c.args.scope c.args.table.now.objects c.args.node.now c.parameters-parameters.result c.unwrap_or-second.result _ _ _ _ _ _ _
-    c.parameters-parameters.ensures c.unwrap_or-second.ensures c.find_operand-in1.ensures.err c.find_if_given-in2.ensures.err c.find_if_given-out1.ensures.err c.find_if_given-out2.ensures.err
-    c.both.ensures.err c.both-2.ensures.err c.both-3.ensures.err in
-    search (rules, refused)
 
 pub returns-clause-found : goal.returns-clause-found
 returns-clause-found c =
@@ -26,10 +18,3 @@ returns-clause-found c =
     (subst (λ (r : Result (Option Operand) Refusal). OnOk r (All (IsFound objects) (with_kind c.unwrap_or-second.result n.in2))) reads.1 c.find_if_given-in2.ensures.found)
     (subst (λ (r : Result (Option Operand) Refusal). OnOk r (All (IsFound objects) (with_kind c.parameters-parameters.result.output n.out1))) writes.0 c.find_if_given-out1.ensures.found)
     (subst (λ (r : Result (Option Operand) Refusal). OnOk r (All (IsFound objects) (with_kind c.parameters-parameters.result.output n.out2))) writes.1 c.find_if_given-out2.ensures.found)
-
-pub returns-clause-err : goal.returns-clause-err
-returns-clause-err c =
-    let refused = operands_refused c.args.scope c.args.table.now.objects c.args.node.now c.parameters-parameters.result c.unwrap_or-second.result _ _ _ _ _ _ _
-    c.parameters-parameters.ensures c.unwrap_or-second.ensures c.find_operand-in1.ensures.err c.find_if_given-in2.ensures.err c.find_if_given-out1.ensures.err c.find_if_given-out2.ensures.err
-    c.both.ensures.err c.both-2.ensures.err c.both-3.ensures.err in
-    search (rules, refused)

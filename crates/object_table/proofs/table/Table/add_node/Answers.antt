@@ -1,6 +1,5 @@
 use Rattle.std.proofs.Common.{◌≡◌, ℕ, ◌+◌, ◌≤◌, List, map, All, refl, sym, ap, subst, ◌∙◌}
 use Rattle.object_table.proofs.Common.{set_value, is_at, nat_cmp, err_from_is_err_and, with_node, GraphObject, object_bytes, Entry, Context, NamedObject, graph_value, IsTable, entry_object, used_more, nodes_in, used_names, name_count}
-use Rattle.graph_verify.specs.declared.fault.GraphFault.TheVariants as graph_fault
 use Rattle.object_table.proofs.EntryLemmas.{kind_under, shown_name, IsTable-written}
 use Rattle.object_table.proofs.GraphLemmas.{unchanged, live_there, all_below, few-uses, named-recounted, IsTable-added}
 use Rattle.object_table.proofs.table.Table.add_node.Goals as goal

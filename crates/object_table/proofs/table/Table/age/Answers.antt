@@ -1,13 +1,9 @@
 use Rattle.std.proofs.Common.{arith, sym, ap, ◌∙◌}
-use Rattle.object_table.proofs.Common.{aged_object, nodes_in}
-use Rattle.object_table.proofs.EntryLemmas.{shown_name, IsTable-written}
+use Rattle.object_table.proofs.Common.{nodes_in}
+use Rattle.object_table.proofs.EntryLemmas.{IsTable-written}
 use Rattle.object_table.proofs.table.Table.age.Goals as goal
 
 pub invariant_of-self : goal.invariant_of-self
 invariant_of-self c =
     IsTable-written _ _ _ _ _ c.age.new.self _ c.self.invariant (sym c.in-Some.ensures.value) (c.get_mut.follows.holds _).0
     (ap nodes_in c.age.ensures.value ∙ (grind arith)) c.age.ensures.bytes
-
-pub returns : goal.returns
-returns c =
-    shown_name _ _ _ c.self.view_is c.args.name _ (sym c.in-Some.ensures.value) aged_object c.age.new.self _ c.get_mut.ensures.ordered (c.get_mut.follows.holds _).0 c.age.ensures.value

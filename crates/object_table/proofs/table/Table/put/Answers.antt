@@ -1,13 +1,9 @@
 use Rattle.std.proofs.Common.{sym, ap, ◌∙◌}
-use Rattle.object_table.proofs.Common.{values, with_samples, nodes_in}
-use Rattle.object_table.proofs.EntryLemmas.{image_there, shown_cell, IsTable-written, no_nodes}
+use Rattle.object_table.proofs.Common.{nodes_in}
+use Rattle.object_table.proofs.EntryLemmas.{image_there, IsTable-written, no_nodes}
 use Rattle.object_table.proofs.table.Table.put.Goals as goal
 
 pub invariant_of-self : goal.invariant_of-self
 invariant_of-self c =
     let there = image_there _ _ _ c.self.view_is c.args.cell _ _ c.name.ensures.value c.slot.ensures.value _ (sym c.in-Some.ensures.value) c.requires.there in
     IsTable-written _ _ _ _ _ c.put.new.self _ c.self.invariant (sym c.in-Some.ensures.value) (c.get_mut.follows.holds _).0 (ap nodes_in c.put.ensures.value ∙ no_nodes _ _ _ there) c.put.ensures.bytes
-
-pub returns : goal.returns
-returns c =
-    shown_cell _ _ _ c.self.view_is c.args.cell _ _ c.name.ensures.value c.slot.ensures.value _ (sym c.in-Some.ensures.value) (λ o. with_samples o c.args.valid (values c.args.samples)) c.put.new.self _ c.get_mut.ensures.ordered (c.get_mut.follows.holds _).0 c.put.ensures.value
