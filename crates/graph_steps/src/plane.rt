@@ -107,7 +107,8 @@ impl Plane {
     /// Returns a copy of the plane, and moves the block to the copy. The copy can then be written
     /// while the list of planes is read. The plane in the list has no samples left.
     pub fn take_out(&mut self) -> Plane
-        ensures { result ≡ self.old }
+        ensures value { result ≡ self.old }
+        ensures left { self.new ≡ without_block self.old }
     {
         Plane {
             desc: self.desc,

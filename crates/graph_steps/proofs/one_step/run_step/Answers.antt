@@ -18,7 +18,7 @@ pub image-first-requires : goal.image-first-requires
 image-first-requires g c =
     let tables = g.T.Tables.tables c.args.tables.now in
     let s = c.args.step.now in
-    let w = can_write tables c.requires.0 s c.args.rows c.args.planes.now c.requires.1 c.make_ready.new.planes c.make_ready.ensures c.index-planes-step.result c.take_out-output.new.self c.take_out-output.result c.take_out-output.ensures in
+    let w = can_write tables c.requires.0 s c.args.rows c.args.planes.now c.requires.1 c.make_ready.new.planes c.make_ready.ensures c.index-planes-step.result c.take_out-output.new.self c.take_out-output.result c.take_out-output.ensures.value in
     let reads = w.reads s.first (inl refl) in
     subst IsReadable (sym (plane_read (slice_set c.make_ready.new.planes s.output c.take_out-output.new.self) s.first c.index-inputs-step.result reads.0 c.index-inputs-step.is)) reads.1
 
@@ -26,14 +26,14 @@ pub second_input-second-requires : goal.second_input-second-requires
 second_input-second-requires g c =
     let tables = g.T.Tables.tables c.args.tables.now in
     let s = c.args.step.now in
-    let w = can_write tables c.requires.0 s c.args.rows c.args.planes.now c.requires.1 c.make_ready.new.planes c.make_ready.ensures c.index-planes-step.result c.take_out-output.new.self c.take_out-output.result c.take_out-output.ensures in
+    let w = can_write tables c.requires.0 s c.args.rows c.args.planes.now c.requires.1 c.make_ready.new.planes c.make_ready.ensures c.index-planes-step.result c.take_out-output.new.self c.take_out-output.result c.take_out-output.ensures.value in
     λ k e. w.reads k (inr e)
 
 pub write_sums-requires : goal.write_sums-requires
 write_sums-requires g c =
     let tables = g.T.Tables.tables c.args.tables.now in
     let s = c.args.step.now in
-    let w = can_write tables c.requires.0 s c.args.rows c.args.planes.now c.requires.1 c.make_ready.new.planes c.make_ready.ensures c.index-planes-step.result c.take_out-output.new.self c.take_out-output.result c.take_out-output.ensures in
+    let w = can_write tables c.requires.0 s c.args.rows c.args.planes.now c.requires.1 c.make_ready.new.planes c.make_ready.ensures c.index-planes-step.result c.take_out-output.new.self c.take_out-output.result c.take_out-output.ensures.value in
     let others : List PlaneValue = slice_set c.make_ready.new.planes s.output c.take_out-output.new.self in
     let first = image_read others s.first c.index-inputs-step.result c.image-first.result (w.reads s.first (inl refl)).0 c.index-inputs-step.is c.image-first.ensures in
     let can = can_sum s (read_images others s.first) _ c.take_out-output.result.desc (sym c.is_integral.ensures ∙ c.if-is_integral.true) w.makes in
@@ -50,7 +50,7 @@ pub write-requires : goal.write-requires
 write-requires g c =
     let tables = g.T.Tables.tables c.args.tables.now in
     let s = c.args.step.now in
-    let w = can_write tables c.requires.0 s c.args.rows c.args.planes.now c.requires.1 c.make_ready.new.planes c.make_ready.ensures c.index-planes-step.result c.take_out-output.new.self c.take_out-output.result c.take_out-output.ensures in
+    let w = can_write tables c.requires.0 s c.args.rows c.args.planes.now c.requires.1 c.make_ready.new.planes c.make_ready.ensures c.index-planes-step.result c.take_out-output.new.self c.take_out-output.result c.take_out-output.ensures.value in
     let others : List PlaneValue = slice_set c.make_ready.new.planes s.output c.take_out-output.new.self in
     let first = image_read others s.first c.index-inputs-step.result c.image-first.result (w.reads s.first (inl refl)).0 c.index-inputs-step.is c.image-first.ensures in
     record {
@@ -66,7 +66,7 @@ pub returns : goal.returns
 returns g c =
     let tables = g.T.Tables.tables c.args.tables.now in
     let s = c.args.step.now in
-    let w = can_write tables c.requires.0 s c.args.rows c.args.planes.now c.requires.1 c.make_ready.new.planes c.make_ready.ensures c.index-planes-step.result c.take_out-output.new.self c.take_out-output.result c.take_out-output.ensures in
+    let w = can_write tables c.requires.0 s c.args.rows c.args.planes.now c.requires.1 c.make_ready.new.planes c.make_ready.ensures c.index-planes-step.result c.take_out-output.new.self c.take_out-output.result c.take_out-output.ensures.value in
     let others : List PlaneValue = slice_set c.make_ready.new.planes s.output c.take_out-output.new.self in
     let first = image_read others s.first c.index-inputs-step.result c.image-first.result (w.reads s.first (inl refl)).0 c.index-inputs-step.is c.image-first.ensures in
     let out = c.take_out-output.result in
@@ -79,4 +79,4 @@ returns g c =
           ∙ ap (λ i. with_rows c.args.rows i out)
           (by_kernel tables s c.args.rows out (read_images others) c.image-first.result _ (sym c.is_integral.ensures ∙ b.if-is_integral.false) first b.second_input-second.ensures)
     ] in
-    after_is tables c.requires.0 s c.args.rows c.args.planes.now c.requires.1 c.make_ready.new.planes c.make_ready.ensures c.index-planes-step.result c.take_out-output.new.self out c.take_out-output.ensures c.if-is_integral.output written
+    after_is tables c.requires.0 s c.args.rows c.args.planes.now c.requires.1 c.make_ready.new.planes c.make_ready.ensures c.index-planes-step.result c.take_out-output.new.self out c.take_out-output.ensures.value c.if-is_integral.output written
