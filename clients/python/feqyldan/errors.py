@@ -164,7 +164,8 @@ class NoResources(Refused):
 
 
 class BrokerFull(NoResources):
-    """The broker has as many connections as it allows. connect(retry=) waits for a free one."""
+    """The door or the broker has as many connections as it allows. connect(retry=) waits for a free
+    connection."""
 
 
 class WrongPictureSize(InvalidDimension, BadPicture):

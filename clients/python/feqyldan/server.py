@@ -34,7 +34,7 @@ PATIENCE = 10.0
 SAID_BYTES = 4096
 # The server's default limits, in bytes.
 QUOTA = WORK = 2**28
-# Seconds between two tries to reach a socket at which nobody listens, or a broker that is full.
+# Seconds between two tries to reach a socket at which nobody listens or no connection is free.
 RETRY_PAUSE = 0.1
 
 
@@ -231,10 +231,10 @@ class Server(Forked, Uncopied):
 
 class SocketServer(Server):
     """
-    A server that is reached by a Unix socket, which feqyldan.broker shares among several programs.
-    Each context has a connection of its own. After close() the server itself goes on. If nobody
-    listens or the broker is full, connecting is retried for `retry` seconds, also when a context is
-    opened later.
+    A server at a Unix socket, where systemd, the door or the broker serves several programs. Each
+    context has a connection of its own. close() closes these connections. If nobody listens, or no
+    connection is free, connecting is retried for `retry` seconds, also when a context is opened
+    later.
     """
 
     __slots__ = ("_path", "_timeout", "_retry", "_owner", "_streams", "_sockets", "_next")
@@ -263,8 +263,8 @@ class SocketServer(Server):
         return self._ended_by is not None
 
     def context(self) -> Context:
-        """Opens a context on a connection of its own. Raises BrokerFull if a broker has no free
-        connection within the `retry` seconds."""
+        """Opens a context on a connection of its own. Raises BrokerFull if the door or the broker
+        has no free connection within the `retry` seconds."""
         until = time.monotonic() + self._retry
         while True:
             try:
@@ -373,11 +373,11 @@ class SocketServer(Server):
 def connect(path: Path, *, timeout: Optional[float] = None, retry: float = 0.0,
             owner: Union[int, str, None] = None) -> SocketServer:
     """
-    Returns the server that listens at a Unix socket. If nobody listens yet, or a broker is full,
-    waits up to `retry` seconds. A request that isn't answered within `timeout` seconds raises
-    TimedOut and closes the connection of its context. `owner` is a user's number or name: if
-    another user listens, PermissionError is raised before anything is sent. If systemd opened the
-    socket, the owner is root.
+    Returns the server that listens at a Unix socket. If nobody listens yet, or the door or the
+    broker has no free connection, waits up to `retry` seconds. A request that isn't answered within
+    `timeout` seconds raises TimedOut and closes the connection of its context. `owner` is a user's
+    number or name: if another user listens, PermissionError is raised before anything is sent. If
+    systemd opened the socket, the owner is root.
     """
     return SocketServer(path, timeout=timeout, retry=retry, owner=owner)
 
