@@ -135,7 +135,7 @@ fn give_text(
 ) -> Result<Reply, RequestFault>
     requires context { IsContext table.old }
     requires image { (image : ImageValue) × (image_of table.old.objects reference ≡ Ok image) }
-    requires told { description_in text.now ≡ Ok desc }
+    requires description { description_in text.now ≡ Ok desc }
     requires described { Describes desc block.old }
     ensures comes { MayComeTo (write_text table.old reference text.now) table.old table.new result }
     ensures within_limits { Keeps table.old table.new }

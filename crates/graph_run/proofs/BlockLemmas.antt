@@ -2,7 +2,7 @@
 use Rattle.buffer_plan.specs.Lives.{is_live}
 use Rattle.std.proofs.Common.{Bool, ◌≡◌, ◌≢◌, ℕ, zero, suc, ◌+◌, ◌*◌, ◌≤◌, ◌<◌, ◌==◌, ◌⊎◌, List, [], ◌∷◌, ◌++◌, length, map, max, get_or, drop, take, refl, sym, ap, ◌∙◌, arith, if◌then◌else◌, sum_by, append_assoc, Option, Some, None, unwrap_or, length-append}
 use Rattle.graph_run.specs.Slots.{capacities_for}
-use Rattle.graph_run.proofs.Common.{length-map-range_with_len, range_with_len, map-append, VirtualOutput, Node, In, Format, S16, U32, U8, IsPlan, PlanView, slot_place, place_of, planned_capacities, take_more, Samples, values, samples_format, blocks_of, lent_of}
+use Rattle.graph_run.proofs.Common.{length-map-range_with_len, range_with_len, map-append, VirtualOutput, Node, In, Format, S16, U32, U8, IsPlan, PlanView, slot_index, slot_index_of, planned_capacities, take_more, Samples, values, samples_format, blocks_of, lent_of}
 use Rattle.std.specs.List.{filter}
 use Rattle.std.proofs.lemmas.List.{append-nil, drop_all, take_all}
 use Rattle.std.proofs.lemmas.List.FromFn.{map-range_with_len_more}
@@ -13,7 +13,7 @@ use Rattle.pixel_pool.specs.Pool.{one_of, KeepsOtherFree, Lends}
 use Rattle.graph_steps.specs.Program.{halo}
 use Rattle.graph_run.proofs.ListLemmas.{rest_at}
 use Rattle.graph_run.proofs.SlotLemmas.{HasSlot, has_slot, planned_slots}
-use Rattle.graph_run.specs.Blocks.{band_samples, blocks_of_format, block_size, room_count, samples_from}
+use Rattle.graph_run.specs.Blocks.{band_samples, blocks_of_format, block_size, capacity_count, samples_from}
 
 -- ---- places
 
@@ -40,25 +40,25 @@ formats_le [] = omega arith
 formats_le (o ∷ outs) = formats_more o outs (formats_le outs)
 
 -- the place of an image's slot is below the number of images
-pub place_below : (steps : List Node) (outs : List VirtualOutput) (p : PlanView) → IsPlan steps outs p → (o : VirtualOutput) → In o outs → place_of p o < length outs
+pub place_below : (steps : List Node) (outs : List VirtualOutput) (p : PlanView) → IsPlan steps outs p → (o : VirtualOutput) → In o outs → slot_index_of p o < length outs
 place_below steps outs p plan o i =
     let h : HasSlot p o = has_slot steps outs p (planned_slots steps outs p plan) o i in
-    let at : place_of p o ≡ slot_place p o.desc.format h.slot = ap (λ s. slot_place p o.desc.format (unwrap_or s 0)) h.is in
-    let below : slot_place p o.desc.format h.slot < p.slot_count U8 + p.slot_count S16 + p.slot_count U32 = by_format o.desc.format h.slot h.below in
+    let at : slot_index_of p o ≡ slot_index p o.desc.format h.slot = ap (λ s. slot_index p o.desc.format (unwrap_or s 0)) h.is in
+    let below : slot_index p o.desc.format h.slot < p.slot_count U8 + p.slot_count S16 + p.slot_count U32 = by_format o.desc.format h.slot h.below in
     omega (arith, at, below, slots_le steps outs p plan U8, slots_le steps outs p plan S16, slots_le steps outs p plan U32, formats_le outs)
   where
-    by_format : (f : Format) (k : ℕ) → k < p.slot_count f → slot_place p f k < p.slot_count U8 + p.slot_count S16 + p.slot_count U32
+    by_format : (f : Format) (k : ℕ) → k < p.slot_count f → slot_index p f k < p.slot_count U8 + p.slot_count S16 + p.slot_count U32
     by_format f k below = grind arith
 
 -- the places of a format's slots follow each other
-pub place_more : (p : PlanView) (f : Format) (k : ℕ) → slot_place p f k ≡ slot_place p f 0 + k
+pub place_more : (p : PlanView) (f : Format) (k : ℕ) → slot_index p f k ≡ slot_index p f 0 + k
 place_more p f k = grind arith
 
--- as many rooms more as the format has slots
-pub rooms_counted : (p : PlanView) (f : Format) (before after : List (Format × ℕ)) → after ≡ before ++ capacities_for p f → length after ≡ length before + p.slot_count f
-rooms_counted p f before after rooms =
+-- as many capacities more as the format has slots
+pub capacities_counted : (p : PlanView) (f : Format) (before after : List (Format × ℕ)) → after ≡ before ++ capacities_for p f → length after ≡ length before + p.slot_count f
+capacities_counted p f before after capacities =
     let long : length (capacities_for p f) ≡ p.slot_count f = length-map-range_with_len (λ k. let room : Format × ℕ = (f, p.slot_samples f k) in room) 0 (p.slot_count f) in
-    omega (arith, ap length rooms, length-append before (capacities_for p f), long)
+    omega (arith, ap length capacities, length-append before (capacities_for p f), long)
 
 -- ---- samples that a slot needs
 
@@ -78,20 +78,20 @@ samples_next size halos outs slots place most k o s below here image slot =
 -- ---- one more
 
 -- a room more of a format
-pub rooms_more : (format : Format) (room : ℕ → ℕ) (k n : ℕ) (before rooms : List (Format × ℕ)) → rooms ≡ before ++ map (λ j. (format, room j)) (range_with_len 0 k) → n ≡ room k
-    → rooms ++ (format, n) ∷ [] ≡ before ++ map (λ j. (format, room j)) (range_with_len 0 (k + 1))
-rooms_more format room k n before rooms are count =
+pub slots_more : (format : Format) (room : ℕ → ℕ) (k n : ℕ) (before capacities : List (Format × ℕ)) → capacities ≡ before ++ map (λ j. (format, room j)) (range_with_len 0 k) → n ≡ room k
+    → capacities ++ (format, n) ∷ [] ≡ before ++ map (λ j. (format, room j)) (range_with_len 0 (k + 1))
+slots_more format room k n before capacities are count =
     let made : ℕ → Format × ℕ = λ j. (format, room j) in
     ap (λ (l : List (Format × ℕ)). l ++ (format, n) ∷ []) are ∙ append_assoc before (map made (range_with_len 0 k)) ((format, n) ∷ [])
     ∙ ap (λ (l : List (Format × ℕ)). before ++ l) (ap (λ (m : ℕ). map made (range_with_len 0 k) ++ (format, m) ∷ []) count ∙ sym (map-range_with_len_more made 0 k k (omega arith)))
 
 -- a block more has its room
-pub sizes_more : (rooms : List (Format × ℕ)) (blocks : List Samples) (b : Samples) (k : ℕ) (r d : Format × ℕ) → k < length rooms → r ≡ get_or rooms k d
-    → map block_size blocks ≡ take k rooms → samples_format b ≡ r.0 → length (values b) ≡ r.1 → map block_size (blocks ++ b ∷ []) ≡ take (k + 1) rooms
-sizes_more rooms blocks b k r d below is sizes format count =
-    let this : block_size b ≡ get_or rooms k d = ap (λ (f : Format). (f, length (values b))) format ∙ ap (λ (n : ℕ). (r.0, n)) count ∙ is in
+pub sizes_more : (capacities : List (Format × ℕ)) (blocks : List Samples) (b : Samples) (k : ℕ) (r d : Format × ℕ) → k < length capacities → r ≡ get_or capacities k d
+    → map block_size blocks ≡ take k capacities → samples_format b ≡ r.0 → length (values b) ≡ r.1 → map block_size (blocks ++ b ∷ []) ≡ take (k + 1) capacities
+sizes_more capacities blocks b k r d below is sizes format count =
+    let this : block_size b ≡ get_or capacities k d = ap (λ (f : Format). (f, length (values b))) format ∙ ap (λ (n : ℕ). (r.0, n)) count ∙ is in
     map-append block_size blocks (b ∷ []) ∙ ap (λ (l : List (Format × ℕ)). l ++ block_size b ∷ []) sizes
-    ∙ ap (λ (x : Format × ℕ). take k rooms ++ x ∷ []) this ∙ sym (take_more rooms k d below)
+    ∙ ap (λ (x : Format × ℕ). take k capacities ++ x ∷ []) this ∙ sym (take_more capacities k d below)
 
 pub lends_more : (blocks : List Samples) (b : Samples) (format : Format) → samples_format b ≡ format → (old now new : Pool) (f : Format) → Lends now new format
     → lent_of now f ≡ lent_of old f + blocks_of_format blocks f → lent_of new f ≡ lent_of old f + blocks_of_format (blocks ++ b ∷ []) f
@@ -106,11 +106,11 @@ pub taken_adds : (old new : Pool) (format : Format) → Lends old new format →
     → (f : Format) → blocks_of new f ≤ blocks_of old f + one_of format f
 taken_adds old new format lends most others f = grind (arith, formats)
 
--- the rooms that are left, of which this is the first
-pub rooms_left : (rooms : List (Format × ℕ)) (k : ℕ) (r d : Format × ℕ) → k < length rooms → r ≡ get_or rooms k d
-    → (f : Format) → room_count (drop k rooms) f ≡ one_of r.0 f + room_count (drop (k + 1) rooms) f
-rooms_left rooms k r d below is f =
-    ap (λ (l : List (Format × ℕ)). room_count l f) (rest_at rooms k r d below is) ∙ sum_by-cons (λ (x : Format × ℕ). one_of x.0 f) r (drop (k + 1) rooms)
+-- the capacities that are left, of which this is the first
+pub capacities_left : (capacities : List (Format × ℕ)) (k : ℕ) (r d : Format × ℕ) → k < length capacities → r ≡ get_or capacities k d
+    → (f : Format) → capacity_count (drop k capacities) f ≡ one_of r.0 f + capacity_count (drop (k + 1) capacities) f
+capacities_left capacities k r d below is f =
+    ap (λ (l : List (Format × ℕ)). capacity_count l f) (rest_at capacities k r d below is) ∙ sum_by-cons (λ (x : Format × ℕ). one_of x.0 f) r (drop (k + 1) capacities)
 
 -- ---- blocks that come back
 
@@ -132,11 +132,11 @@ written_back old new n long all =
 
 -- ---- blocks by a plan
 
-rooms_count : (format f : Format) (room : ℕ → ℕ) (from count : ℕ) → sum_by (λ (r : Format × ℕ). one_of r.0 f) (map (λ k. (format, room k)) (range_with_len from count)) ≡ count * one_of format f
-rooms_count format f room from zero = omega arith
-rooms_count format f room from (suc count) =
+capacities_count : (format f : Format) (room : ℕ → ℕ) (from count : ℕ) → sum_by (λ (r : Format × ℕ). one_of r.0 f) (map (λ k. (format, room k)) (range_with_len from count)) ≡ count * one_of format f
+capacities_count format f room from zero = omega arith
+capacities_count format f room from (suc count) =
     sum_by-cons (λ (r : Format × ℕ). one_of r.0 f) (format, room from) (map (λ k. (format, room k)) (range_with_len (from + 1) count))
-    ∙ ap (λ n. one_of format f + n) (rooms_count format f room (from + 1) count) ∙ grind arith
+    ∙ ap (λ n. one_of format f + n) (capacities_count format f room (from + 1) count) ∙ grind arith
 
 by_formats : (p : PlanView) (f : Format) (u8s s16s u32s : ℕ) → u8s ≡ p.slot_count U8 * one_of U8 f → s16s ≡ p.slot_count S16 * one_of S16 f → u32s ≡ p.slot_count U32 * one_of U32 f
     → u8s + s16s + u32s ≡ p.slot_count f
@@ -144,15 +144,15 @@ by_formats p U8 u8s s16s u32s a b c = omega (arith, a, b, c)
 by_formats p S16 u8s s16s u32s a b c = omega (arith, a, b, c)
 by_formats p U32 u8s s16s u32s a b c = omega (arith, a, b, c)
 
--- as many rooms of a format as it has slots
-pub planned_count : (p : PlanView) (f : Format) → room_count (planned_capacities p) f ≡ p.slot_count f
+-- as many capacities of a format as it has slots
+pub planned_count : (p : PlanView) (f : Format) → capacity_count (planned_capacities p) f ≡ p.slot_count f
 planned_count p f =
-    let each : Format → ℕ = λ g. room_count (capacities_for p g) f in
+    let each : Format → ℕ = λ g. capacity_count (capacities_for p g) f in
     sum_by-append (λ (r : Format × ℕ). one_of r.0 f) (capacities_for p U8 ++ capacities_for p S16) (capacities_for p U32)
     ∙ ap (λ n. n + each U32) (sum_by-append (λ (r : Format × ℕ). one_of r.0 f) (capacities_for p U8) (capacities_for p S16))
-    ∙ by_formats p f (each U8) (each S16) (each U32) (rooms_count U8 f (p.slot_samples U8) 0 (p.slot_count U8))
-    (rooms_count S16 f (p.slot_samples S16) 0 (p.slot_count S16)) (rooms_count U32 f (p.slot_samples U32) 0 (p.slot_count U32))
+    ∙ by_formats p f (each U8) (each S16) (each U32) (capacities_count U8 f (p.slot_samples U8) 0 (p.slot_count U8))
+    (capacities_count S16 f (p.slot_samples S16) 0 (p.slot_count S16)) (capacities_count U32 f (p.slot_samples U32) 0 (p.slot_count U32))
 
--- as many blocks of a format as rooms
-pub blocks_counted : (blocks : List Samples) (rooms : List (Format × ℕ)) → map block_size blocks ≡ rooms → (f : Format) → blocks_of_format blocks f ≡ room_count rooms f
-blocks_counted blocks rooms are f = sum_told block_size (λ (r : Format × ℕ). one_of r.0 f) blocks ∙ ap (λ (l : List (Format × ℕ)). room_count l f) are
+-- as many blocks of a format as capacities
+pub blocks_counted : (blocks : List Samples) (capacities : List (Format × ℕ)) → map block_size blocks ≡ capacities → (f : Format) → blocks_of_format blocks f ≡ capacity_count capacities f
+blocks_counted blocks capacities are f = sum_told block_size (λ (r : Format × ℕ). one_of r.0 f) blocks ∙ ap (λ (l : List (Format × ℕ)). capacity_count l f) are

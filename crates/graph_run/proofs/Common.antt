@@ -5,7 +5,7 @@ pub use Rattle.buffer_plan.specs.Plan.{IsPlan, PlanView}
 pub use Rattle.graph_run.specs.Graph.{named_at_start, object_at_start, objects_at_end, is_virtual_object, one_by_one, rounds_of_nodes, run_of_graph}
 pub use Rattle.graph_run.specs.Lasting.{Lasts, lasting_part, lasting_named}
 pub use Rattle.graph_run.specs.Operands.{CellsStand, HoldsOperand, IsReady, names_cell, operand_held}
-pub use Rattle.graph_run.specs.Slots.{place_of, planned_capacities, slot_place}
+pub use Rattle.graph_run.specs.Slots.{slot_index_of, planned_capacities, slot_index}
 pub use Rattle.graph_run.specs.Solution.{Solves, WritesNo, form_held, form_of, kind_in, label_of}
 pub use Rattle.graph_run.specs.Steps.{AreApart, Holds, RunsOn, RunsTo, TwoSlots, with_output_object}
 pub use Rattle.graph_run.specs.Turns.{CanRunNow, HoldsKind}

@@ -65,34 +65,34 @@ reads_set l k i a d below = elim (cases_Bool (eqb i k)) [
 ]
 
 -- one more image is written: its block, and those of others
-next_block : (rooms : ℕ → Format × ℕ) (i j t s other : ℕ) (old : Option ℕ) → (eqb s other ≡ true → old ≡ Some t) → (i ≡ j → s ≡ other) → (i ≡ t → s ≡ other)
-    → ◌≡◌ {A = Format × ℕ} ((rooms other).0, (if is_at i (if eqb s other then Some j else old) then (rooms other).1 else 0))
-    (if eqb i j then rooms s else (if eqb i t then ((rooms s).0, 0) else ((rooms other).0, (if is_at i old then (rooms other).1 else 0))))
-next_block rooms i j t s other old found here there =
+next_block : (slot_capacity : ℕ → Format × ℕ) (i j t s other : ℕ) (old : Option ℕ) → (eqb s other ≡ true → old ≡ Some t) → (i ≡ j → s ≡ other) → (i ≡ t → s ≡ other)
+    → ◌≡◌ {A = Format × ℕ} ((slot_capacity other).0, (if is_at i (if eqb s other then Some j else old) then (slot_capacity other).1 else 0))
+    (if eqb i j then slot_capacity s else (if eqb i t then ((slot_capacity s).0, 0) else ((slot_capacity other).0, (if is_at i old then (slot_capacity other).1 else 0))))
+next_block slot_capacity i j t s other old found here there =
     grind (arith, cases_Bool (eqb s other), cases_Bool (eqb i j), cases_Bool (eqb i t), eqb-true i j, eqb-true i t, eqb-true s other, eq-eqb, found, here, there)
 
-module _ (slots : List ℕ) (rooms : ℕ → Format × ℕ) (clients : List (Format × ℕ)) where
+module _ (slots : List ℕ) (slot_capacity : ℕ → Format × ℕ) (clients : List (Format × ℕ)) where
   abbrev blocks : ℕ → List (Format × ℕ)
-  blocks count = blocks_at slots rooms clients count
+  blocks count = blocks_at slots slot_capacity clients count
 
-  virtual_count : (count : ℕ) → length (map (block_at slots rooms count) (range_with_len 0 (length slots))) ≡ length slots
-  virtual_count count = length-map-range_with_len (block_at slots rooms count) 0 (length slots)
+  virtual_count : (count : ℕ) → length (map (block_at slots slot_capacity count) (range_with_len 0 (length slots))) ≡ length slots
+  virtual_count count = length-map-range_with_len (block_at slots slot_capacity count) 0 (length slots)
 
   pub block_count : (count : ℕ) → length (blocks count) ≡ length slots + length clients
-  block_count count = length-append (map (block_at slots rooms count) (range_with_len 0 (length slots))) clients ∙ ap (λ (n : ℕ). n + length clients) (virtual_count count)
+  block_count count = length-append (map (block_at slots slot_capacity count) (range_with_len 0 (length slots))) clients ∙ ap (λ (n : ℕ). n + length clients) (virtual_count count)
 
-  pub virtual_block : (count i : ℕ) → i < length slots → capacity (blocks count) i ≡ block_at slots rooms count i
+  pub virtual_block : (count i : ℕ) → i < length slots → capacity (blocks count) i ≡ block_at slots slot_capacity count i
   virtual_block count i below =
-      get_or-append (map (block_at slots rooms count) (range_with_len 0 (length slots))) clients (U8, 0) i (omega (arith, virtual_count count, below))
-      ∙ get_or-map-range_with_len (block_at slots rooms count) 0 (length slots) i i (U8, 0) below (omega arith)
+      get_or-append (map (block_at slots slot_capacity count) (range_with_len 0 (length slots))) clients (U8, 0) i (omega (arith, virtual_count count, below))
+      ∙ get_or-map-range_with_len (block_at slots slot_capacity count) 0 (length slots) i i (U8, 0) below (omega arith)
 
   pub client_block : (count i : ℕ) → length slots ≤ i → capacity (blocks count) i ≡ capacity clients (i - length slots)
-  client_block count i above = get_or-append_right (map (block_at slots rooms count) (range_with_len 0 (length slots))) clients (length slots) i (U8, 0) (virtual_count count) above
+  client_block count i above = get_or-append_right (map (block_at slots slot_capacity count) (range_with_len 0 (length slots))) clients (length slots) i (U8, 0) (virtual_count count) above
 
   pub blocks_cycle : blocks (length slots) ≡ blocks 0
   blocks_cycle =
       ap (λ (f : ℕ → Format × ℕ). map f (range_with_len 0 (length slots)) ++ clients)
-      (fun_ext (λ i. ap (λ (h : Option ℕ). ((rooms (get_or slots i 0)).0, (if is_at i h then (rooms (get_or slots i 0)).1 else 0))) (holder_cycles slots (get_or slots i 0))))
+      (fun_ext (λ i. ap (λ (h : Option ℕ). ((slot_capacity (get_or slots i 0)).0, (if is_at i h then (slot_capacity (get_or slots i 0)).1 else 0))) (holder_cycles slots (get_or slots i 0))))
 
   module _ (k : ℕ) (below : k < length slots) where
     abbrev pub s : ℕ
@@ -111,14 +111,14 @@ module _ (slots : List ℕ) (rooms : ℕ → Format × ℕ) (clients : List (For
     takes_it = grind (arith, below, taker.1)
 
     -- the block that is taken is that of the slot
-    pub takes_room : capacity (blocks k) t ≡ rooms s
-    takes_room = virtual_block k t in_slot.0 ∙ grind (arith, in_slot.1, taker.1, eq-eqb t t refl)
+    pub takes_capacity : capacity (blocks k) t ≡ slot_capacity s
+    takes_capacity = virtual_block k t in_slot.0 ∙ grind (arith, in_slot.1, taker.1, eq-eqb t t refl)
 
     -- the block of each plane, once the image is written
-    next_at : (i : ℕ) → i < length slots → block_at slots rooms (k + 1) i ≡ (if eqb i k then rooms s else (if eqb i t then ((rooms s).0, 0) else block_at slots rooms k i))
+    next_at : (i : ℕ) → i < length slots → block_at slots slot_capacity (k + 1) i ≡ (if eqb i k then slot_capacity s else (if eqb i t then ((slot_capacity s).0, 0) else block_at slots slot_capacity k i))
     next_at i small =
-        ap (λ (h : Option ℕ). ((rooms (get_or slots i 0)).0, (if is_at i h then (rooms (get_or slots i 0)).1 else 0))) (holder_next slots (get_or slots i 0) k 0 below)
-        ∙ next_block rooms i k t s (get_or slots i 0) (holder slots (get_or slots i 0) k)
+        ap (λ (h : Option ℕ). ((slot_capacity (get_or slots i 0)).0, (if is_at i h then (slot_capacity (get_or slots i 0)).1 else 0))) (holder_next slots (get_or slots i 0) k 0 below)
+        ∙ next_block slot_capacity i k t s (get_or slots i 0) (holder slots (get_or slots i 0) k)
         (λ same. ap (λ (slot : ℕ). holder slots slot k) (sym (eqb-true s (get_or slots i 0) same)) ∙ taker.1)
         (λ e. ap (λ (n : ℕ). get_or slots n 0) (sym e))
         (λ e. sym in_slot.1 ∙ ap (λ (n : ℕ). get_or slots n 0) (sym e))
@@ -129,19 +129,19 @@ module _ (slots : List ℕ) (rooms : ℕ → Format × ℕ) (clients : List (For
     fits : (i : ℕ) → i < length slots → i < length (blocks k)
     fits i small = omega (arith, block_count k, small)
 
-    moved_at : (i : ℕ) → get_or moved i (U8, 0) ≡ (if eqb i k then rooms s else (if eqb i t then ((rooms s).0, 0) else capacity (blocks k) i))
+    moved_at : (i : ℕ) → get_or moved i (U8, 0) ≡ (if eqb i k then slot_capacity s else (if eqb i t then ((slot_capacity s).0, 0) else capacity (blocks k) i))
     unfolding moved
     moved_at i =
         reads_set (set (blocks k) t ((capacity (blocks k) t).0, 0)) k i (capacity (blocks k) t) (U8, 0) (omega (arith, length-set (blocks k) t ((capacity (blocks k) t).0, 0), fits k below))
-        ∙ ap (λ (b : Format × ℕ). if eqb i k then b else get_or (set (blocks k) t ((capacity (blocks k) t).0, 0)) i (U8, 0)) takes_room
-        ∙ ap (λ (b : Format × ℕ). if eqb i k then rooms s else b) (reads_set (blocks k) t i ((capacity (blocks k) t).0, 0) (U8, 0) (fits t in_slot.0))
-        ∙ ap (λ (b : Format × ℕ). if eqb i k then rooms s else (if eqb i t then (b.0, 0) else capacity (blocks k) i)) takes_room
+        ∙ ap (λ (b : Format × ℕ). if eqb i k then b else get_or (set (blocks k) t ((capacity (blocks k) t).0, 0)) i (U8, 0)) takes_capacity
+        ∙ ap (λ (b : Format × ℕ). if eqb i k then slot_capacity s else b) (reads_set (blocks k) t i ((capacity (blocks k) t).0, 0) (U8, 0) (fits t in_slot.0))
+        ∙ ap (λ (b : Format × ℕ). if eqb i k then slot_capacity s else (if eqb i t then (b.0, 0) else capacity (blocks k) i)) takes_capacity
 
     same_at : (i : ℕ) → get_or moved i (U8, 0) ≡ get_or (blocks (k + 1)) i (U8, 0)
     same_at i = elim (cases_lt i (length slots)) [
       | inl small ↦
           moved_at i
-          ∙ ap (λ (b : Format × ℕ). if eqb i k then rooms s else (if eqb i t then ((rooms s).0, 0) else b)) (virtual_block k i small)
+          ∙ ap (λ (b : Format × ℕ). if eqb i k then slot_capacity s else (if eqb i t then ((slot_capacity s).0, 0) else b)) (virtual_block k i small)
           ∙ sym (next_at i small)
           ∙ sym (virtual_block (k + 1) i small)
       | inr large ↦

@@ -5,7 +5,7 @@ use Rattle.std.proofs.lemmas.List.{append_assoc, get_or-map, length-map}
 use Rattle.std.proofs.lemmas.List.Elements.{filter-append}
 use Rattle.std.proofs.lemmas.Grind.{flat_map-append}
 use Rattle.std.proofs.Math.ListN.{get_or-append}
-use Rattle.graph_run.proofs.Common.{cases_lt, or_left, or_right, flat_map, Node, Reference, VirtualOutput, PlanView, place_of, inputs, outputs, has_twice, is_written, is_node_operand, writes, In, In-append, In-at, In-filter, In-from_filter, In-from_map, In-from_flat_map, In-left, In-right, any-from_In, same-from_In, Kind, Output, First, Second, feeds, optional_cells, parameters}
+use Rattle.graph_run.proofs.Common.{cases_lt, or_left, or_right, flat_map, Node, Reference, VirtualOutput, PlanView, slot_index_of, inputs, outputs, has_twice, is_written, is_node_operand, writes, In, In-append, In-at, In-filter, In-from_filter, In-from_map, In-from_flat_map, In-left, In-right, any-from_In, same-from_In, Kind, Output, First, Second, feeds, optional_cells, parameters}
 use Rattle.graph_verify.specs.Order.{InTurn}
 use Rattle.vx_base.specs.declared.kind.Kind.TheVariants as kind
 use Rattle.graph_verify.specs.Links.{reads}
@@ -62,7 +62,7 @@ module _ (outs : List VirtualOutput) (p : PlanView) (before after : List Node) (
   plane_cells = virtual_cells ++ rest
 
   abbrev slot_places : List ℕ
-  slot_places = map (place_of p) outs
+  slot_places = map (slot_index_of p) outs
 
   abbrev so_far : List Reference
   so_far = flat_map outputs before ++ outputs n
@@ -111,11 +111,11 @@ module _ (outs : List VirtualOutput) (p : PlanView) (before after : List Node) (
         let j_below : j < length outs = omega (arith, k_below, less) in
         let mine : VirtualOutput = get_or outs k o in
         let held : VirtualOutput = get_or outs j o in
-        let slot_count : length slot_places ≡ length outs = length-map outs (place_of p) in
+        let slot_count : length slot_places ≡ length outs = length-map outs (slot_index_of p) in
         let holds : holder slot_places (get_or slot_places k 0) k ≡ Some j = grind (arith, takes, slot_count, k_below) in
         let one_slot : get_or slot_places j 0 ≡ get_or slot_places k 0 = (holder_is slot_places (get_or slot_places k 0) k j 0 holds).1 in
-        let home : place_of p held ≡ place_of p mine =
-        sym (get_or-map (place_of p) outs j o 0 j_below) ∙ one_slot ∙ get_or-map (place_of p) outs k o 0 k_below in
+        let home : slot_index_of p held ≡ slot_index_of p mine =
+        sym (get_or-map (slot_index_of p) outs j o 0 j_below) ∙ one_slot ∙ get_or-map (slot_index_of p) outs k o 0 k_below in
         let same = one_home (before ++ n ∷ after) outs p plan held mine (In-at outs j o j_below) (In-at outs k o k_below) home in
         let mine_cell : mine.cell ≡ c =
         sym (get_or-map (λ (x : VirtualOutput). x.cell) outs k o c k_below) ∙ sym (get_or-append virtual_cells rest c k small)
@@ -178,7 +178,7 @@ module _ (steps : List Node) (outs : List VirtualOutput) (p : PlanView) (plan : 
   all_cells = all_virtual ++ rest
 
   abbrev places : List ℕ
-  places = map (place_of p) outs
+  places = map (slot_index_of p) outs
 
   module _ (before after : List Node) (n : Node) (e : steps ≡ before ++ n ∷ after) (named : (c : Reference) → In c (node_images n) → In c all_cells) where
     -- the block that a step takes is not live after it
@@ -186,7 +186,7 @@ module _ (steps : List Node) (outs : List VirtualOutput) (p : PlanView) (plan : 
         → (tail : List Task) → ((s : Step) → IsStepOf s later → IsStepOf s tail) → AreReadAfter tail → AreReadBy all_cells (n ∷ after) tail → (j : ℕ) → previous_holder places (index_of all_cells c) ≡ Some j → j ≢ index_of all_cells c → IsLive kept tail j → ⊥
     free_one at which c later k output among (inl turn) tail whole turned by j takes other live = let clash : ◌≡◌ {A = Option ℕ} None (Some j) = sym turn.1 ∙ takes in cc
     free_one at which c later k output among (inr turn) tail whole turned by j takes other live =
-        let count : length places ≡ length outs = length-map outs (place_of p) in
+        let count : length places ≡ length outs = length-map outs (slot_index_of p) in
         let sizes = length-map outs (λ (x : VirtualOutput). x.cell) in
         let at_k : index_of all_cells c ≡ k = turn.1 in
         let below_k : k < length all_virtual = omega (arith, turn.0, count, sizes) in
@@ -268,23 +268,23 @@ module _ (steps : List Node) (outs : List VirtualOutput) (p : PlanView) (plan : 
   graph_cells = with_cells (map (λ (o : VirtualOutput). o.cell) outs) (images_named steps)
 
   abbrev graph_tasks : List Task
-  graph_tasks = tasks_from graph_cells (map (place_of p) outs) radius 0 0 steps
+  graph_tasks = tasks_from graph_cells (map (slot_index_of p) outs) radius 0 0 steps
 
-  pub graph_turns : TakeTurns (map (place_of p) outs) 0 graph_tasks
+  pub graph_turns : TakeTurns (map (slot_index_of p) outs) 0 graph_tasks
   graph_turns =
-      subst (λ (l : List Reference). TakeTurns (map (place_of p) outs) 0 (tasks_from (with_cells l (images_named steps)) (map (place_of p) outs) radius 0 0 steps)) (sym order)
-      (turns_of is_virtual steps (map (place_of p) outs) radius
-      (length-map outs (place_of p) ∙ sym (length-map outs (λ (x : VirtualOutput). x.cell)) ∙ ap length order) (ap has_twice (sym order) ∙ once) plain (images_named steps))
+      subst (λ (l : List Reference). TakeTurns (map (slot_index_of p) outs) 0 (tasks_from (with_cells l (images_named steps)) (map (slot_index_of p) outs) radius 0 0 steps)) (sym order)
+      (turns_of is_virtual steps (map (slot_index_of p) outs) radius
+      (length-map outs (slot_index_of p) ∙ sym (length-map outs (λ (x : VirtualOutput). x.cell)) ∙ ap length order) (ap has_twice (sym order) ∙ once) plain (images_named steps))
 
   pub graph_free : InTurn feeds steps → (count : ℕ) → AreFree (KeepsBlock count graph_tasks) graph_tasks × AreUntaken graph_tasks
   graph_free turn count =
       let behind = added_behind (map (λ (o : VirtualOutput). o.cell) outs) (images_named steps) in
       let named : AreNamed graph_cells steps = all_named (map (λ (o : VirtualOutput). o.cell) outs) steps in
       let clients : (j : ℕ) → KeepsBlock count graph_tasks j → length outs ≤ j =
-      λ j kept. omega (arith, kept_turns (map (place_of p) outs) graph_tasks graph_turns count j kept, length-map outs (place_of p)) in
-      let after = read_after graph_cells (map (place_of p) outs) radius steps 0 0 turn named in
-      subst (λ (l : List Reference). AreFree (KeepsBlock count graph_tasks) (tasks_from l (map (place_of p) outs) radius 0 0 steps) × AreUntaken (tasks_from l (map (place_of p) outs) radius 0 0 steps)) (sym behind.1)
+      λ j kept. omega (arith, kept_turns (map (slot_index_of p) outs) graph_tasks graph_turns count j kept, length-map outs (slot_index_of p)) in
+      let after = read_after graph_cells (map (slot_index_of p) outs) radius steps 0 0 turn named in
+      subst (λ (l : List Reference). AreFree (KeepsBlock count graph_tasks) (tasks_from l (map (slot_index_of p) outs) radius 0 0 steps) × AreUntaken (tasks_from l (map (slot_index_of p) outs) radius 0 0 steps)) (sym behind.1)
       (free_all steps outs p plan is_virtual behind.0 order once radius (KeepsBlock count graph_tasks) clients [] steps 0 0 0 refl
       (subst (λ (l : List Reference). AreNamed l steps) behind.1 named)
-      (subst (λ (l : List Reference). TakeTurns (map (place_of p) outs) 0 (tasks_from l (map (place_of p) outs) radius 0 0 steps)) behind.1 graph_turns)
-      (subst (λ (l : List Reference). AreReadAfter (tasks_from l (map (place_of p) outs) radius 0 0 steps)) behind.1 after))
+      (subst (λ (l : List Reference). TakeTurns (map (slot_index_of p) outs) 0 (tasks_from l (map (slot_index_of p) outs) radius 0 0 steps)) behind.1 graph_turns)
+      (subst (λ (l : List Reference). AreReadAfter (tasks_from l (map (slot_index_of p) outs) radius 0 0 steps)) behind.1 after))

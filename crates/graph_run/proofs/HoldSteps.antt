@@ -2,7 +2,7 @@
 use Rattle.std.proofs.Common.{◌≡◌, ℕ, zero, suc, ◌+◌, ◌<◌, ◌≤◌, ◌==◌, List, [], ◌∷◌, length, map, get_or, max, None, Some, true, slice_get, refl, sym, ap, subst, ◌∙◌, arith, unwrap_or, eq-eqb, if◌then◌else◌}
 use Rattle.std.proofs.lemmas.List.{get_or-map, length-map}
 use Rattle.std.proofs.lemmas.Option.{get_or_from_slice_get, slice_get_within}
-use Rattle.graph_run.proofs.Common.{Format, U8, Node, VirtualOutput, IsPlan, PlanView, place_of, slot_place, planned_capacities, In-at}
+use Rattle.graph_run.proofs.Common.{Format, U8, Node, VirtualOutput, IsPlan, PlanView, slot_index_of, slot_index, planned_capacities, In-at}
 use Rattle.graph_steps.specs.Planes.{no_plane}
 use Rattle.graph_steps.specs.Program.{HoldsRows, halo}
 use Rattle.graph_run.specs.Blocks.{band_plan, band_samples, samples_from}
@@ -30,10 +30,10 @@ enough_samples size halos j (o ∷ outs) (s ∷ slots) (suc k) none count below 
     rest_most s (get_or slots k 0) (band_samples size (halo halos j) o.desc) (samples_from size halos (j + 1) outs slots (get_or slots k 0)) (band_samples size (halo halos (j + suc k)) (get_or outs k none).desc)
     (subst (λ (i : ℕ). band_samples size (halo halos i) (get_or outs k none).desc ≤ samples_from size halos (j + 1) outs slots (get_or slots k 0)) at rest)
 
-module _ (steps : List Node) (outs : List VirtualOutput) (p : PlanView) (plan : IsPlan steps outs p) (size : ℕ) (halos : List ℕ) (rooms : List (Format × ℕ))
-    (planned : rooms ≡ planned_capacities (band_plan size halos outs (map (place_of p) outs) p)) where
+module _ (steps : List Node) (outs : List VirtualOutput) (p : PlanView) (plan : IsPlan steps outs p) (size : ℕ) (halos : List ℕ) (capacities : List (Format × ℕ))
+    (planned : capacities ≡ planned_capacities (band_plan size halos outs (map (slot_index_of p) outs) p)) where
   abbrev slots : List ℕ
-  slots = map (place_of p) outs
+  slots = map (slot_index_of p) outs
 
   abbrev bands : PlanView
   bands = band_plan size halos outs slots p
@@ -49,31 +49,31 @@ module _ (steps : List Node) (outs : List VirtualOutput) (p : PlanView) (plan : 
     home : HasSlot p o
     home = has_slot steps outs p (planned_slots steps outs p plan) o (In-at outs k none below)
 
-    at : get_or slots k 0 ≡ slot_place p o.desc.format home.slot
-    at = get_or-map (place_of p) outs k none 0 below ∙ ap (λ s. slot_place p o.desc.format (unwrap_or s 0)) home.is
+    at : get_or slots k 0 ≡ slot_index p o.desc.format home.slot
+    at = get_or-map (slot_index_of p) outs k none 0 below ∙ ap (λ s. slot_index p o.desc.format (unwrap_or s 0)) home.is
 
-    there : slice_get rooms (get_or slots k 0) ≡ Some (o.desc.format, samples_from size halos 0 outs slots (slot_place p o.desc.format home.slot))
+    there : slice_get capacities (get_or slots k 0) ≡ Some (o.desc.format, samples_from size halos 0 outs slots (slot_index p o.desc.format home.slot))
     there = ap (λ (l : List (Format × ℕ)). slice_get l (get_or slots k 0)) planned ∙ ap (slice_get (planned_capacities bands)) at ∙ planned_at bands o.desc.format home.slot home.below
 
-    pub within : get_or slots k 0 < length rooms
-    within = slice_get_within rooms (get_or slots k 0) (o.desc.format, samples_from size halos 0 outs slots (slot_place p o.desc.format home.slot)) there
+    pub within : get_or slots k 0 < length capacities
+    within = slice_get_within capacities (get_or slots k 0) (o.desc.format, samples_from size halos 0 outs slots (slot_index p o.desc.format home.slot)) there
 
-    enough : band_samples size (halo halos k) o.desc ≤ samples_from size halos 0 outs slots (slot_place p o.desc.format home.slot)
+    enough : band_samples size (halo halos k) o.desc ≤ samples_from size halos 0 outs slots (slot_index p o.desc.format home.slot)
     enough =
         let first : 0 + k ≡ k = omega arith in
         subst (λ (s : ℕ). band_samples size (halo halos k) o.desc ≤ samples_from size halos 0 outs slots s) at
         (subst (λ (i : ℕ). band_samples size (halo halos i) o.desc ≤ samples_from size halos 0 outs slots (get_or slots k 0)) first
-        (enough_samples size halos 0 outs slots k none (length-map outs (place_of p)) below))
+        (enough_samples size halos 0 outs slots k none (length-map outs (slot_index_of p)) below))
 
-    holds_rows : HoldsRows size (halo halos k) (virtual_description outs k) (get_or rooms (get_or slots k 0) (U8, 0))
+    holds_rows : HoldsRows size (halo halos k) (virtual_description outs k) (get_or capacities (get_or slots k 0) (U8, 0))
     holds_rows =
         let desc : virtual_description outs k ≡ o.desc = get_or-map (λ (x : VirtualOutput). x.desc) outs k none no_plane.desc below in
-        let room = get_or_from_slice_get rooms (get_or slots k 0) (o.desc.format, samples_from size halos 0 outs slots (slot_place p o.desc.format home.slot)) (U8, 0) there in
-        subst (λ d. HoldsRows size (halo halos k) d (get_or rooms (get_or slots k 0) (U8, 0))) (sym desc)
+        let room = get_or_from_slice_get capacities (get_or slots k 0) (o.desc.format, samples_from size halos 0 outs slots (slot_index p o.desc.format home.slot)) (U8, 0) there in
+        subst (λ d. HoldsRows size (halo halos k) d (get_or capacities (get_or slots k 0) (U8, 0))) (sym desc)
         (subst (λ (b : Format × ℕ). HoldsRows size (halo halos k) o.desc b) (sym room) (refl, enough))
 
-  pub slots_hold : SlotsHold size halos (virtual_description outs) slots (λ place. get_or rooms place (U8, 0))
-  slots_hold k below = holds_rows k (omega (arith, below, length-map outs (place_of p)))
+  pub slots_hold : SlotsHold size halos (virtual_description outs) slots (λ place. get_or capacities place (U8, 0))
+  slots_hold k below = holds_rows k (omega (arith, below, length-map outs (slot_index_of p)))
 
-  pub slots_within : (k : ℕ) → k < length slots → get_or slots k 0 < length rooms
-  slots_within k below = within k (omega (arith, below, length-map outs (place_of p)))
+  pub slots_within : (k : ℕ) → k < length slots → get_or slots k 0 < length capacities
+  slots_within k below = within k (omega (arith, below, length-map outs (slot_index_of p)))

@@ -1,7 +1,7 @@
 -- A graph that runs by its schedule: what its images and tallies need on their way out of a table and back.
 use Rattle.std.proofs.Common.{◌≡◌, ℕ, ◌<◌, ◌≤◌, List, ◌++◌, length, map, drop, get_or, sym, ap, ◌∙◌, arith, length-append}
 use Rattle.std.proofs.lemmas.List.{get_or-map, length-map}
-use Rattle.graph_run.proofs.Common.{Reference, NamedObject, with_written, Verified, place_of, planned_capacities, Samples, samples_format, resolved_operand, operand_held, run_of_graph, Format, U8}
+use Rattle.graph_run.proofs.Common.{Reference, NamedObject, with_written, Verified, slot_index_of, planned_capacities, Samples, samples_format, resolved_operand, operand_held, run_of_graph, Format, U8}
 use Rattle.graph_steps.specs.declared.tally.Tally.{Tally}
 use Rattle.graph_steps.specs.Planes.{PlaneValue, no_plane, plane}
 use Rattle.graph_steps.specs.Program.{IsProgram}
@@ -43,7 +43,7 @@ module _ {objects : List NamedObject} {v : Verified} {s : Schedule} (g : CanRunB
   same_clients = ap (drop count) g.schedule.cells
 
   pub slot_count : length s.slots.items ≡ count
-  slot_count = ap length g.schedule.slots ∙ length-map v.virtual_outputs (place_of g.slots)
+  slot_count = ap length g.schedule.slots ∙ length-map v.virtual_outputs (slot_index_of g.slots)
 
   pub cells_enough : count ≤ length s.cells.items
   cells_enough = omega (arith, virtuals_below v.steps v.virtual_outputs, ap length g.schedule.cells)
@@ -54,14 +54,14 @@ module _ {objects : List NamedObject} {v : Verified} {s : Schedule} (g : CanRunB
   pub clients_are_apart : AreAllApart clients
   clients_are_apart = rw same_clients (clients_apart objects g.nodes v g.ready g.slots g.plan)
 
-  module _ (blocks : List Samples) (sizes : map block_size blocks ≡ s.rooms.items) where
+  module _ (blocks : List Samples) (sizes : map block_size blocks ≡ s.capacities.items) where
     planned : map block_size blocks ≡ planned_capacities (band_plan s.size s.halos.items v.virtual_outputs s.slots.items g.slots)
-    planned = sizes ∙ g.schedule.rooms
+    planned = sizes ∙ g.schedule.capacities
 
     pub slot_within : (k : ℕ) → k < length s.slots.items → get_or s.slots.items k 0 < length blocks
     slot_within k below =
         let same = g.schedule.slots in
-        let place = map (place_of g.slots) v.virtual_outputs in
+        let place = map (slot_index_of g.slots) v.virtual_outputs in
         let here : get_or place k 0 < length (map block_size blocks) =
         slots_within v.steps v.virtual_outputs g.slots g.plan s.size s.halos.items (map block_size blocks)
         (planned ∙ ap (λ (l : List ℕ). planned_capacities (band_plan s.size s.halos.items v.virtual_outputs l g.slots)) same) k (omega (arith, ap length same)) in

@@ -1,7 +1,7 @@
 -- The tasks of a graph over its planes are a program.
 use Rattle.std.proofs.Common.{◌≡◌, ℕ, ◌≤◌, Bool, List, ◌++◌, length, map, get_or, Option, None, IfSome, sym, ap, subst, ◌∙◌, inl, inr, arith}
 use Rattle.std.proofs.lemmas.List.{get_or_past, length-append, length-map}
-use Rattle.graph_run.proofs.Common.{cases_lt, map-append, Format, Node, Reference, Description, IsImage, ObjectValue, IsObject, is_virtual, NamedObject, held_is, image_held, HoldsImage, VirtualOutput, Verified, PlanView, place_of, operand_held, In}
+use Rattle.graph_run.proofs.Common.{cases_lt, map-append, Format, Node, Reference, Description, IsImage, ObjectValue, IsObject, is_virtual, NamedObject, held_is, image_held, HoldsImage, VirtualOutput, Verified, PlanView, slot_index_of, operand_held, In}
 use Rattle.graph_steps.specs.declared.step.Step.{Step}
 use Rattle.graph_steps.specs.declared.step.Task.{Task}
 use Rattle.graph_steps.specs.Planes.{PlaneValue, no_plane, plane}
@@ -14,11 +14,11 @@ use Rattle.graph_run.proofs.CellLemmas.{held_image}
 use Rattle.graph_run.proofs.SizeSteps.{plane_count, virtual_count}
 use Rattle.graph_run.proofs.ProgramPlanes.{steps_suit, virtual_desc}
 use Rattle.graph_run.proofs.ReadyLemmas.{clients_hold, have_tasks}
-use Rattle.graph_run.proofs.TaskLemmas.{kept_turns, turns_again, turns_room}
+use Rattle.graph_run.proofs.TaskLemmas.{kept_turns, turns_again, turns_fit}
 use Rattle.graph_run.proofs.WithinLemmas.{begins, client_planes, free, one_writer, steps_within, turns, written}
 
-module _ (objects : List NamedObject) (nodes : List Node) (v : Verified) (p : PlanView) (radius : Node → ℕ) (high size : ℕ) (halos : List ℕ) (virtuals : List PlaneValue) (rooms : ℕ → Format × ℕ)
-    (bound : IsBound objects nodes v p radius high size halos virtuals rooms) where
+module _ (objects : List NamedObject) (nodes : List Node) (v : Verified) (p : PlanView) (radius : Node → ℕ) (high size : ℕ) (halos : List ℕ) (virtuals : List PlaneValue) (slot_capacity : ℕ → Format × ℕ)
+    (bound : IsBound objects nodes v p radius high size halos virtuals slot_capacity) where
   abbrev steps : List Node
   steps = v.steps
 
@@ -26,7 +26,7 @@ module _ (objects : List NamedObject) (nodes : List Node) (v : Verified) (p : Pl
   outs = v.virtual_outputs
 
   abbrev slots : List ℕ
-  slots = map (place_of p) outs
+  slots = map (slot_index_of p) outs
 
   abbrev tasks : List Task
   tasks = graph_tasks steps outs p radius
@@ -65,20 +65,20 @@ module _ (objects : List NamedObject) (nodes : List Node) (v : Verified) (p : Pl
   kept_client : (c : ℕ) → KeepsBlock (length planes) tasks c → IsClient (plane planes c)
   kept_client c kept =
       client_planes virtuals objects (client_cells steps outs) client_image c
-      (omega (arith, kept_turns slots tasks in_turn (length planes) c kept, length-map outs (place_of p), virtual_count virtuals outs bound.descs))
+      (omega (arith, kept_turns slots tasks in_turn (length planes) c kept, length-map outs (slot_index_of p), virtual_count virtuals outs bound.descs))
       (omega (arith, kept.0, length-append virtuals (image_planes objects (client_cells steps outs)), length-map (client_cells steps outs) (λ (x : Reference). image_plane (image_held objects x))))
 
   -- ---- blocks
 
-  blocks_are : capacities planes ≡ blocks_at slots rooms clients 0
+  blocks_are : capacities planes ≡ blocks_at slots slot_capacity clients 0
   blocks_are =
       map-append (λ (q : PlaneValue). let b : Format × ℕ = (q.format, length q.samples) in b) virtuals (image_planes objects (client_cells steps outs))
       ∙ ap (λ (b : List (Format × ℕ)). b ++ clients) bound.blocks
 
-  hold : SlotsHold size halos (λ c. (plane planes c).desc) slots rooms
+  hold : SlotsHold size halos (λ c. (plane planes c).desc) slots slot_capacity
   hold k below =
-      subst (λ (d : Description). HoldsRows size (halo halos k) d (rooms (get_or slots k 0)))
-      (sym (virtual_desc objects bound.objects_are nodes v bound.ready p bound.plan virtuals bound.descs k (omega (arith, below, length-map outs (place_of p)))))
+      subst (λ (d : Description). HoldsRows size (halo halos k) d (slot_capacity (get_or slots k 0)))
+      (sym (virtual_desc objects bound.objects_are nodes v bound.ready p bound.plan virtuals bound.descs k (omega (arith, below, length-map outs (slot_index_of p)))))
       (bound.hold k below)
 
   -- ---- all
@@ -99,6 +99,6 @@ module _ (objects : List NamedObject) (nodes : List Node) (v : Verified) (p : Pl
         written = subst (λ (k : ℕ). (s : Step) → IsStepOf s tasks → s.takes ≡ None → KeepsBlock k tasks s.output) (sym same_count) (written steps outs p found_virtual have radius);
         once = bound.once;
         free = subst (λ (k : ℕ). AreFree (KeepsBlock k tasks) tasks) (sym same_count) (free steps outs p found_virtual have radius);
-        room = subst (λ (b : List (Format × ℕ)). HaveCapacity size halos (λ c. (plane planes c).desc) tasks b) (sym blocks_are) (turns_room size halos (λ c. (plane planes c).desc) slots rooms clients hold 0 tasks in_turn);
-        again = subst (λ (b : List (Format × ℕ)). blocks_after_tasks tasks b ≡ b) (sym blocks_are) (turns_again slots rooms clients tasks in_turn);
+        room = subst (λ (b : List (Format × ℕ)). HaveCapacity size halos (λ c. (plane planes c).desc) tasks b) (sym blocks_are) (turns_fit size halos (λ c. (plane planes c).desc) slots slot_capacity clients hold 0 tasks in_turn);
+        again = subst (λ (b : List (Format × ℕ)). blocks_after_tasks tasks b ≡ b) (sym blocks_are) (turns_again slots slot_capacity clients tasks in_turn);
       }

@@ -3,7 +3,7 @@ use Rattle.std.proofs.Common.{◌≡◌, ◌≢◌, ℕ, ◌+◌, ◌-◌, ◌<�
 use Rattle.std.proofs.lemmas.List.{get_or-append_right, get_or-map, length-append, length-map}
 use Rattle.std.proofs.lemmas.Option.{get_or_from_slice_get, slice_get_within}
 use Rattle.std.proofs.Math.ListN.{get_or-append, get_or-map as get_or-map_default}
-use Rattle.graph_run.proofs.Common.{cases_lt, Kind, Node, Reference, Output, Description, description_of, IsNode, optional_cells, outputs, operands, parameters, second_kind, ObjectValue, IsObject, ImageObject, object_kind, operand_of, is_virtual, Operand, Missing, Image, NamedObject, object_at, held_is, image_held, HoldsImage, VirtualOutput, Verified, IsReady, IsPlan, PlanView, place_of, operand_held, partial_descs, resolved_operand, In, In-at, In-left, CanRun, runs_alone}
+use Rattle.graph_run.proofs.Common.{cases_lt, Kind, Node, Reference, Output, Description, description_of, IsNode, optional_cells, outputs, operands, parameters, second_kind, ObjectValue, IsObject, ImageObject, object_kind, operand_of, is_virtual, Operand, Missing, Image, NamedObject, object_at, held_is, image_held, HoldsImage, VirtualOutput, Verified, IsReady, IsPlan, PlanView, slot_index_of, operand_held, partial_descs, resolved_operand, In, In-at, In-left, CanRun, runs_alone}
 use Rattle.vx_base.specs.declared.kind.Kind.TheVariants as kind
 use Rattle.vx_base.specs.Node.{with_kind}
 use Rattle.node_rows.specs.Radius.{matrix_in}
@@ -238,7 +238,7 @@ module _ (objects : List NamedObject) (are : All (λ o. IsObject o.object) objec
 
     pub steps_suit : (s : Step) → IsStepOf s (graph_tasks steps outs p radius) → SuitsPlanes tables high s planes
     steps_suit s i =
-        let slots : List ℕ = map (place_of p) outs in
+        let slots : List ℕ = map (slot_index_of p) outs in
         let r = step_node cells slots radius steps 0 0 s i in
         let place : r.at ≡ r.place = omega (arith, r.same) in
         subst (λ (x : Step). SuitsPlanes tables high x planes) (sym (r.is ∙ ap (λ (k : ℕ). step_for cells slots radius k r.node r.which r.cell) place))

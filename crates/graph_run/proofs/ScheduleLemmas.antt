@@ -1,6 +1,6 @@
 -- Schedules of verified graphs.
 use Rattle.std.proofs.Common.{◌≡◌, ℕ, ◌≤◌, Bool, List, length, map, ap, sym, subst, ◌∙◌, arith, length-append}
-use Rattle.graph_run.proofs.Common.{length-map, Node, Reference, NamedObject, Verified, VirtualOutput, IsReady, IsPlan, PlanView, operand_held, place_of}
+use Rattle.graph_run.proofs.Common.{length-map, Node, Reference, NamedObject, Verified, VirtualOutput, IsReady, IsPlan, PlanView, operand_held, slot_index_of}
 use Rattle.graph_verify.specs.Operand.{is_virtual}
 use Rattle.graph_steps.specs.declared.step.Step.{Step}
 use Rattle.graph_steps.specs.declared.step.Task.{Task}
@@ -26,7 +26,7 @@ module _ (objects : List NamedObject) (nodes : List Node) (v : Verified) (ready 
   have = have_tasks objects nodes v ready p plan
 
   module _ (cells : List Reference) (slots : List ℕ) (radius : Node → ℕ) (tasks : List Task)
-      (cells_are : cells ≡ graph_cells v.steps v.virtual_outputs) (slots_are : slots ≡ map (place_of p) v.virtual_outputs)
+      (cells_are : cells ≡ graph_cells v.steps v.virtual_outputs) (slots_are : slots ≡ map (slot_index_of p) v.virtual_outputs)
       (tasks_are : tasks ≡ tasks_of cells slots radius v.steps) where
     pub same_tasks : tasks ≡ graph_tasks v.steps v.virtual_outputs p radius
     same_tasks = tasks_are ∙ ap (λ (c : List Reference). tasks_of c slots radius v.steps) cells_are ∙ ap (λ (s : List ℕ). tasks_of (graph_cells v.steps v.virtual_outputs) s radius v.steps) slots_are

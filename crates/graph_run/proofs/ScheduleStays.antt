@@ -1,6 +1,6 @@
 -- A schedule stays one while the cells that its nodes name hold objects of the same skeletons.
 use Rattle.std.proofs.Common.{◌≡◌, ◌≤◌, ◌+◌, ℕ, true, false, List, [], ◌∷◌, ◌++◌, map, Option, Some, None, inl, inr, refl, sym, ap, subst, ◌∙◌, arith, option_map, option_and_then, unwrap_or}
-use Rattle.graph_run.proofs.Common.{Node, Kind, Reference, Output, parameters, ObjectValue, ImageObject, new_image, U8, NamedObject, object_at, skeleton, image_value, image_held, names_cell, In, In-right, In-from_flat_map, or_left, has_twice, writes, Verified, VirtualOutput, IsPlan, PlanView, place_of}
+use Rattle.graph_run.proofs.Common.{Node, Kind, Reference, Output, parameters, ObjectValue, ImageObject, new_image, U8, NamedObject, object_at, skeleton, image_value, image_held, names_cell, In, In-right, In-from_flat_map, or_left, has_twice, writes, Verified, VirtualOutput, IsPlan, PlanView, slot_index_of}
 use Rattle.vx_base.specs.declared.kind.Kind.TheVariants as kind
 use Rattle.node_rows.specs.Radius.{matrix_in}
 use Rattle.graph_verify.specs.Links.{reads}
@@ -95,12 +95,12 @@ module _ (before after : List NamedObject) (v : Verified) (p : PlanView) (plan :
       record {
         cells = h.cells;
         slots = h.slots;
-        tasks = h.tasks ∙ tasks_alike (graph_cells steps outs) (map (place_of p) outs) (radius_of before s.high) (radius_of after s.high) steps 0 0 (radius_stays s.high);
+        tasks = h.tasks ∙ tasks_alike (graph_cells steps outs) (map (slot_index_of p) outs) (radius_of before s.high) (radius_of after s.high) steps 0 0 (radius_stays s.high);
         halo_count = h.halo_count;
         enough = h.enough;
         some = h.some;
         forward = h.forward;
-        rooms = h.rooms;
+        capacities = h.capacities;
         once = h.once;
         virtuals = h.virtuals;
         clients =

@@ -42,11 +42,11 @@ all_low objects high cells virtuals outs descs low_outs low_cells =
     (All-map (λ (q : PlaneValue). q.desc.height ≤ high) (λ (c : Reference). image_plane (image_held objects c)) cells low_cells)
 
 -- the format of a virtual plane is that of its slot
-pub virtual_format : (virtuals rest : List PlaneValue) (slots : List ℕ) (rooms : ℕ → Format × ℕ) (k : ℕ) → capacities virtuals ≡ first_blocks slots rooms → length virtuals ≡ length slots → k < length slots
-    → (plane (virtuals ++ rest) k).format ≡ (rooms (get_or slots k 0)).0
-virtual_format virtuals rest slots rooms k blocks count below =
+pub virtual_format : (virtuals rest : List PlaneValue) (slots : List ℕ) (slot_capacity : ℕ → Format × ℕ) (k : ℕ) → capacities virtuals ≡ first_blocks slots slot_capacity → length virtuals ≡ length slots → k < length slots
+    → (plane (virtuals ++ rest) k).format ≡ (slot_capacity (get_or slots k 0)).0
+virtual_format virtuals rest slots slot_capacity k blocks count below =
     ap (λ (q : PlaneValue). q.format) (get_or-append virtuals rest no_plane k (omega (arith, count, below)))
     ∙ ap (λ (b : Format × ℕ). b.0)
     (sym (get_or-map_default (λ (q : PlaneValue). let b : Format × ℕ = (q.format, length q.samples) in b) virtuals k no_plane)
     ∙ ap (λ (l : List (Format × ℕ)). get_or l k (U8, 0)) blocks
-    ∙ get_or-map-range_with_len (block_at slots rooms 0) 0 (length slots) k k (U8, 0) below (omega arith))
+    ∙ get_or-map-range_with_len (block_at slots slot_capacity 0) 0 (length slots) k k (U8, 0) below (omega arith))

@@ -1,6 +1,6 @@
 -- Slots of a plan: their indices and sizes.
 use Rattle.std.proofs.Common.{◌≡◌, ℕ, ◌+◌, ◌<◌, ◌≤◌, List, [], ◌∷◌, ◌++◌, map, length, suc, Option, Some, None, inl, inr, refl, sym, ap, subst, ◌∙◌, arith, IfSome, slice_get, is_some, unwrap_or, eq-eqb, length-append}
-use Rattle.graph_run.proofs.Common.{range_with_len, list_any, nat_tests, length-map-range_with_len, slice_get-get_or, Format, Reference, same_reference, sample_count, same_format, VirtualOutput, Node, In, any-from_In, In-filter, In-map, IsPlan, PlanView, slot_place, place_of, planned_capacities}
+use Rattle.graph_run.proofs.Common.{range_with_len, list_any, nat_tests, length-map-range_with_len, slice_get-get_or, Format, Reference, same_reference, sample_count, same_format, VirtualOutput, Node, In, any-from_In, In-filter, In-map, IsPlan, PlanView, slot_index, slot_index_of, planned_capacities}
 use Rattle.std.specs.List.{filter}
 use Rattle.buffer_plan.specs.Slots.{of_format}
 use Rattle.std.proofs.lemmas.List.FromFn.{get_or-map-range_with_len}
@@ -36,11 +36,11 @@ module _ (p : PlanView) where
 
   -- the size of a slot
   pub planned_at : (format : Format) (k : ℕ) → k < p.slot_count format
-      → slice_get (planned_capacities p) (slot_place p format k) ≡ Some (format, p.slot_samples format k)
+      → slice_get (planned_capacities p) (slot_index p format k) ≡ Some (format, p.slot_samples format k)
   planned_at z0 k below = grind (arith, get_left, long, length-append, made_at, get_right)
 
   -- an index belongs to one slot
-  one_slot : (f g : Format) (j k : ℕ) → j < p.slot_count f → k < p.slot_count g → slot_place p f j ≡ slot_place p g k → (f ≡ g) × (j ≡ k)
+  one_slot : (f g : Format) (j k : ℕ) → j < p.slot_count f → k < p.slot_count g → slot_index p f j ≡ slot_index p g k → (f ≡ g) × (j ≡ k)
   one_slot f g j k a b same = grind arith
 
 -- ---- the slots of virtual images
@@ -85,9 +85,9 @@ module _ (steps : List Node) (outs : List VirtualOutput) (p : PlanView) (plan : 
   pub has_slot : (o : VirtualOutput) → In o outs → HasSlot p o
   has_slot o i = grind (arith, any-from_In)
 
-  home_at : (o : VirtualOutput) (h : HasSlot p o) → place_of p o ≡ slot_place p o.desc.format h.slot
-  home_at o h = ap (λ s. slot_place p o.desc.format (unwrap_or s 0)) h.is
+  home_at : (o : VirtualOutput) (h : HasSlot p o) → slot_index_of p o ≡ slot_index p o.desc.format h.slot
+  home_at o h = ap (λ s. slot_index p o.desc.format (unwrap_or s 0)) h.is
 
   -- images at the same index share a slot
-  pub one_home : (a b : VirtualOutput) → In a outs → In b outs → place_of p a ≡ place_of p b → (a.desc.format ≡ b.desc.format) × (p.slot_of a.cell ≡ p.slot_of b.cell)
+  pub one_home : (a b : VirtualOutput) → In a outs → In b outs → slot_index_of p a ≡ slot_index_of p b → (a.desc.format ≡ b.desc.format) × (p.slot_of a.cell ≡ p.slot_of b.cell)
   one_home a b i j same = grind (arith, has_slot, one_slot, home_at)

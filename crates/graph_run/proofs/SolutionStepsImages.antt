@@ -3,7 +3,7 @@ use Rattle.std.proofs.Common.{◌≡◌, ◌≢◌, ℕ, ◌+◌, ◌<◌, ◌�
 use Rattle.std.specs.List.{slice_get}
 use Rattle.std.proofs.lemmas.List.{get_or-append-add, get_or_append_left, get_or-map, length-map}
 use Rattle.std.proofs.lemmas.Option.{get_or_from_slice_get, slice_get_within}
-use Rattle.graph_run.proofs.Common.{accumulates, second_or_output, cases_lt, Reference, reference_to, Description, false_from_ne_true, flat_map, Function, optional_cells, object_at, held_is, HoldsImage, HoldsKind, image_held, Image, ImageObject, ImageValue, In, In-append, In-at, In-filter, In-from_any, In-from_filter, In-from_flat_map, In-from_map, In-from_same, In-left, In-right, IsImage, IsObject, is_virtual, is_virtual_object, is_written, Kind, NamedObject, names_cell, Node, node_image, node_output, object_held, object_kind, ObjectValue, operands, Output, First, Second, outputs, parameters, place_of, Samples, second_kind, in_slot, has_twice, image_value, new_image, U8, description_of, Operand, operand_of, kind_in, Verified, VirtualOutput, written_from, written_in, writes}
+use Rattle.graph_run.proofs.Common.{accumulates, second_or_output, cases_lt, Reference, reference_to, Description, false_from_ne_true, flat_map, Function, optional_cells, object_at, held_is, HoldsImage, HoldsKind, image_held, Image, ImageObject, ImageValue, In, In-append, In-at, In-filter, In-from_any, In-from_filter, In-from_flat_map, In-from_map, In-from_same, In-left, In-right, IsImage, IsObject, is_virtual, is_virtual_object, is_written, Kind, NamedObject, names_cell, Node, node_image, node_output, object_held, object_kind, ObjectValue, operands, Output, First, Second, outputs, parameters, slot_index_of, Samples, second_kind, in_slot, has_twice, image_value, new_image, U8, description_of, Operand, operand_of, kind_in, Verified, VirtualOutput, written_from, written_in, writes}
 use Rattle.vx_base.specs.declared.kind.Kind.TheVariants as kind
 use Rattle.vx_base.specs.Node.{with_kind}
 use Rattle.graph_steps.specs.declared.step.Step.{Step}
@@ -303,7 +303,7 @@ module _ {objects : List NamedObject} {v : Verified} {s : Schedule} (g : CanRunB
     tasks = graph_tasks order (outs g) g.slots radius
 
     abbrev slots : List ℕ
-    slots = map (place_of g.slots) (outs g)
+    slots = map (slot_index_of g.slots) (outs g)
 
     abbrev tables : ℕ → Option ObjectValue
     tables = tables_of objects order

@@ -1,7 +1,7 @@
 -- The objects written back to a table after a run over planes are the result of the graph's run.
 use Rattle.std.proofs.Common.{◌≡◌, ◌≢◌, ℕ, ◌+◌, ◌<◌, ◌≤◌, true, false, List, [], ◌∷◌, ◌++◌, map, length, drop, get_or, refl, sym, ap, subst, ◌∙◌, inl, inr, arith, All, Option, Some, None, ◌⊎◌, unwrap_or, option_map, option_and_then}
 use Rattle.std.proofs.lemmas.List.{get_or-drop, length-append, length-drop, length-map}
-use Rattle.graph_run.proofs.Common.{cases_Bool, Reference, cell_object, objects_at_end, form_of, object_at, image_held, ImageObject, ImageValue, In, in_slot, In-append, In-at, In-from_any, In-from_same, In-left, In-right, is_virtual_object, is_written, Kind, label_of, Lasts, NamedObject, optional_cells, Operand, Node, node_output, First, object_held, object_kind, ObjectValue, operand_held, option_or, outputs, parameters, place_of, resolved_operand, run_of_graph, Samples, Verified, VirtualOutput, with_written, written_from, writes, operand_of}
+use Rattle.graph_run.proofs.Common.{cases_Bool, Reference, cell_object, objects_at_end, form_of, object_at, image_held, ImageObject, ImageValue, In, in_slot, In-append, In-at, In-from_any, In-from_same, In-left, In-right, is_virtual_object, is_written, Kind, label_of, Lasts, NamedObject, optional_cells, Operand, Node, node_output, First, object_held, object_kind, ObjectValue, operand_held, option_or, outputs, parameters, slot_index_of, resolved_operand, run_of_graph, Samples, Verified, VirtualOutput, with_written, written_from, writes, operand_of}
 use Rattle.vx_base.specs.declared.kind.Kind.TheVariants as kind
 use Rattle.vx_base.specs.PartialDescription.{PartialDescription}
 use Rattle.graph_verify.specs.declared.operand.Operand.TheVariants.{Virtual}
@@ -114,8 +114,8 @@ module _ {objects : List NamedObject} {v : Verified} {s : Schedule} (g : CanRunB
 
     pub theirs_keep : (k : ℕ) → k < length theirs → KeepsBlock (length planes) (graph_tasks steps outs g.slots radius) (length outs + k)
     theirs_keep k below =
-        turns_kept (map (place_of g.slots) outs) (graph_tasks steps outs g.slots radius) (turns steps outs g.slots _ (have g) radius) (length planes) (length outs + k)
-        (omega (arith, length-map outs (place_of g.slots))) (omega (arith, below, theirs_count, show_all.count))
+        turns_kept (map (slot_index_of g.slots) outs) (graph_tasks steps outs g.slots radius) (turns steps outs g.slots _ (have g) radius) (length planes) (length outs + k)
+        (omega (arith, length-map outs (slot_index_of g.slots))) (omega (arith, below, theirs_count, show_all.count))
 
     pub theirs_index : (k : ℕ) (d : Reference) → k < length theirs → index_of all (get_or theirs k d) ≡ length outs + k
     theirs_index k d below =
@@ -155,7 +155,7 @@ module _ {objects : List NamedObject} {v : Verified} {s : Schedule} (g : CanRunB
 
     pub tally_facts : (place : ℕ) → place < length (tally_cells steps) → IsTallied place
     tally_facts place below =
-        let r = reduction_at all (map (place_of g.slots) outs) radius objects steps 0 0 place below in
+        let r = reduction_at all (map (slot_index_of g.slots) outs) radius objects steps 0 0 place below in
         let n : Node = r.node in
         let out = one_output n (is_node_of g n r.inside).shape r.other in
         let c : Reference = out.0 in

@@ -1,7 +1,7 @@
 -- The reductions of a graph's tasks: each has a tally of its own, which takes the format of its plane.
 use Rattle.std.proofs.Common.{◌≡◌, ◌≢◌, ℕ, ◌+◌, ◌*◌, ◌<◌, true, List, [], ◌∷◌, ◌++◌, length, map, get_or, All, Option, Some, None, IfSome, refl, sym, ap, subst, ◌∙◌, inl, inr, arith, is_some, option_map, option_and_then, unwrap_or}
 use Rattle.std.proofs.lemmas.List.{append_assoc, get_or-append_right, length-append}
-use Rattle.graph_run.proofs.Common.{Format, U8, U32, Function, Kind, Node, Reference, Output, First, Second, Description, IsNode, parameters, ObjectValue, IsObject, takes_formats, operand_format, operands_of, Operand, Image, NamedObject, cell_object, operand_held, VirtualOutput, Verified, IsReady, IsPlan, PlanView, place_of, In, runs_alone}
+use Rattle.graph_run.proofs.Common.{Format, U8, U32, Function, Kind, Node, Reference, Output, First, Second, Description, IsNode, parameters, ObjectValue, IsObject, takes_formats, operand_format, operands_of, Operand, Image, NamedObject, cell_object, operand_held, VirtualOutput, Verified, IsReady, IsPlan, PlanView, slot_index_of, In, runs_alone}
 use Rattle.vx_base.specs.declared.kind.Kind.TheVariants as kind
 use Rattle.vx_base.specs.Node.{has_operands}
 use Rattle.vx_base.specs.Object.{no_extremes}
@@ -174,13 +174,13 @@ module _ (objects : List NamedObject) (are : All (λ o. IsObject o.object) objec
   pub graph_reduces : CanReduceBand 0 (graph_tasks steps outs p radius) planes (tallies_of objects steps)
   graph_reduces =
       let cells : List Reference = graph_cells steps outs in
-      let all = tallied cells (map (place_of p) outs) radius objects steps 0 0 in
+      let all = tallied cells (map (slot_index_of p) outs) radius objects steps 0 0 in
       record {
         apart = all.0;
         reduces = λ r i. can_reduce r (all.1 r i);
       }
     where
-      can_reduce : (r : Reduction) → IsTallied (graph_cells steps outs) (map (place_of p) outs) radius objects r 0 steps → CanReduce 0 planes (tallies_of objects steps) r
+      can_reduce : (r : Reduction) → IsTallied (graph_cells steps outs) (map (slot_index_of p) outs) radius objects r 0 steps → CanReduce 0 planes (tallies_of objects steps) r
       can_reduce r t =
           let cells : List Reference = graph_cells steps outs in
           let there : In t.node.in1 cells = all_named (map (λ (o : VirtualOutput). o.cell) outs) steps t.node t.inside t.node.in1 (inl refl) in

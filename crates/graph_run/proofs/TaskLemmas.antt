@@ -13,51 +13,51 @@ use Rattle.graph_steps.specs.Steps.{blocks_with_move, capacity}
 use Rattle.graph_run.specs.Cells.{index_of, with_cells}
 use Rattle.graph_run.specs.Tasks.{SlotsHold, TakeTurns, WriteImages, blocks_at, step_for, previous_holder, tally_after, tasks_by, tasks_from, write_given}
 use Rattle.graph_run.proofs.IndexLemmas.{added_behind, index_at, index_left, index_right}
-use Rattle.graph_run.proofs.CycleLemmas.{blocks_cycle, holder_is, holder_some, next_blocks, takes_it, takes_room, t}
+use Rattle.graph_run.proofs.CycleLemmas.{blocks_cycle, holder_is, holder_some, next_blocks, takes_it, takes_capacity, t}
 
 -- ---- tasks that write virtual images in the order of their indices
 
 -- in the end each block is where it was
-pub turns_return : (slots : List ℕ) (rooms : ℕ → Format × ℕ) (clients : List (Format × ℕ)) (k : ℕ) (tasks : List Task) → TakeTurns slots k tasks
-    → blocks_after_tasks tasks (blocks_at slots rooms clients k) ≡ blocks_at slots rooms clients (length slots)
-turns_return slots rooms clients k [] turns = ap (blocks_at slots rooms clients) turns
-turns_return slots rooms clients k (Reduce r ∷ later) turns = turns_return slots rooms clients k later turns
-turns_return slots rooms clients k (Write s ∷ later) (inl turn) =
-    ap (λ (o : Option ℕ). blocks_after_tasks later (blocks_with_move o s.output (blocks_at slots rooms clients k))) turn.1 ∙ turns_return slots rooms clients k later turn.2
-turns_return slots rooms clients k (Write s ∷ later) (inr turn) =
-    ap (λ (o : Option ℕ). blocks_after_tasks later (blocks_with_move o s.output (blocks_at slots rooms clients k))) turn.2
-    ∙ ap (λ (n : ℕ). blocks_after_tasks later (blocks_with_move (previous_holder slots k) n (blocks_at slots rooms clients k))) turn.1
-    ∙ ap (blocks_after_tasks later) (next_blocks slots rooms clients k turn.0)
-    ∙ turns_return slots rooms clients (k + 1) later turn.3
+pub turns_return : (slots : List ℕ) (slot_capacity : ℕ → Format × ℕ) (clients : List (Format × ℕ)) (k : ℕ) (tasks : List Task) → TakeTurns slots k tasks
+    → blocks_after_tasks tasks (blocks_at slots slot_capacity clients k) ≡ blocks_at slots slot_capacity clients (length slots)
+turns_return slots slot_capacity clients k [] turns = ap (blocks_at slots slot_capacity clients) turns
+turns_return slots slot_capacity clients k (Reduce r ∷ later) turns = turns_return slots slot_capacity clients k later turns
+turns_return slots slot_capacity clients k (Write s ∷ later) (inl turn) =
+    ap (λ (o : Option ℕ). blocks_after_tasks later (blocks_with_move o s.output (blocks_at slots slot_capacity clients k))) turn.1 ∙ turns_return slots slot_capacity clients k later turn.2
+turns_return slots slot_capacity clients k (Write s ∷ later) (inr turn) =
+    ap (λ (o : Option ℕ). blocks_after_tasks later (blocks_with_move o s.output (blocks_at slots slot_capacity clients k))) turn.2
+    ∙ ap (λ (n : ℕ). blocks_after_tasks later (blocks_with_move (previous_holder slots k) n (blocks_at slots slot_capacity clients k))) turn.1
+    ∙ ap (blocks_after_tasks later) (next_blocks slots slot_capacity clients k turn.0)
+    ∙ turns_return slots slot_capacity clients (k + 1) later turn.3
 
-pub turns_again : (slots : List ℕ) (rooms : ℕ → Format × ℕ) (clients : List (Format × ℕ)) (tasks : List Task) → TakeTurns slots 0 tasks
-    → blocks_after_tasks tasks (blocks_at slots rooms clients 0) ≡ blocks_at slots rooms clients 0
-turns_again slots rooms clients tasks turns = turns_return slots rooms clients 0 tasks turns ∙ blocks_cycle slots rooms clients
+pub turns_again : (slots : List ℕ) (slot_capacity : ℕ → Format × ℕ) (clients : List (Format × ℕ)) (tasks : List Task) → TakeTurns slots 0 tasks
+    → blocks_after_tasks tasks (blocks_at slots slot_capacity clients 0) ≡ blocks_at slots slot_capacity clients 0
+turns_again slots slot_capacity clients tasks turns = turns_return slots slot_capacity clients 0 tasks turns ∙ blocks_cycle slots slot_capacity clients
 
 none_some : {X : Type 0} (o : Option X) (x : X) → o ≡ None → o ≡ Some x → ⊥
 none_some o x a b = let e : ◌≡◌ {A = Option _} None (Some x) = sym a ∙ b in cc
 
-pub turns_room : (size : ℕ) (halos : List ℕ) (descs : ℕ → Description) (slots : List ℕ) (rooms : ℕ → Format × ℕ) (clients : List (Format × ℕ)) → SlotsHold size halos descs slots rooms
-    → (k : ℕ) (tasks : List Task) → TakeTurns slots k tasks → HaveCapacity size halos descs tasks (blocks_at slots rooms clients k)
-turns_room size halos descs slots rooms clients hold k [] turns = tt
-turns_room size halos descs slots rooms clients hold k (Reduce r ∷ later) turns = turns_room size halos descs slots rooms clients hold k later turns
-turns_room size halos descs slots rooms clients hold k (Write s ∷ later) (inl turn) = (
+pub turns_fit : (size : ℕ) (halos : List ℕ) (descs : ℕ → Description) (slots : List ℕ) (slot_capacity : ℕ → Format × ℕ) (clients : List (Format × ℕ)) → SlotsHold size halos descs slots slot_capacity
+    → (k : ℕ) (tasks : List Task) → TakeTurns slots k tasks → HaveCapacity size halos descs tasks (blocks_at slots slot_capacity clients k)
+turns_fit size halos descs slots slot_capacity clients hold k [] turns = tt
+turns_fit size halos descs slots slot_capacity clients hold k (Reduce r ∷ later) turns = turns_fit size halos descs slots slot_capacity clients hold k later turns
+turns_fit size halos descs slots slot_capacity clients hold k (Write s ∷ later) (inl turn) = (
   (λ from e. absurd (none_some s.takes from turn.1 e)),
-  subst (λ (o : Option ℕ). HaveCapacity size halos descs later (blocks_with_move o s.output (blocks_at slots rooms clients k))) (sym turn.1)
-      (turns_room size halos descs slots rooms clients hold k later turn.2),
+  subst (λ (o : Option ℕ). HaveCapacity size halos descs later (blocks_with_move o s.output (blocks_at slots slot_capacity clients k))) (sym turn.1)
+      (turns_fit size halos descs slots slot_capacity clients hold k later turn.2),
 )
-turns_room size halos descs slots rooms clients hold k (Write s ∷ later) (inr turn) = (
+turns_fit size halos descs slots slot_capacity clients hold k (Write s ∷ later) (inr turn) = (
   (λ from e.
-      let same : t slots rooms clients k turn.0 ≡ from = one_some _ from (sym (takes_it slots rooms clients k turn.0) ∙ sym turn.2 ∙ e) in
-      subst (λ (n : ℕ). HoldsRows size (halo halos n) (descs n) (capacity (blocks_at slots rooms clients k) from)) (sym turn.1)
+      let same : t slots slot_capacity clients k turn.0 ≡ from = one_some _ from (sym (takes_it slots slot_capacity clients k turn.0) ∙ sym turn.2 ∙ e) in
+      subst (λ (n : ℕ). HoldsRows size (halo halos n) (descs n) (capacity (blocks_at slots slot_capacity clients k) from)) (sym turn.1)
       (subst (λ (b : Format × ℕ). HoldsRows size (halo halos k) (descs k) b)
-      (sym (ap (capacity (blocks_at slots rooms clients k)) (sym same) ∙ takes_room slots rooms clients k turn.0)) (hold k turn.0))),
+      (sym (ap (capacity (blocks_at slots slot_capacity clients k)) (sym same) ∙ takes_capacity slots slot_capacity clients k turn.0)) (hold k turn.0))),
   subst (λ (b : List (Format × ℕ)). HaveCapacity size halos descs later b)
       (sym
-      (ap (λ (o : Option ℕ). blocks_with_move o s.output (blocks_at slots rooms clients k)) turn.2
-      ∙ ap (λ (n : ℕ). blocks_with_move (previous_holder slots k) n (blocks_at slots rooms clients k)) turn.1
-      ∙ next_blocks slots rooms clients k turn.0))
-      (turns_room size halos descs slots rooms clients hold (k + 1) later turn.3),
+      (ap (λ (o : Option ℕ). blocks_with_move o s.output (blocks_at slots slot_capacity clients k)) turn.2
+      ∙ ap (λ (n : ℕ). blocks_with_move (previous_holder slots k) n (blocks_at slots slot_capacity clients k)) turn.1
+      ∙ next_blocks slots slot_capacity clients k turn.0))
+      (turns_fit size halos descs slots slot_capacity clients hold (k + 1) later turn.3),
 )
   where
     one_some : (a b : ℕ) → ◌≡◌ {A = Option ℕ} (Some a) (Some b) → a ≡ b

@@ -12,8 +12,8 @@ use Rattle.graph_run.proofs.CycleLemmas.{last_below}
 -- ---- blocks of slots
 
 -- the block of another slot
-pub other_room : (blocks : List Samples) (s t : ℕ) (b : Samples) → s ≢ t → block_capacity (slice_set blocks t b) s ≡ block_capacity blocks s
-other_room blocks s t b differ =
+pub other_capacity : (blocks : List Samples) (s t : ℕ) (b : Samples) → s ≢ t → block_capacity (slice_set blocks t b) s ≡ block_capacity blocks s
+other_capacity blocks s t b differ =
     ap (λ (l : List (Format × ℕ)). get_or l s (U8, 0)) (map-set block_size blocks t b) ∙ get_or-set_other (map block_size blocks) t s (block_size b) (U8, 0) differ
 
 -- the block of the slot itself
@@ -23,13 +23,13 @@ own_room blocks t b inside =
     ∙ get_or-set_same (map block_size blocks) t (block_size b) (U8, 0) (omega (arith, inside, length-map blocks block_size))
 
 -- the format of a slot's block
-room_format : (blocks : List Samples) (s : ℕ) → (block_capacity blocks s).0 ≡ get_or (map samples_format blocks) s U8
-room_format [] s = refl
-room_format (b ∷ blocks) zero = refl
-room_format (b ∷ blocks) (suc s) = room_format blocks s
+capacity_format : (blocks : List Samples) (s : ℕ) → (block_capacity blocks s).0 ≡ get_or (map samples_format blocks) s U8
+capacity_format [] s = refl
+capacity_format (b ∷ blocks) zero = refl
+capacity_format (b ∷ blocks) (suc s) = capacity_format blocks s
 
 pub same_format_at : (old now : List Samples) (s : ℕ) → map samples_format now ≡ map samples_format old → (block_capacity now s).0 ≡ (block_capacity old s).0
-same_format_at old now s same = room_format now s ∙ ap (λ l. get_or l s U8) same ∙ sym (room_format old s)
+same_format_at old now s same = capacity_format now s ∙ ap (λ l. get_or l s U8) same ∙ sym (capacity_format old s)
 
 -- the samples that a plane gives back are of the format of the block in its slot
 pub returned_format : (old now : List Samples) (start planes : List PlaneValue) (k s : ℕ) (b x : Samples) (r : PlaneValue) → samples_format b ≡ (get_or planes k r).format → k < length planes
@@ -37,7 +37,7 @@ pub returned_format : (old now : List Samples) (start planes : List PlaneValue) 
     → samples_format b ≡ samples_format (get_or now s x)
 returned_format old now start planes k s b x r gives below here is same inside =
     gives ∙ ap (λ (p : PlaneValue). p.format) (get_or_default planes k r no_plane below ∙ here) ∙ is ∙ sym (same_format_at old now s same)
-    ∙ room_format now s ∙ get_or-map samples_format now s x U8 inside
+    ∙ capacity_format now s ∙ get_or-map samples_format now s x U8 inside
 
 -- the samples that a plane gives back are those of its block
 pub returned_size : (start planes : List PlaneValue) (k : ℕ) (b : Samples) (r : PlaneValue) → samples_format b ≡ (get_or planes k r).format → values b ≡ (get_or planes k r).samples → k < length planes
@@ -83,21 +83,21 @@ same_block slots old now k formats others =
     let s = get_or slots k 0 in
     by_last (last_in s slots) refl
   where
-    of_room : Option ℕ → Format × ℕ → Format × ℕ
-    of_room last room = (room.0, (if is_at k last then room.1 else 0))
+    of_capacity : Option ℕ → Format × ℕ → Format × ℕ
+    of_capacity last room = (room.0, (if is_at k last then room.1 else 0))
 
-    by_last : (last : Option ℕ) → last_in (get_or slots k 0) slots ≡ last → of_room last (block_capacity now (get_or slots k 0)) ≡ of_room last (block_capacity old (get_or slots k 0))
+    by_last : (last : Option ℕ) → last_in (get_or slots k 0) slots ≡ last → of_capacity last (block_capacity now (get_or slots k 0)) ≡ of_capacity last (block_capacity old (get_or slots k 0))
     by_last None e = ap (λ f. (f, 0)) (same_format_at old now (get_or slots k 0) formats)
     by_last (Some j) e = by_test (j == k) refl
       where
-        by_test : (here : Bool) → (j == k) ≡ here → of_room (Some j) (block_capacity now (get_or slots k 0)) ≡ of_room (Some j) (block_capacity old (get_or slots k 0))
-        by_test true is = ap (of_room (Some j)) (others (get_or slots k 0) j e (omega (arith, eqb-true j k is)))
+        by_test : (here : Bool) → (j == k) ≡ here → of_capacity (Some j) (block_capacity now (get_or slots k 0)) ≡ of_capacity (Some j) (block_capacity old (get_or slots k 0))
+        by_test true is = ap (of_capacity (Some j)) (others (get_or slots k 0) j e (omega (arith, eqb-true j k is)))
         by_test false is = simp is (ap (λ f. (f, 0)) (same_format_at old now (get_or slots k 0) formats))
 
 -- the block of a slot without images
 pub unused_more : (slots : List ℕ) (blocks : List Samples) (k s : ℕ) (b : Samples) → is_at k (last_in (get_or slots k 0) slots) ≡ true → last_in s slots ≡ None
     → block_capacity (slice_set blocks (get_or slots k 0) b) s ≡ block_capacity blocks s
-unused_more slots blocks k s b is none = other_room blocks s (get_or slots k 0) b differ
+unused_more slots blocks k s b is none = other_capacity blocks s (get_or slots k 0) b differ
   where
     differ : s ≢ get_or slots k 0
     differ same = let last = last_is slots (get_or slots k 0) k is in let there = ap (λ x. last_in x slots) same in grind (arith, last, there, none)
@@ -125,7 +125,7 @@ back_more slots blocks sizes k b is inside size before s j there below = by_test
     by_test false other =
         let differ : s ≢ t = grind (arith, nat_tests, other) in
         let later : j ≢ k = λ same. differ (sym (last_below s slots j 0 there).1 ∙ ap (λ n. get_or slots n 0) same) in
-        other_room blocks s t b differ ∙ before s j there (omega (arith, below, later))
+        other_capacity blocks s t b differ ∙ before s j there (omega (arith, below, later))
 
 -- another image gives none
 pub back_stays : (slots : List ℕ) (blocks : List Samples) (sizes : List (Format × ℕ)) (k : ℕ) → is_at k (last_in (get_or slots k 0) slots) ≡ false

@@ -1,7 +1,7 @@
 -- The tasks of a graph: the fields of a program that its plan and its order give.
 use Rattle.std.proofs.Common.{◌≡◌, ◌≢◌, ℕ, ◌<◌, ◌≤◌, Bool, true, false, List, [], ◌∷◌, length, map, refl, sym, ap, subst, ◌∙◌, inl, inr, arith, Option, Some, None, ◌+◌, ◌-◌, ◌++◌, get_or}
 use Rattle.std.proofs.lemmas.List.{get_or-append_right, get_or-map, length-append, length-map}
-use Rattle.graph_run.proofs.Common.{flat_map, ImageValue, IsImage, Node, Reference, VirtualOutput, PlanView, place_of, accumulates, outputs, In, In-from_filter}
+use Rattle.graph_run.proofs.Common.{flat_map, ImageValue, IsImage, Node, Reference, VirtualOutput, PlanView, slot_index_of, accumulates, outputs, In, In-from_filter}
 use Rattle.graph_steps.specs.declared.step.Step.{Step}
 use Rattle.graph_steps.specs.declared.step.Task.{Task}
 use Rattle.graph_steps.specs.declared.step.Task.TheVariants.{Write, Reduce}
@@ -53,14 +53,14 @@ module _ (steps : List Node) (outs : List VirtualOutput) (p : PlanView) (is_virt
   named : AreNamed (graph_cells steps outs) steps
   named = all_named virtual steps
 
-  pub turns : TakeTurns (map (place_of p) outs) 0 tasks
+  pub turns : TakeTurns (map (slot_index_of p) outs) 0 tasks
   turns = graph_turns steps outs p (planned_slots steps outs p have.plan) is_virtual have.order have.plan.once radius have.images
 
   after : AreReadAfter tasks
-  after = read_after (graph_cells steps outs) (map (place_of p) outs) radius steps 0 0 have.turn named
+  after = read_after (graph_cells steps outs) (map (slot_index_of p) outs) radius steps 0 0 have.turn named
 
   within : AreReadWithin count tasks
-  within = read_there (graph_cells steps outs) steps tasks (by_all (graph_cells steps outs) (map (place_of p) outs) radius steps 0 0 named)
+  within = read_there (graph_cells steps outs) steps tasks (by_all (graph_cells steps outs) (map (slot_index_of p) outs) radius steps 0 0 named)
 
   both_free : AreFree (KeepsBlock count tasks) tasks × AreUntaken tasks
   both_free = graph_free steps outs p (planned_slots steps outs p have.plan) is_virtual have.order have.plan.once radius have.images have.turn count
@@ -69,38 +69,38 @@ module _ (steps : List Node) (outs : List VirtualOutput) (p : PlanView) (is_virt
   free = both_free.0
 
   pub one_writer : HaveOneWriter tasks
-  one_writer = (one_writer_each (graph_cells steps outs) (map (place_of p) outs) radius steps 0 0 named have.writers).0
+  one_writer = (one_writer_each (graph_cells steps outs) (map (slot_index_of p) outs) radius steps 0 0 named have.writers).0
 
   pub begins : (c : ℕ) → IsLive (KeepsBlock count tasks) tasks c → IsUnwritten tasks c × KeepsBlock count tasks c
-  begins = turns_begin (map (place_of p) outs) tasks count turns after within
+  begins = turns_begin (map (slot_index_of p) outs) tasks count turns after within
 
   -- there are no more virtual images than planes
-  virtual_count : length (map (place_of p) outs) ≤ count
+  virtual_count : length (map (slot_index_of p) outs) ≤ count
   virtual_count =
       let behind = added_behind virtual (images_named steps) in
-      omega (arith, ap length behind.1, length-append virtual behind.0, length-map outs (place_of p), length-map outs (λ (o : VirtualOutput). o.cell))
+      omega (arith, ap length behind.1, length-append virtual behind.0, length-map outs (slot_index_of p), length-map outs (λ (o : VirtualOutput). o.cell))
 
   -- what accumulates takes no block
   adds_whole : (s : Step) → IsStepOf s tasks → accumulates s.node.function ≡ true → s.takes ≡ None
   adds_whole s i adds =
-      let of = step_node (graph_cells steps outs) (map (place_of p) outs) radius steps 0 0 s i in
+      let of = step_node (graph_cells steps outs) (map (slot_index_of p) outs) radius steps 0 0 s i in
       let behind = added_behind virtual (images_named steps) in
       let adds_there : accumulates of.node.function ≡ true = ap (λ (x : Step). accumulates x.node.function) (sym of.is) ∙ adds in
       let client : is_virtual of.cell ≡ false = have.adds of.node of.inside adds_there of.cell of.written in
       let outside = λ (j : In of.cell virtual). (let k = In-from_filter is_virtual of.cell (flat_map outputs steps) (subst (In of.cell) have.order j) in let clash : true ≡ false = sym k.1 ∙ client in let no : ⊥ = cc in no) in
       let above : length virtual ≤ index_of (graph_cells steps outs) of.cell =
       subst (λ (l : List Reference). length virtual ≤ index_of l of.cell) (sym behind.1) (index_right virtual behind.0 of.cell outside) in
-      let high : length (map (place_of p) outs) ≤ index_of (graph_cells steps outs) of.cell = omega (arith, above, length-map outs (place_of p), length-map outs (λ (o : VirtualOutput). o.cell)) in
-      let none : previous_holder (map (place_of p) outs) (index_of (graph_cells steps outs) of.cell) ≡ None = grind (arith, high) in
+      let high : length (map (slot_index_of p) outs) ≤ index_of (graph_cells steps outs) of.cell = omega (arith, above, length-map outs (slot_index_of p), length-map outs (λ (o : VirtualOutput). o.cell)) in
+      let none : previous_holder (map (slot_index_of p) outs) (index_of (graph_cells steps outs) of.cell) ≡ None = grind (arith, high) in
       ap (λ (x : Step). x.takes) of.is ∙ none
 
   pub steps_within : (s : Step) → IsStepOf s tasks → NamesPlanes count s
   steps_within s i =
-      let of = step_node (graph_cells steps outs) (map (place_of p) outs) radius steps 0 0 s i in
+      let of = step_node (graph_cells steps outs) (map (slot_index_of p) outs) radius steps 0 0 s i in
       record {
         output = subst (λ (x : Step). x.output < count) (sym of.is) (index_below (graph_cells steps outs) of.cell (named of.node of.inside of.cell (image_named of.node of.cell of.image of.written)));
         reads = λ c read. (reads_in count tasks s within i c read, reads_other tasks s after i c read, reads_untaken tasks s both_free.1 i c read);
-        taken = λ from e. (elim (turns_take (map (place_of p) outs) 0 tasks turns s i) [
+        taken = λ from e. (elim (turns_take (map (slot_index_of p) outs) 0 tasks turns s i) [
           | inl none ↦ (let clash : ◌≡◌ {A = Option ℕ} None (Some from) = sym none.1 ∙ e in absurd (cc clash))
           | inr some ↦ (let same : ◌≡◌ {A = Option ℕ} (Some some.1.0) (Some from) = sym some.1.2 ∙ e in let one : some.1.0 ≡ from = cc in omega (arith, some.1.1, one, virtual_count))
         ]);
@@ -108,8 +108,8 @@ module _ (steps : List Node) (outs : List VirtualOutput) (p : PlanView) (is_virt
       }
 
   pub written : (s : Step) → IsStepOf s tasks → s.takes ≡ None → KeepsBlock count tasks s.output
-  written s i none = elim (turns_take (map (place_of p) outs) 0 tasks turns s i) [
-    | inl client ↦ turns_kept (map (place_of p) outs) tasks turns count s.output client.0 (steps_within s i).output
+  written s i none = elim (turns_take (map (slot_index_of p) outs) 0 tasks turns s i) [
+    | inl client ↦ turns_kept (map (slot_index_of p) outs) tasks turns count s.output client.0 (steps_within s i).output
     | inr some ↦ (let clash : ◌≡◌ {A = Option ℕ} None (Some some.1.0) = sym none ∙ some.1.2 in absurd (cc clash))
   ]
 

@@ -12,7 +12,7 @@ use Rattle.graph_steps.specs.declared.step.Step.{Step}
 use Rattle.graph_steps.specs.declared.step.Task.{Task}
 use Rattle.graph_steps.specs.declared.step.Task.TheVariants.{Write}
 use Rattle.graph_steps.specs.Program.{halo}
-use Rattle.graph_run.specs.Slots.{slot_place}
+use Rattle.graph_run.specs.Slots.{slot_index}
 
 -- the format and the number of samples of a block
 abbrev pub block_size : Samples → Format × ℕ
@@ -20,15 +20,15 @@ block_size block = (samples_format block, length (values block))
 
 -- the format and the number of samples of the block at an index
 abbrev pub block_capacity : List Samples → ℕ → Format × ℕ
-block_capacity blocks place = slice_index_or (map block_size blocks) place (U8, 0)
+block_capacity blocks index = slice_index_or (map block_size blocks) index (U8, 0)
 
 -- the number of blocks of a format
 abbrev pub blocks_of_format : List Samples → Format → ℕ
 blocks_of_format blocks format = sum_by (λ b. one_of (samples_format b) format) blocks
 
 -- the number of blocks of this format, given the format and size of each block
-abbrev pub room_count : List (Format × ℕ) → Format → ℕ
-room_count rooms format = sum_by (λ r. one_of r.0 format) rooms
+abbrev pub capacity_count : List (Format × ℕ) → Format → ℕ
+capacity_count capacities format = sum_by (λ r. one_of r.0 format) capacities
 
 -- the number of samples in a band of `size` rows of an image, including the halo above and below
 abbrev pub band_samples : ℕ → ℕ → Description → ℕ
@@ -37,15 +37,15 @@ band_samples size rows desc = min desc.height (size + rows + rows) * desc.width
 -- the number of samples that a slot needs for the images of the list: the most that any of these
 -- images in the slot needs. The first image of the list has index k.
 abbrev pub samples_from : ℕ → List ℕ → ℕ → List VirtualOutput → List ℕ → ℕ → ℕ
-samples_from size halos k [] slots place = 0
-samples_from size halos k (o ∷ outs) [] place = 0
-samples_from size halos k (o ∷ outs) (s ∷ slots) place =
-    max (if s == place then band_samples size (halo halos k) o.desc else 0) (samples_from size halos (k + 1) outs slots place)
+samples_from size halos k [] slots wanted = 0
+samples_from size halos k (o ∷ outs) [] wanted = 0
+samples_from size halos k (o ∷ outs) (s ∷ slots) wanted =
+    max (if s == wanted then band_samples size (halo halos k) o.desc else 0) (samples_from size halos (k + 1) outs slots wanted)
 
 -- the plan with slots that are large enough for bands of `size` rows
 abbrev pub band_plan : ℕ → List ℕ → List VirtualOutput → List ℕ → PlanView → PlanView
 band_plan size halos outs slots p =
-    record p { slot_samples = λ format k. samples_from size halos 0 outs slots (slot_place p format k) }
+    record p { slot_samples = λ format k. samples_from size halos 0 outs slots (slot_index p format k) }
 
 -- a step as a list of one task; empty if there is no step
 abbrev pub step_tasks : Option Step → List Task

@@ -28,7 +28,7 @@ use Rattle.graph_steps.specs.Program.{IsStepOf, Suffice, halo}
 use Rattle.graph_steps.specs.Steps.{Covers, capacities, reads_output, step_radius}
 use Rattle.graph_run.specs.Bind.{image_planes}
 use Rattle.graph_run.specs.Operands.{IsReady}
-use Rattle.graph_run.specs.Slots.{place_of}
+use Rattle.graph_run.specs.Slots.{slot_index_of}
 use Rattle.graph_run.specs.Tasks.{SlotsHold, block_at, graph_cells, graph_tasks}
 
 -- ---- tables
@@ -80,7 +80,7 @@ virtual_description outs k = slice_index_or (map (λ o. o.desc) outs) k no_plane
 -- the blocks of the virtual images before a run: the last image in each slot has the slot's block,
 -- and the other images have empty blocks
 abbrev pub first_blocks : List ℕ → (ℕ → Format × ℕ) → List (Format × ℕ)
-first_blocks slots rooms = map (block_at slots rooms 0) (range_with_len 0 (length slots))
+first_blocks slots slot_capacity = map (block_at slots slot_capacity 0) (range_with_len 0 (length slots))
 
 -- ---- tallies
 
@@ -107,7 +107,7 @@ AddOnce high size halos tasks =
     (s : Step) → IsStepOf s tasks → reads_output s.node.function ≡ true → ((halo halos s.output ≡ 0) × (s.takes ≡ None)) ⊎ (high ≤ size)
 
 -- a verified graph can run as a program with these radii, halos, band height, planes of virtual images, and sizes of slots
-pub record IsBound (objects : List NamedObject) (nodes : List Node) (v : Verified) (p : PlanView) (radius : Node → ℕ) (high size : ℕ) (halos : List ℕ) (virtuals : List PlaneValue) (rooms : ℕ → Format × ℕ) : Type 0 where
+pub record IsBound (objects : List NamedObject) (nodes : List Node) (v : Verified) (p : PlanView) (radius : Node → ℕ) (high size : ℕ) (halos : List ℕ) (virtuals : List PlaneValue) (slot_capacity : ℕ → Format × ℕ) : Type 0 where
   pub objects_are : All (λ o. IsObject o.object) objects
   pub ready : IsReady objects nodes v
   pub plan : IsPlan v.steps v.virtual_outputs p
@@ -116,8 +116,8 @@ pub record IsBound (objects : List NamedObject) (nodes : List Node) (v : Verifie
   pub forward : 0 < size
   pub tall : All (λ q. q.desc.height ≤ high) (planes_of objects v.steps v.virtual_outputs virtuals)
   pub descs : map (λ q. q.desc) virtuals ≡ map (λ o. o.desc) v.virtual_outputs
-  pub blocks : capacities virtuals ≡ first_blocks (map (place_of p) v.virtual_outputs) rooms
-  pub hold : SlotsHold size halos (virtual_description v.virtual_outputs) (map (place_of p) v.virtual_outputs) rooms
+  pub blocks : capacities virtuals ≡ first_blocks (map (slot_index_of p) v.virtual_outputs) slot_capacity
+  pub hold : SlotsHold size halos (virtual_description v.virtual_outputs) (map (slot_index_of p) v.virtual_outputs) slot_capacity
   pub halo_count : length halos ≡ length (planes_of objects v.steps v.virtual_outputs virtuals)
   pub enough : Suffice high halos (graph_tasks v.steps v.virtual_outputs p radius)
   pub once : AddOnce high size halos (graph_tasks v.steps v.virtual_outputs p radius)

@@ -21,19 +21,19 @@ use Rattle.graph_run.specs.Bound.{AreTalliesFor}
 use Rattle.graph_run.specs.Operands.{IsReady}
 use Rattle.graph_run.specs.Program.{AddOnce, client_cells, first_blocks, radius_of}
 use Rattle.graph_run.specs.Results.{tally_cells}
-use Rattle.graph_run.specs.Slots.{place_of, planned_capacities}
+use Rattle.graph_run.specs.Slots.{slot_index_of, planned_capacities}
 use Rattle.graph_run.specs.Tasks.{graph_cells, graph_tasks}
 
 -- a schedule of a verified graph, with the slots of this plan
 pub record IsSchedule (objects : List NamedObject) (v : Verified) (p : PlanView) (s : Schedule) : Type 0 where
   pub cells : s.cells.items ≡ graph_cells v.steps v.virtual_outputs
-  pub slots : s.slots.items ≡ map (place_of p) v.virtual_outputs
+  pub slots : s.slots.items ≡ map (slot_index_of p) v.virtual_outputs
   pub tasks : s.tasks.items ≡ graph_tasks v.steps v.virtual_outputs p (radius_of objects s.high)
   pub halo_count : length s.halos.items ≡ length (graph_cells v.steps v.virtual_outputs)
   pub enough : Suffice s.high s.halos.items s.tasks.items
   pub some : 0 < s.high
   pub forward : 0 < s.size
-  pub rooms : s.rooms.items ≡ planned_capacities (band_plan s.size s.halos.items v.virtual_outputs s.slots.items p)
+  pub capacities : s.capacities.items ≡ planned_capacities (band_plan s.size s.halos.items v.virtual_outputs s.slots.items p)
   pub once : AddOnce s.high s.size s.halos.items s.tasks.items
   pub virtuals : All (λ o. o.desc.height ≤ s.high) v.virtual_outputs
   pub clients : All (λ c. (image_held objects c).height ≤ s.high) (client_cells v.steps v.virtual_outputs)

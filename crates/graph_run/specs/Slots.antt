@@ -8,14 +8,14 @@ use Rattle.buffer_plan.specs.Plan.{PlanView}
 
 -- the index of a format's slot among all slots: the slots of U8 come first, then the slots of S16,
 -- then the slots of U32
-abbrev pub slot_place : PlanView → Format → ℕ → ℕ
-slot_place p U8 k = k
-slot_place p S16 k = p.slot_count U8 + k
-slot_place p U32 k = p.slot_count U8 + p.slot_count S16 + k
+abbrev pub slot_index : PlanView → Format → ℕ → ℕ
+slot_index p U8 k = k
+slot_index p S16 k = p.slot_count U8 + k
+slot_index p U32 k = p.slot_count U8 + p.slot_count S16 + k
 
 -- the index of a virtual image's slot among all slots
-abbrev pub place_of : PlanView → VirtualOutput → ℕ
-place_of p o = slot_place p o.desc.format (unwrap_or (p.slot_of o.cell) 0)
+abbrev pub slot_index_of : PlanView → VirtualOutput → ℕ
+slot_index_of p o = slot_index p o.desc.format (unwrap_or (p.slot_of o.cell) 0)
 
 -- the format and size of each slot of a format
 abbrev pub capacities_for : PlanView → Format → List (Format × ℕ)

@@ -26,7 +26,7 @@ use Rattle.graph_verify.specs.Order.{InTurn}
 use Rattle.graph_verify.specs.Verdict.{two_writers}
 use Rattle.buffer_plan.specs.Plan.{IsPlan, PlanView}
 use Rattle.graph_run.specs.Cells.{images_named, index_of, node_images, with_cells}
-use Rattle.graph_run.specs.Slots.{place_of}
+use Rattle.graph_run.specs.Slots.{slot_index_of}
 
 -- ---- blocks of virtual images; `slots` has the slots of these images in the order of writing
 
@@ -54,14 +54,14 @@ is_at k (Some j) = j == k
 -- the format and size of a virtual image's block after `count` images are written: the slot's block
 -- if the image has it, else an empty block
 abbrev pub block_at : List ℕ → (ℕ → Format × ℕ) → ℕ → ℕ → Format × ℕ
-block_at slots rooms count at =
-    let room = rooms (slice_index_or slots at 0) in
-    (room.0, (if is_at at (holder slots (slice_index_or slots at 0) count) then room.1 else 0))
+block_at slots slot_capacity count at =
+    let block = slot_capacity (slice_index_or slots at 0) in
+    (block.0, (if is_at at (holder slots (slice_index_or slots at 0) count) then block.1 else 0))
 
 -- the blocks of all planes after `count` virtual images are written: first the blocks of virtual
 -- images, then the blocks of clients' images
 abbrev pub blocks_at : List ℕ → (ℕ → Format × ℕ) → List (Format × ℕ) → ℕ → List (Format × ℕ)
-blocks_at slots rooms clients count = map (block_at slots rooms count) (range_with_len 0 (length slots)) ++ clients
+blocks_at slots slot_capacity clients count = map (block_at slots slot_capacity count) (range_with_len 0 (length slots)) ++ clients
 
 -- ---- tasks
 
@@ -125,7 +125,7 @@ TakeTurns slots k (Write s ∷ later) =
 -- each slot has the format of its images, and is large enough for a band of `size` rows of each
 -- image with the image's halo
 abbrev pub SlotsHold : ℕ → List ℕ → (ℕ → Description) → List ℕ → (ℕ → Format × ℕ) → Type 0
-SlotsHold size halos descs slots rooms = (k : ℕ) → k < length slots → HoldsRows size (halo halos k) (descs k) (rooms (slice_index_or slots k 0))
+SlotsHold size halos descs slots slot_capacity = (k : ℕ) → k < length slots → HoldsRows size (halo halos k) (descs k) (slot_capacity (slice_index_or slots k 0))
 
 -- a node that writes no image has no virtual output
 abbrev pub WriteImages : (Reference → Bool) → List Node → Type 0
@@ -175,4 +175,4 @@ graph_cells steps outs = with_cells (map (λ o. o.cell) outs) (images_named step
 
 -- the tasks of the graph
 abbrev pub graph_tasks : List Node → List VirtualOutput → PlanView → (Node → ℕ) → List Task
-graph_tasks steps outs p radius = tasks_of (graph_cells steps outs) (map (place_of p) outs) radius steps
+graph_tasks steps outs p radius = tasks_of (graph_cells steps outs) (map (slot_index_of p) outs) radius steps

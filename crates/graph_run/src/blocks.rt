@@ -7,8 +7,8 @@ ghost use Rattle.object_table.specs.Blocks.{LendsAtLeast, LendsMore, LendsLess};
 ghost use Rattle.buffer_plan.specs.Places.{plan_view};
 ghost use Rattle.buffer_plan.specs.Plan.{IsPlan};
 ghost use Rattle.graph_run.specs.Blocks.{band_plan, band_samples, blocks_of_format, block_size};
-ghost use Rattle.graph_run.specs.Blocks.{room_count, samples_from};
-ghost use Rattle.graph_run.specs.Slots.{place_of, planned_capacities, capacities_for, slot_place};
+ghost use Rattle.graph_run.specs.Blocks.{capacity_count, samples_from};
+ghost use Rattle.graph_run.specs.Slots.{slot_index_of, planned_capacities, capacities_for, slot_index};
 
 use buffer_plan::Plan;
 use graph_verify::{Verified, VirtualOutput};
@@ -35,7 +35,7 @@ pub fn slots_of(alloc: Global, plan: &Plan, verified: &Verified) -> Result<Vec<u
     requires { IsPlan verified.now.steps verified.now.virtual_outputs
         (plan_view plan.now) }
     ensures { IfOk result (λ slots. slots.items
-        ≡ map (place_of (plan_view plan.now)) verified.now.virtual_outputs) }
+        ≡ map (slot_index_of (plan_view plan.now)) verified.now.virtual_outputs) }
 {
     let images = verified.virtual_outputs();
     let mut slots = Vec::with_capacity(alloc, images.len())?;
@@ -47,70 +47,70 @@ pub fn slots_of(alloc: Global, plan: &Plan, verified: &Verified) -> Result<Vec<u
 
 /// Returns the slot of a virtual image, as an index among all slots.
 fn slot_of(plan: &Plan, image: &VirtualOutput) -> usize
-    requires { place_of (plan_view plan.now) image.now < 2 ^ 64 }
-    ensures { result ≡ place_of (plan_view plan.now) image.now }
+    requires { slot_index_of (plan_view plan.now) image.now < 2 ^ 64 }
+    ensures { result ≡ slot_index_of (plan_view plan.now) image.now }
 {
     let slot = plan.slot_of(image.cell).unwrap_or(0);
-    slot_place(plan, image.desc.format(), slot)
+    slot_index(plan, image.desc.format(), slot)
 }
 
-// ---- rooms
+// ---- capacities
 
 /// Returns, for each slot, the format and the number of samples of its block: enough for a band,
 /// with halo, of any image in the slot.
-pub fn rooms_of(
+pub fn capacities_of(
     alloc: Global,
     plan: &Plan,
     demand: &Demand<'_>,
 ) -> Result<Vec<(Format, usize)>, AllocError>
     requires slots { length demand.now.slots.now ≡ length demand.now.images.now }
     requires halos { length demand.now.images.now ≤ length demand.now.halos.now }
-    ensures { IfOk result (λ rooms. rooms.items ≡ planned_capacities (band_plan demand.now.size
+    ensures { IfOk result (λ capacities. capacities.items ≡ planned_capacities (band_plan demand.now.size
         demand.now.halos.now demand.now.images.now demand.now.slots.now (plan_view plan.now))) }
 {
-    let mut rooms = Vec::new(alloc);
-    add_rooms(&mut rooms, plan, demand, Format::U8)?;
-    add_rooms(&mut rooms, plan, demand, Format::S16)?;
-    add_rooms(&mut rooms, plan, demand, Format::U32)?;
-    Ok(rooms)
+    let mut capacities = Vec::new(alloc);
+    add_capacities(&mut capacities, plan, demand, Format::U8)?;
+    add_capacities(&mut capacities, plan, demand, Format::S16)?;
+    add_capacities(&mut capacities, plan, demand, Format::U32)?;
+    Ok(capacities)
 }
 
 /// Adds the format and the number of samples of each slot of one format.
-fn add_rooms(
-    rooms: &mut Vec<(Format, usize)>,
+fn add_capacities(
+    capacities: &mut Vec<(Format, usize)>,
     plan: &Plan,
     demand: &Demand<'_>,
     format: Format,
 ) -> Result<(), AllocError>
-    requires behind { length rooms.old.items ≡ slot_place (plan_view plan.now) format 0 }
+    requires behind { length capacities.old.items ≡ slot_index (plan_view plan.now) format 0 }
     requires slots { length demand.now.slots.now ≡ length demand.now.images.now }
     requires halos { length demand.now.images.now ≤ length demand.now.halos.now }
-    ensures { OnOk result (rooms.new.items ≡ rooms.old.items ++ capacities_for (band_plan
+    ensures { OnOk result (capacities.new.items ≡ capacities.old.items ++ capacities_for (band_plan
         demand.now.size demand.now.halos.now demand.now.images.now demand.now.slots.now
         (plan_view plan.now)) format) }
 {
     let count = plan.slot_count(format);
-    rooms.reserve(count)?;
+    capacities.reserve(count)?;
     for _k in 0..count {
-        let samples = samples_for(demand, rooms.len());
-        rooms.push_reserved((format, samples));
+        let samples = samples_for(demand, capacities.len());
+        capacities.push_reserved((format, samples));
     }
     Ok(())
 }
 
 /// Returns the number of samples that a slot needs: the most that any of its images needs.
-fn samples_for(demand: &Demand<'_>, place: usize) -> usize
+fn samples_for(demand: &Demand<'_>, wanted: usize) -> usize
     requires slots { length demand.now.slots.now ≡ length demand.now.images.now }
     requires halos { length demand.now.images.now ≤ length demand.now.halos.now }
     ensures { result ≡ samples_from demand.now.size demand.now.halos.now 0 demand.now.images.now
-        demand.now.slots.now place }
+        demand.now.slots.now wanted }
 {
     let mut most = 0;
     for k in 0..demand.images.len() {
         let (image, slot, halo) = (demand.images[k], demand.slots[k], demand.halos[k]);
         most = most_of(
             most,
-            slot == place,
+            slot == wanted,
             band_samples(demand.size, halo, image.desc),
         );
     }
@@ -133,9 +133,9 @@ fn band_samples(size: u16, halo: u16, desc: Desc) -> usize
 }
 
 /// Returns the index of a format's slot among all slots.
-fn slot_place(plan: &Plan, format: Format, slot: usize) -> usize
-    requires { slot_place (plan_view plan.now) format slot < 2 ^ 64 }
-    ensures { result ≡ slot_place (plan_view plan.now) format slot }
+fn slot_index(plan: &Plan, format: Format, slot: usize) -> usize
+    requires { slot_index (plan_view plan.now) format slot < 2 ^ 64 }
+    ensures { result ≡ slot_index (plan_view plan.now) format slot }
 {
     match format {
         Format::U8 => slot,
@@ -151,18 +151,18 @@ fn slot_place(plan: &Plan, format: Format, slot: usize) -> usize
 pub fn take_blocks(
     blocks: &mut Vec<Block>,
     pool: &mut Pool,
-    rooms: &[(Format, usize)],
+    capacities: &[(Format, usize)],
 ) -> Result<(), AllocError>
-    ensures rooms { OnOk result (map block_size blocks.new.items ≡ rooms.now) }
+    ensures capacities { OnOk result (map block_size blocks.new.items ≡ capacities.now) }
     ensures lends { OnOk result
         (LendsMore pool.old pool.new (blocks_of_format blocks.new.items)) }
     ensures err { OnErr result (KeepsLent pool.old pool.new) }
     ensures adds { (format : SampleFormat) → blocks_of pool.new format
-        ≤ blocks_of pool.old format + room_count rooms.now format }
+        ≤ blocks_of pool.old format + capacity_count capacities.now format }
 {
     blocks.clear();
-    blocks.reserve(rooms.len())?;
-    match add_blocks(blocks, pool, rooms) {
+    blocks.reserve(capacities.len())?;
+    match add_blocks(blocks, pool, capacities) {
         Ok(()) => Ok(()),
         Err(fault) => {
             give_back(blocks, pool);
@@ -175,18 +175,18 @@ pub fn take_blocks(
 fn add_blocks(
     blocks: &mut Vec<Block>,
     pool: &mut Pool,
-    rooms: &[(Format, usize)],
+    capacities: &[(Format, usize)],
 ) -> Result<(), AllocError>
     requires none { blocks.old.items ≡ [] }
-    requires room { length rooms.now ≤ vec_capacity blocks.old }
-    ensures rooms { OnOk result (map block_size blocks.new.items ≡ rooms.now) }
+    requires room { length capacities.now ≤ vec_capacity blocks.old }
+    ensures capacities { OnOk result (map block_size blocks.new.items ≡ capacities.now) }
     ensures lends { LendsMore pool.old pool.new (blocks_of_format blocks.new.items) }
     ensures adds { (format : SampleFormat) → blocks_of pool.new format
-        ≤ blocks_of pool.old format + room_count rooms.now format }
+        ≤ blocks_of pool.old format + capacity_count capacities.now format }
 {
-    for k in 0..rooms.len() {
-        let room = rooms[k];
-        let block = pool.take(room.0, room.1)?;
+    for k in 0..capacities.len() {
+        let capacity = capacities[k];
+        let block = pool.take(capacity.0, capacity.1)?;
         blocks.push_reserved(block);
     }
     Ok(())

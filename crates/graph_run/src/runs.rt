@@ -22,7 +22,7 @@ ghost use Rattle.graph_steps.specs.Program.{IsProgram};
 ghost use Rattle.graph_steps.specs.Runs.{CanReduceBand};
 ghost use Rattle.graph_steps.specs.Steps.{capacities, capacity};
 ghost use Rattle.graph_run.specs.Bind.{AreAllApart, AreFor, HoldImages, plane_objects};
-ghost use Rattle.graph_run.specs.Blocks.{block_size, block_capacity, room_count};
+ghost use Rattle.graph_run.specs.Blocks.{block_size, block_capacity, capacity_count};
 ghost use Rattle.graph_run.specs.Bound.{LendTables};
 ghost use Rattle.graph_run.specs.Program.{tables_of, tallies_of};
 ghost use Rattle.graph_run.specs.Results.{tally_objects};
@@ -114,18 +114,18 @@ pub fn run_scheduled(
     ensures lent { KeepsLent pool.old pool.new }
     ensures err { OnErr result (table.new ≡ table.old) }
     ensures adds { (format : SampleFormat) → blocks_of pool.new format
-        ≤ blocks_of pool.old format + room_count schedule.now.rooms.items format }
+        ≤ blocks_of pool.old format + capacity_count schedule.now.capacities.items format }
 
     // The blocks of this run are free for the next run.
     ensures free { OnOk result ((format : SampleFormat) →
-        room_count schedule.now.rooms.items format ≤ free_count (free_of pool.new format)) }
+        capacity_count schedule.now.capacities.items format ≤ free_count (free_of pool.new format)) }
 {
     prove_descriptions(verified);
     let (planes, blocks) = (&mut lists.planes, &mut lists.blocks);
     begin_tallies(&mut lists.tallies, table, verified.steps())?;
     planes.clear();
     planes.reserve(schedule.cells.len())?;
-    take_blocks(blocks, pool, &schedule.rooms)?;
+    take_blocks(blocks, pool, &schedule.capacities)?;
     let slots = blocks.as_mut_slice();
     fill_planes(alloc, verified, schedule, table, slots, planes);
     let planes = planes.as_mut_slice();
@@ -169,7 +169,7 @@ fn fill_planes(
     planes: &mut Vec<Plane>,
 )
     requires runs { CanRunBy table.old.objects verified.now schedule.now }
-    requires sizes { map block_size blocks.old ≡ schedule.now.rooms.items }
+    requires sizes { map block_size blocks.old ≡ schedule.now.capacities.items }
     requires none { planes.old.items ≡ [] }
     requires room { length schedule.now.cells.items ≤ vec_capacity planes.old }
     ensures planes { ArePlanes table.old.objects verified.now schedule.now blocks.old

@@ -8,7 +8,7 @@ ghost use Rattle.graph_run.specs.Program.{radius_of};
 ghost use Rattle.graph_run.specs.Schedule.{IsSchedule};
 ghost use Rattle.graph_run.specs.Tasks.{tasks_of};
 
-use crate::blocks::{Demand, rooms_of, slots_of};
+use crate::blocks::{Demand, capacities_of, slots_of};
 use crate::cells::cells_of;
 use crate::sizes::{band_size, halos_of, high_of};
 use crate::tallies::tally_cells;
@@ -36,7 +36,7 @@ pub struct Schedule {
     /// The number of rows of a band.
     pub(crate) size: u16,
     /// For each slot, the format and the number of samples of its block.
-    pub(crate) rooms: Vec<(Format, usize)>,
+    pub(crate) capacities: Vec<(Format, usize)>,
     /// References to the distributions and extremes that the tallies are written to.
     pub(crate) tally_cells: Vec<ObjRef>,
 }
@@ -67,7 +67,7 @@ pub fn schedule_of(
         images,
         slots: &slots,
     };
-    let rooms = rooms_of(alloc, plan, &demand)?;
+    let capacities = capacities_of(alloc, plan, &demand)?;
     let tally_cells = tally_cells(alloc, verified.steps())?;
     Ok(Schedule {
         cells,
@@ -76,7 +76,7 @@ pub fn schedule_of(
         halos,
         high,
         size,
-        rooms,
+        capacities,
         tally_cells,
     })
 }

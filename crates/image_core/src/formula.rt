@@ -40,7 +40,7 @@ pub trait RowFormula<T: Number, S> {
     ghost most: { Self → ℕ };
 
     /// The number of scratch items that a piece needs.
-    ghost room: { Self → ℕ };
+    ghost scratch_len: { Self → ℕ };
 
     /// Returns the rectangle in which the formula is defined.
     fn area(&self) -> Rect
@@ -58,7 +58,7 @@ pub trait RowFormula<T: Number, S> {
             (x + length out.old ≤ (area self.now).x1) }
         requires some { 1 ≤ length out.old }
         requires few { length out.old ≤ most self.now }
-        requires scratch { room self.now ≤ length scratch.old }
+        requires scratch { scratch_len self.now ≤ length scratch.old }
         ensures { map T.value out.new ≡ run x (length out.old) (λ k. at self.now k y) };
 }
 
@@ -75,7 +75,7 @@ impl<T: Number, F: Formula<T>> RowFormula<T, u8> for Unaided<'_, F> {
 
     ghost most = { λ _. 65535 };
 
-    ghost room = { λ _. 0 };
+    ghost scratch_len = { λ _. 0 };
 
     fn area(&self) -> Rect {
         self.formula.area()

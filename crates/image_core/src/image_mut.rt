@@ -151,7 +151,7 @@ impl<'a> ImageMut<'a> {
         requires format { (target_image self.old).format ≡ T.format }
         requires room { IsWithin (F.area formula.now) (target_image self.old).width
             (target_image self.old).height }
-        requires scratch { F.room formula.now ≤ length scratch.old }
+        requires scratch { F.scratch_len formula.now ≤ length scratch.old }
         ensures { Writes (image_from (target_image self.old).width (target_image self.old).height
             T.format (F.area formula.now) (F.at formula.now)) self.old self.new }
     {

@@ -57,7 +57,7 @@ pub trait RowChange<T: Number, S> {
     ghost area: { Self → Rectangle };
 
     /// The number of scratch items that a row needs.
-    ghost room: { Self → ℕ };
+    ghost scratch_len: { Self → ℕ };
 
     /// Returns the rectangle whose samples can be changed.
     fn area(&self) -> Rect
@@ -68,7 +68,7 @@ pub trait RowChange<T: Number, S> {
         requires in_rows { ((area self.now).y0 ≤ y) × (y < (area self.now).y1) }
         requires in_columns { ((area self.now).x0 ≤ x) ×
             (x + length row.old ≤ (area self.now).x1) }
-        requires scratch { room self.now ≤ length scratch.old }
+        requires scratch { scratch_len self.now ≤ length scratch.old }
         ensures { (before : ℕ → ℤ) → map T.value row.old ≡ run x (length row.old) before →
             map T.value row.new ≡ run x (length row.old) (λ k. next self.now k y (before k)) };
 }
@@ -84,7 +84,7 @@ impl<T: Number, S, F: RowFormula<T, S>> RowChange<T, S> for Written<'_, F> {
 
     ghost area = { λ w. F.area w.formula.now };
 
-    ghost room = { λ w. F.room w.formula.now };
+    ghost scratch_len = { λ w. F.scratch_len w.formula.now };
 
     fn area(&self) -> Rect {
         self.formula.area()
@@ -116,7 +116,7 @@ impl<T: Number, U: RowUpdate<T>> RowChange<T, u8> for Updated<'_, U> {
 
     ghost area = { λ u. U.area u.update.now };
 
-    ghost room = { λ _. 0 };
+    ghost scratch_len = { λ _. 0 };
 
     fn area(&self) -> Rect {
         self.update.area()

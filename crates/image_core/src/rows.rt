@@ -24,7 +24,7 @@ fn change_row<T: Number, S, C: RowChange<T, S>>(
     scratch: &mut [S],
     row: &mut [T],
 )
-    requires scratch { C.room change.now ≤ length scratch.old }
+    requires scratch { C.scratch_len change.now ≤ length scratch.old }
     requires room { (C.area change.now).x1 ≤ length row.old }
     ensures { (before : ℕ → ℤ) → map T.value row.old ≡ run 0 (length row.old) before →
         map T.value row.new ≡ run 0 (length row.old)
@@ -52,7 +52,7 @@ pub fn change_rows<T: Number, S, C: RowChange<T, S>>(
     scratch: &mut [S],
     samples: &mut [T],
 )
-    requires scratch { C.room change.now ≤ length scratch.old }
+    requires scratch { C.scratch_len change.now ≤ length scratch.old }
     requires rows { rows.start + rows.count < 2 ^ 16 }
     requires size { length samples.old ≡ rows.count * width }
     requires room { (C.area change.now).x1 ≤ width }

@@ -60,7 +60,7 @@ pub trait Sample: Number {
         requires target { IsTarget output.old }
         requires format { (target_image output.old).format ≡ format }
         requires room { (C.area change.now).x1 ≤ (target_image output.old).width }
-        requires scratch { C.room change.now ≤ length scratch.old }
+        requires scratch { C.scratch_len change.now ≤ length scratch.old }
         ensures value { target_image output.new
             ≡ image_over output.old.desc output.old.valid
             (band (target_image output.old).width output.old.rows.start output.old.rows.count

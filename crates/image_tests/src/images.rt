@@ -86,12 +86,12 @@ fn valid_where_both_are(rt: HostRuntime) -> Result<(), Fail> {
     let middle = Rect::new(1, 0, 2, 2).ok_or("a rectangle")?;
     let below = Rect::new(1, 1, 3, 2).ok_or("a rectangle")?;
     let left = Rect::new(0, 0, 1, 1).ok_or("a rectangle")?;
-    let place = Rect::new(1, 1, 2, 2).ok_or("a rectangle")?;
+    let rect = Rect::new(1, 1, 2, 2).ok_or("a rectangle")?;
     for (first, second, samples, valid) in [
         (whole, whole, [17, 18, 19, 20, 21, 22], whole),
         (whole, middle, [0, 18, 0, 0, 21, 0], middle),
         (below, whole, [0, 0, 0, 0, 21, 22], below),
-        (middle, below, [0, 0, 0, 0, 21, 0], place),
+        (middle, below, [0, 0, 0, 0, 21, 0], rect),
         (left, middle, [0; 6], Rect::empty()),
         (Rect::empty(), whole, [0; 6], Rect::empty()),
     ] {

@@ -8,11 +8,11 @@ use vx_base::{Bins, Desc, Extremes, Format, Rect};
 
 const LENGTHS: [usize; 9] = [1, 15, 16, 17, 31, 32, 33, 64, 65];
 
-/// Returns 65 items: `one` at the index `place`, and `others` everywhere else.
-fn all_but_one<T: Copy>(others: T, one: T, place: usize) -> [T; 65] {
+/// Returns 65 items: `one` at the index `index`, and `others` everywhere else.
+fn all_but_one<T: Copy>(others: T, one: T, index: usize) -> [T; 65] {
     let mut items = [others; 65];
     for (i, item) in items.iter_mut().enumerate() {
-        if i == place {
+        if i == index {
             *item = one;
         }
     }
@@ -48,13 +48,13 @@ fn extremes_of_shorts(row: &[i16]) -> Option<(i16, u32, i16, u32)> {
 }
 
 #[test]
-fn extremes_at_each_place(rt: HostRuntime) {
+fn extremes_at_each_index(rt: HostRuntime) {
     for length in LENGTHS {
         let count = length.min(65);
-        for place in 0..count {
+        for index in 0..count {
             let alone = count == 1;
             let others = count as u32 - 1;
-            let (low, high) = (all_but_one(100, 0, place), all_but_one(100, 255, place));
+            let (low, high) = (all_but_one(100, 0, index), all_but_one(100, 255, index));
             let least = if alone {
                 (0, 1, 0, 1)
             } else {
@@ -68,8 +68,8 @@ fn extremes_at_each_place(rt: HostRuntime) {
             assert!(rt; extremes_of_bytes(&low[..count]) == Some(least));
             assert!(rt; extremes_of_bytes(&high[..count]) == Some(greatest));
             let (low, high) = (
-                all_but_one(-100, -32_768, place),
-                all_but_one(-100, 32_767, place),
+                all_but_one(-100, -32_768, index),
+                all_but_one(-100, 32_767, index),
             );
             let least = if alone {
                 (-32_768, 1, -32_768, 1)
@@ -109,19 +109,19 @@ fn extremes_on_both_sides_of_zero(rt: HostRuntime) {
     assert!(rt; extremes_of_shorts(&[1, -1, 0, -1, 1, 1]) == Some((-1, 2, 1, 3)));
 }
 
-/// Returns the extremes of a row of 65 samples: `sample` in column `place`, and 9 everywhere else.
-fn found_at(place: usize, sample: u8) -> Option<Extremes> {
+/// Returns the extremes of a row of 65 samples: `sample` in column `index`, and 9 everywhere else.
+fn found_at(index: usize, sample: u8) -> Option<Extremes> {
     let desc = Desc::new(65, 1, Format::U8)?;
-    let mut samples = all_but_one(9, sample, place);
+    let mut samples = all_but_one(9, sample, index);
     let image = lend(desc, Rect::new(0, 0, 65, 1)?, &mut samples);
     Some(min_max(&image))
 }
 
 #[test]
-fn first_places(rt: HostRuntime) {
-    for place in 0..65 {
-        let other = if place == 0 { (1, 0) } else { (0, 0) };
-        let at = (place as u16, 0);
+fn first_pixels(rt: HostRuntime) {
+    for index in 0..65 {
+        let other = if index == 0 { (1, 0) } else { (0, 0) };
+        let at = (index as u16, 0);
         let low = Extremes {
             min: 8,
             max: 9,
@@ -138,8 +138,8 @@ fn first_places(rt: HostRuntime) {
             min_at: other,
             max_at: at,
         };
-        assert!(rt; found_at(place, 8) == Some(low));
-        assert!(rt; found_at(place, 10) == Some(high));
+        assert!(rt; found_at(index, 8) == Some(low));
+        assert!(rt; found_at(index, 10) == Some(high));
     }
 }
 

@@ -209,8 +209,8 @@ fn seen(case: &Case, x: i32, y: i32) -> u8 {
     match case.border {
         Border::Constant(value) if column != x || row != y => value,
         _ => {
-            let place = row.wrapping_mul(i32::from(case.width)).wrapping_add(column);
-            noise(place.unsigned_abs() as usize)
+            let index = row.wrapping_mul(i32::from(case.width)).wrapping_add(column);
+            noise(index.unsigned_abs() as usize)
         }
     }
 }
@@ -298,8 +298,8 @@ fn are_of_row<T: Copy + Into<i32>>(
         } else {
             0
         };
-        let place = usize::from(y) * usize::from(case.width) + usize::from(x);
-        let number: Option<i32> = written.get(place).map(|sample| (*sample).into());
+        let index = usize::from(y) * usize::from(case.width) + usize::from(x);
+        let number: Option<i32> = written.get(index).map(|sample| (*sample).into());
         if number != Some(expected) {
             return false;
         }

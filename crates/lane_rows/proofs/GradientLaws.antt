@@ -47,12 +47,12 @@ by_lanes : (from to : Three) (ks : List ℕ) → AreBytes (items from ks) → Ar
 by_lanes from to [] p q = refl
 by_lanes from to (k ∷ ks) p q = cc (lane _ _ _ _ _ _ p.0.0 p.1.0 p.2.0 q.0.0 q.1.0 q.2.0, by_lanes from to ks (p.0.1, p.1.1, p.2.1) (q.0.1, q.1.1, q.2.1))
 
--- what is stored of 32 places
-pub changes_stored : (from to : Three) (place : ℕ) (out : List ℤ) (p q : List ℕ × List ℕ × List ℕ) → length out ≡ 32 → p ≡ lanes_of from place → q ≡ lanes_of to place → AreBytes p → AreBytes q
-    → put_chunk 0 out (lanes p q) ≡ run place 32 (changed from to)
-changes_stored from to place out p q room pp qq fp fq =
-    let is : lanes p q ≡ run place 32 (changed from to) = rw (pp, qq) (by_lanes from to (range_with_len place 32) (subst AreBytes pp fp) (subst AreBytes qq fq)) in
-    put_chunk_whole out (lanes p q) (room ∙ sym (ap length is ∙ length-run (changed from to) place 32)) ∙ is
+-- what is stored of 32 indices
+pub changes_stored : (from to : Three) (index : ℕ) (out : List ℤ) (p q : List ℕ × List ℕ × List ℕ) → length out ≡ 32 → p ≡ lanes_of from index → q ≡ lanes_of to index → AreBytes p → AreBytes q
+    → put_chunk 0 out (lanes p q) ≡ run index 32 (changed from to)
+changes_stored from to index out p q room pp qq fp fq =
+    let is : lanes p q ≡ run index 32 (changed from to) = rw (pp, qq) (by_lanes from to (range_with_len index 32) (subst AreBytes pp fp) (subst AreBytes qq fq)) in
+    put_chunk_whole out (lanes p q) (room ∙ sym (ap length is ∙ length-run (changed from to) index 32)) ∙ is
 
 pub x_is_x : (above here below : ℕ × ℕ × ℕ) → change (above.0, here.0, below.0) (above.2, here.2, below.2) ≡ gradient_x (nine_of above here below)
 x_is_x above here below = omega (arith, ints)

@@ -76,7 +76,7 @@ chosen t m e f = record {
 pub length-all : {A B C : Type 0} (e : Lanewise A B C) (n : ℕ) (xs : List A) (ys : List B) → length xs ≡ n → length ys ≡ n → length (e.all n xs ys) ≡ n
 length-all e n xs ys p q = ap length (e.same n xs ys p q) ∙ length-zip2 e.at xs ys (p ∙ sym q) ∙ p
 
--- ---- from one place to all
+-- ---- from one index to all
 
 pub alike : {A B C D E F : Type 0} (P : A → Type 0) (Q : B → Type 0) (u : C → F) (v : A → D) (w : B → E) (g : A → B → C) (f : D → E → F) (xs : List A) (ys : List B)
     → Each1 P xs → Each1 Q ys → ((a : A) (b : B) → P a → Q b → u (g a b) ≡ f (v a) (w b)) → map u (zip2 g xs ys) ≡ zip2 f (map v xs) (map w ys)

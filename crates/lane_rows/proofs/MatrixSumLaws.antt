@@ -23,9 +23,9 @@ each_of_row P items row line l all is = subst (Each1 P) (sym is) (Each1-chunk P 
 pub length_row : (items row : List ℤ) (line l : ℕ) → row ≡ line_of items line l → l * line + line ≤ length items → length row ≡ line
 length_row items row line l is room = ap length is ∙ length-chunk (l * line) line items room
 
--- ---- sums at sixteen places, as bits
+-- ---- sums at sixteen indices, as bits
 
--- the sums over the first l rows, at every second place from `at` on
+-- the sums over the first l rows, at every second index from `at` on
 abbrev pub first_rows : MatrixRows → ℕ → ℕ → List ℕ
 first_rows m l at = map (λ i. bits_of (sum_of_rows m.rows.now m.line m.tables.now m.pairs l (at + 2 * i))) (range_with_len 0 16)
 
@@ -63,15 +63,15 @@ matrix_sum_fits m p =
     let all : IsNear (m.count * 83558400) (matrix_sum m p) = sum_up_to 83558400 m.count _ (λ l _. omega (arith, one l, few)) in
     fits_signed_from_abs w32 (matrix_sum m p) (omega (arith, all, m.few.0))
 
--- ---- even places and odd ones, in turn
+-- ---- even indices and odd ones, in turn
 
 -- the sums of a block as they are stored
-pub block_stored : (f : ℕ → ℤ) (place : ℕ) (E O : List ℤ) → ((p : ℕ) → FitsSigned w32 (f p)) → E ≡ run 0 16 (λ i. int_wrap w32 (f (place + 2 * i))) → O ≡ run 0 16 (λ i. int_wrap w32 (f (place + 1 + 2 * i)))
+pub block_stored : (f : ℕ → ℤ) (index : ℕ) (E O : List ℤ) → ((p : ℕ) → FitsSigned w32 (f p)) → E ≡ run 0 16 (λ i. int_wrap w32 (f (index + 2 * i))) → O ≡ run 0 16 (λ i. int_wrap w32 (f (index + 1 + 2 * i)))
     → map (λ b. to_z w32 (of_z w32 (to_z w32 b))) (pick_l 0 (map (of_z w32) E ++ map (of_z w32) O) (0 ∷ 16 ∷ 1 ∷ 17 ∷ 2 ∷ 18 ∷ 3 ∷ 19 ∷ 4 ∷ 20 ∷ 5 ∷ 21 ∷ 6 ∷ 22 ∷ 7 ∷ 23 ∷ 8 ∷ 24 ∷ 9 ∷ 25 ∷ 10 ∷ 26 ∷ 11 ∷ 27 ∷ 12 ∷ 28 ∷ 13 ∷ 29 ∷ 14 ∷ 30 ∷ 15 ∷ 31 ∷ []))
-    ≡ run 0 32 (λ i. f (place + i))
-block_stored f place E O fits e o =
-    let at : (k : ℕ) → place + 1 + 2 * k ≡ place + (2 * k + 1) = λ k. omega arith in
-    let even = e ∙ run-same _ (λ i. f (place + 2 * i)) 0 16 (λ k _ _. int_wrap_fits w32 (f (place + 2 * k)) (fits (place + 2 * k))) in
-    let odd = o ∙ run-same _ (λ i. f (place + (2 * i + 1))) 0 16 (λ k _ _. ap (λ j. int_wrap w32 (f j)) (at k) ∙ int_wrap_fits w32 (f (place + (2 * k + 1))) (fits (place + (2 * k + 1)))) in
-    let stored : (k : ℕ) → to_z w32 (of_z w32 (to_z w32 (of_z w32 (f (place + k))))) ≡ f (place + k) = λ k. let same = to_z-of_z w32 (f (place + k)) (fits (place + k)) in ap (λ z. to_z w32 (of_z w32 z)) same ∙ same in
-    rw (even, odd) (same_values (λ k. to_z w32 (of_z w32 (to_z w32 (of_z w32 (f (place + k)))))) (λ k. f (place + k)) stored (range_with_len 0 32))
+    ≡ run 0 32 (λ i. f (index + i))
+block_stored f index E O fits e o =
+    let at : (k : ℕ) → index + 1 + 2 * k ≡ index + (2 * k + 1) = λ k. omega arith in
+    let even = e ∙ run-same _ (λ i. f (index + 2 * i)) 0 16 (λ k _ _. int_wrap_fits w32 (f (index + 2 * k)) (fits (index + 2 * k))) in
+    let odd = o ∙ run-same _ (λ i. f (index + (2 * i + 1))) 0 16 (λ k _ _. ap (λ j. int_wrap w32 (f j)) (at k) ∙ int_wrap_fits w32 (f (index + (2 * k + 1))) (fits (index + (2 * k + 1)))) in
+    let stored : (k : ℕ) → to_z w32 (of_z w32 (to_z w32 (of_z w32 (f (index + k))))) ≡ f (index + k) = λ k. let same = to_z-of_z w32 (f (index + k)) (fits (index + k)) in ap (λ z. to_z w32 (of_z w32 z)) same ∙ same in
+    rw (even, odd) (same_values (λ k. to_z w32 (of_z w32 (to_z w32 (of_z w32 (f (index + k)))))) (λ k. f (index + k)) stored (range_with_len 0 32))

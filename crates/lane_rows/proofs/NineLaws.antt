@@ -12,8 +12,8 @@ pub same_three : {A B : Type 0} (g : A → A → A → B) {a b c p q r : A} → 
 same_three g x y z = cc (x, y, z)
 
 -- 32 bytes that are the values of f represent the values of g
-pub numbers_at : (f : ℕ → ℕ) (g : ℕ → ℤ) (place : ℕ) (out : List ℕ) → out ≡ map f (range_with_len place 32) → ((k : ℕ) → pos (f k) ≡ g k) → map pos out ≡ run place 32 g
-numbers_at f g place out is same = ap (map pos) is ∙ map-map pos f (range_with_len place 32) ∙ run-same (λ k. pos (f k)) g place 32 (λ k _ _. same k)
+pub numbers_at : (f : ℕ → ℕ) (g : ℕ → ℤ) (index : ℕ) (out : List ℕ) → out ≡ map f (range_with_len index 32) → ((k : ℕ) → pos (f k) ≡ g k) → map pos out ≡ run index 32 g
+numbers_at f g index out is same = ap (map pos) is ∙ map-map pos f (range_with_len index 32) ∙ run-same (λ k. pos (f k)) g index 32 (λ k _ _. same k)
 
 -- the choice from three bytes, as a number
 pub chosen_number : (lo : ℕ → ℕ → ℕ) (op : ℤ → ℤ → ℤ) → ((a b : ℕ) → pos (lo a b) ≡ op (pos a) (pos b)) → (rows : Three) (i : ℕ)

@@ -1,4 +1,4 @@
--- Sums at every second place of a row, modulo 2 ^ 32.
+-- Sums at every second index of a row, modulo 2 ^ 32.
 use Rattle.std.proofs.Common.{map, length, ◌≡◌, ℕ, ℤ, pos, zero, suc, ◌+◌, ◌-◌, ◌*◌, ◌%◌, ◌<◌, ◌≤◌, List, [], ◌∷◌, ◌++◌, get_or, take, drop, refl, ap, ◌∙◌, sym, subst, arith, add-one, zero-add, take-take, ◌+ℤ◌, w16, w32, to_z, of_z, ◌*ℤ◌, FitsSigned}
 use Rattle.lane_rows.proofs.Common.{zip2, to_z-of_z, chunk, pick_l, range_with_len, Each1, Each1-chunk, ints, run, run-same, run_shifted, alternation, pair_at, row_sum, first_of_pair, second_of_pair}
 use Rattle.std.specs.Int.{int_wrap}
@@ -23,7 +23,7 @@ pub read_run : (f : ℕ → ℤ) (n : ℕ) → map (to_z w32) (map (λ k. bits_o
 read_run f n =
     map-map (to_z w32) (λ k. bits_of (f k)) (range_with_len 0 n) ∙ same_values (λ k. to_z w32 (bits_of (f k))) (λ k. int_wrap w32 (f k)) (λ k. read_bits (f k)) (range_with_len 0 n)
 
--- ---- eight places
+-- ---- eight indices
 
 pub each_at : {A : Type 0} (P : A → Type 0) (d : A) (xs : List A) (k : ℕ) → Each1 P xs → P d → P (get_or xs k d)
 each_at P d [] k each none = none
@@ -87,7 +87,7 @@ eight_sums row table p at a b room table_room fits table_fits is =
     (λ k _ below. lane_is a b (x (2 * k)) (x (2 * k + 1)) both.0 both.1.0 (small (2 * k) (omega arith)) (small (2 * k + 1) (omega arith))
     ∙ ap (λ j. int_wrap w32 (x (2 * k) *ℤ a +ℤ get_or row j (pos 0) *ℤ b)) (next k))
 
--- eight places and eight further ones
+-- eight indices and eight further ones
 pub sixteen_sums : (f : ℕ → ℤ) (p : ℕ) (F S : List ℤ) → F ≡ run 0 8 (λ i. int_wrap w32 (f (p + 2 * i))) → S ≡ run 0 8 (λ i. int_wrap w32 (f (p + 16 + 2 * i)))
     → map (to_z w32) (pick_l 0 (map (of_z w32) F ++ map (of_z w32) S) (range_with_len 0 16)) ≡ run 0 16 (λ i. int_wrap w32 (f (p + 2 * i)))
 sixteen_sums f p F S first second =
@@ -101,27 +101,27 @@ abbrev pub Added : (ℕ → ℤ) → List ℕ → List ℕ → Type 0
 Added g before after = (f : ℕ → ℤ) → before ≡ map (λ i. bits_of (f i)) (range_with_len 0 16) → after ≡ map (λ i. bits_of (f i +ℤ g i)) (range_with_len 0 16)
 
 -- nothing is added yet
-pub none_added : (row table : List ℤ) (place : ℕ) (sums : List ℕ) → Added (λ i. row_sum row table 0 (place + 2 * i)) sums sums
-none_added row table place sums f is =
+pub none_added : (row table : List ℤ) (index : ℕ) (sums : List ℕ) → Added (λ i. row_sum row table 0 (index + 2 * i)) sums sums
+none_added row table index sums f is =
     let none : (x : ℤ) → x ≡ x +ℤ pos 0 = λ x. omega (arith, ints) in
     is ∙ same_values (λ i. bits_of (f i)) (λ i. bits_of (f i +ℤ pos 0)) (λ k. ap bits_of (none (f k))) (range_with_len 0 16)
 
 -- one more pair is added
-pub pair_added : (row table : List ℤ) (place j : ℕ) (before sums : List ℕ) (more : List ℤ) → Added (λ i. row_sum row table j (place + 2 * i)) before sums
-    → more ≡ run 0 16 (λ i. int_wrap w32 (pair_at row (first_of_pair table j) (second_of_pair table j) (place + 2 * j + 2 * i)))
-    → Added (λ i. row_sum row table (j + 1) (place + 2 * i)) before (zip2 plus sums (map (of_z w32) more))
-pair_added row table place j before sums more so_far is f start =
+pub pair_added : (row table : List ℤ) (index j : ℕ) (before sums : List ℕ) (more : List ℤ) → Added (λ i. row_sum row table j (index + 2 * i)) before sums
+    → more ≡ run 0 16 (λ i. int_wrap w32 (pair_at row (first_of_pair table j) (second_of_pair table j) (index + 2 * j + 2 * i)))
+    → Added (λ i. row_sum row table (j + 1) (index + 2 * i)) before (zip2 plus sums (map (of_z w32) more))
+pair_added row table index j before sums more so_far is f start =
     let g = pair_at row (first_of_pair table j) (second_of_pair table j) in
-    let s : ℕ → ℤ = λ k. row_sum row table j (place + 2 * k) in
-    let at : (k : ℕ) → place + 2 * j + 2 * k ≡ place + 2 * k + 2 * j = λ k. omega arith in
+    let s : ℕ → ℤ = λ k. row_sum row table j (index + 2 * k) in
+    let at : (k : ℕ) → index + 2 * j + 2 * k ≡ index + 2 * k + 2 * j = λ k. omega arith in
     let regroup : (x y z : ℤ) → (x +ℤ y) +ℤ z ≡ x +ℤ (y +ℤ z) = λ x y z. omega (arith, ints) in
     rw (so_far f start, is, add-one j)
-    (same_values (λ k. plus (bits_of (f k +ℤ s k)) (bits_of (g (place + 2 * j + 2 * k)))) (λ k. bits_of (f k +ℤ row_sum row table (suc j) (place + 2 * k)))
-    (λ k. plus_bits (f k +ℤ s k) (g (place + 2 * j + 2 * k)) ∙ ap bits_of (regroup (f k) (s k) (g (place + 2 * j + 2 * k)) ∙ ap (λ q. f k +ℤ (s k +ℤ g q)) (at k))) (range_with_len 0 16))
+    (same_values (λ k. plus (bits_of (f k +ℤ s k)) (bits_of (g (index + 2 * j + 2 * k)))) (λ k. bits_of (f k +ℤ row_sum row table (suc j) (index + 2 * k)))
+    (λ k. plus_bits (f k +ℤ s k) (g (index + 2 * j + 2 * k)) ∙ ap bits_of (regroup (f k) (s k) (g (index + 2 * j + 2 * k)) ∙ ap (λ q. f k +ℤ (s k +ℤ g q)) (at k))) (range_with_len 0 16))
 
 -- all pairs are added, to sums that were given as numbers
-pub all_added : (row table : List ℤ) (place n j : ℕ) (before : List ℤ) (after : List ℕ) → j ≡ n → Added (λ i. row_sum row table j (place + 2 * i)) (map (of_z w32) before) after
-    → AreAdded (λ i. row_sum row table n (place + 2 * i)) before (map (to_z w32) after)
-all_added row table place n j before after end added f is =
-    ap (map (to_z w32)) (added f (ap (map (of_z w32)) is)) ∙ read_run (λ i. f i +ℤ row_sum row table j (place + 2 * i)) 16
-    ∙ ap (λ m. run 0 16 (λ i. int_wrap w32 (f i +ℤ row_sum row table m (place + 2 * i)))) end
+pub all_added : (row table : List ℤ) (index n j : ℕ) (before : List ℤ) (after : List ℕ) → j ≡ n → Added (λ i. row_sum row table j (index + 2 * i)) (map (of_z w32) before) after
+    → AreAdded (λ i. row_sum row table n (index + 2 * i)) before (map (to_z w32) after)
+all_added row table index n j before after end added f is =
+    ap (map (to_z w32)) (added f (ap (map (of_z w32)) is)) ∙ read_run (λ i. f i +ℤ row_sum row table j (index + 2 * i)) 16
+    ∙ ap (λ m. run 0 16 (λ i. int_wrap w32 (f i +ℤ row_sum row table m (index + 2 * i)))) end

@@ -11,8 +11,8 @@ use Rattle.vx_base.proofs.WindowLaws.{run_shifted}
 pub part_written : {T : Type 0} (value : T → ℤ) (g : ℕ → ℤ) (out ws : List T) (at m end : ℕ) → at ≤ length out → end ≡ at + length ws
     → map value (take at out) ≡ run 0 at g → map value ws ≡ run 0 (length ws) (λ i. g (at + i)) → map value (take end (put_mid at m out ws)) ≡ run 0 end g
 part_written value g out ws at m end room more before is =
-    let place : (i : ℕ) → at + (0 + i) ≡ 0 + at + i = λ i. omega arith in
-    let these = is ∙ run_shifted (λ i. g (at + i)) g 0 (0 + at) (length ws) (λ i h. ap g (place i)) in
+    let index : (i : ℕ) → at + (0 + i) ≡ 0 + at + i = λ i. omega arith in
+    let these = is ∙ run_shifted (λ i. g (at + i)) g 0 (0 + at) (length ws) (λ i h. ap g (index i)) in
     rw (take-put_mid at m out ws end more room, map-append value (take at out) ws, before, these, more) (sym (run-append g 0 at (length ws)))
 
 -- one more block of 32 items, from item i on

@@ -131,7 +131,7 @@ module _ (row above : List ℕ) (i : ℕ) (inside : i + 16 ≤ length row) where
       ∙ take-put_mid i m out (map g (range_with_len i 16)) n next (omega arith)
       ∙ cc (before, start, next, map-append g (range_with_len 0 i) (range_with_len (0 + i) 16), range-append 0 i 16)
 
--- ---- one more place
+-- ---- one more index
 
 -- the sum of the row with one more sample
 pub total_more : (row : List ℕ) (k total x : ℕ) → k < length row → total ≡ sum (take k row) % 4294967296 → x ≡ get_or row k 0 → (total + x) % 4294967296 ≡ sum (take (k + 1) row) % 4294967296
@@ -143,7 +143,7 @@ place_written g out k v room before is =
     let next : 0 + k ≡ k = omega arith in
     cc (take_more_set out k v room, before, is, map-range_with_len_more g 0 k k next)
 
--- all places are written
+-- all indices are written
 pub all_written : (g : ℕ → ℕ) (out : List ℕ) (n k : ℕ) → length out ≤ n → n ≡ k → take k out ≡ map g (range_with_len 0 k) → out ≡ map g (range_with_len 0 n)
 all_written g out n k long end are =
     sym (take_all k out (omega arith)) ∙ are ∙ ap (λ n. map g (range_with_len 0 n)) (sym end)

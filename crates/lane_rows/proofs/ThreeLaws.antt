@@ -49,7 +49,7 @@ limited_numbers limit row (k ∷ ks) (n ∷ ns) all is =
 pub up_to_more : (limit most : ℕ) (row : List ℤ) → limit ≤ most → AreUpTo limit row → AreUpTo most row
 up_to_more limit most row more all i = ((all i).0, omega (arith, ints, (all i).1))
 
--- a kernel at places of three rows
+-- a kernel at indices of three rows
 pub zip3-map : (f : ℤ → ℤ → ℤ → ℤ) (p q r : ℕ → ℤ) (ks : List ℕ) → zip3 f (map p ks) (map q ks) (map r ks) ≡ map (λ k. f (p k) (q k) (r k)) ks
 zip3-map f p q r [] = refl
 zip3-map f p q r (k ∷ ks) = ap (λ l. f (p k) (q k) (r k) ∷ l) (zip3-map f p q r ks)

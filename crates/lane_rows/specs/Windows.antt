@@ -10,8 +10,8 @@ three_of rows i = (slice_index rows.left.now i, slice_index rows.middle.now i, s
 
 -- the 32 items of each of three rows from an index on
 abbrev pub lanes_of : Three → ℕ → List ℕ × List ℕ × List ℕ
-lanes_of rows place =
-    (map (slice_index rows.left.now) (range_with_len place 32), map (slice_index rows.middle.now) (range_with_len place 32), map (slice_index rows.right.now) (range_with_len place 32))
+lanes_of rows index =
+    (map (slice_index rows.left.now) (range_with_len index 32), map (slice_index rows.middle.now) (range_with_len index 32), map (slice_index rows.right.now) (range_with_len index 32))
 
 -- nine bytes in row-major order, as numbers
 abbrev pub nine_of : ℕ × ℕ × ℕ → ℕ × ℕ × ℕ → ℕ × ℕ × ℕ → List ℤ

@@ -25,14 +25,14 @@ fn change(from: ThreeItems, to: ThreeItems) -> i16
 
 /// Writes, for each of 32 indices, the weighted sum in `to` minus the weighted sum in `from`, with
 /// weights 1, 2, 1.
-fn write_changes(from: &Three<'_>, to: &Three<'_>, place: usize, out: &mut [i16])
-    requires from_room { place + 32 ≤ length from.now.left.now }
-    requires to_room { place + 32 ≤ length to.now.left.now }
+fn write_changes(from: &Three<'_>, to: &Three<'_>, index: usize, out: &mut [i16])
+    requires from_room { index + 32 ≤ length from.now.left.now }
+    requires to_room { index + 32 ≤ length to.now.left.now }
     requires out_len { length out.old ≡ 32 }
-    ensures { out.new ≡ run place 32 (λ i. change (three_of from.now i) (three_of to.now i)) }
+    ensures { out.new ≡ run index 32 (λ i. change (three_of from.now i) (three_of to.now i)) }
 {
-    let (a, b, c) = three_lanes(from, place);
-    let (d, e, f) = three_lanes(to, place);
+    let (a, b, c) = three_lanes(from, index);
+    let (d, e, f) = three_lanes(to, index);
     let first = d.cast::<i16>() - a.cast::<i16>();
     let second = e.cast::<i16>() - b.cast::<i16>();
     let third = f.cast::<i16>() - c.cast::<i16>();
@@ -49,7 +49,7 @@ impl OfNine<i16> for GradientX {
         change((above.0, here.0, below.0), (above.2, here.2, below.2))
     }
 
-    fn lanes(&self, nine: &Nine<'_>, place: usize, out: &mut [i16]) {
+    fn lanes(&self, nine: &Nine<'_>, index: usize, out: &mut [i16]) {
         let (above, here, below) = (nine.above, nine.here, nine.below);
         let left = Three {
             left: above.left,
@@ -61,7 +61,7 @@ impl OfNine<i16> for GradientX {
             middle: here.right,
             right: below.right,
         };
-        write_changes(&left, &right, place, out);
+        write_changes(&left, &right, index, out);
     }
 }
 
@@ -75,8 +75,8 @@ impl OfNine<i16> for GradientY {
         change(above, below)
     }
 
-    fn lanes(&self, nine: &Nine<'_>, place: usize, out: &mut [i16]) {
-        write_changes(&nine.above, &nine.below, place, out);
+    fn lanes(&self, nine: &Nine<'_>, index: usize, out: &mut [i16]) {
+        write_changes(&nine.above, &nine.below, index, out);
     }
 }
 

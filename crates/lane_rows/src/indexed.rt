@@ -14,15 +14,15 @@ pub trait Indexed<T: Item> {
     ghost at: { Self → ℕ → ℤ };
 
     /// Returns the item at an index.
-    fn item(&self, place: usize) -> T
-        requires inside { place < count self.now }
-        ensures { T.value result ≡ at self.now place };
+    fn item(&self, index: usize) -> T
+        requires inside { index < count self.now }
+        ensures { T.value result ≡ at self.now index };
 
-    /// Writes the 32 items from the index `place` on.
-    fn lanes(&self, place: usize, out: &mut [T])
-        requires room { place + 32 ≤ count self.now }
+    /// Writes the 32 items from `index` on.
+    fn lanes(&self, index: usize, out: &mut [T])
+        requires room { index + 32 ≤ count self.now }
         requires out_len { length out.old ≡ 32 }
-        ensures { map T.value out.new ≡ run place 32 (at self.now) };
+        ensures { map T.value out.new ≡ run index 32 (at self.now) };
 }
 
 /// Writes the last 32 items. The items before them have already been written, and some of the 32
@@ -33,8 +33,8 @@ fn write_last<T: Item, R: Indexed<T>>(row: &R, out: &mut [T])
     ensures { map T.value (take (length out.old - 32) out.old) ≡ run 0 (length out.old - 32)
         (R.at row.now) → map T.value out.new ≡ run 0 (length out.old) (R.at row.now) }
 {
-    let place = out.len() - 32;
-    row.lanes(place, &mut out[place..place + 32]);
+    let index = out.len() - 32;
+    row.lanes(index, &mut out[index..index + 32]);
 }
 
 /// Writes all items one by one.

@@ -50,31 +50,31 @@ fn row_of(items: &[i16], line: u16, l: u8) -> &[i16]
 impl MatrixRows<'_> {
     ghost use Rattle.lane_rows.specs.MatrixRows.{matrix_sum};
 
-    /// Returns the sums at the 32 indices from `place` on, modulo 2^32: first the sums at an even
-    /// distance from `place`, then the sums at an odd distance.
-    fn sum_rows(&self, place: usize) -> (i32x16, i32x16)
-        requires { place + 2 * self.now.pairs + 31 ≤ self.now.line }
+    /// Returns the sums at the 32 indices from `index` on, modulo 2^32: first the sums at an even
+    /// distance from `index`, then the sums at an odd distance.
+    fn sum_rows(&self, index: usize) -> (i32x16, i32x16)
+        requires { index + 2 * self.now.pairs + 31 ≤ self.now.line }
         ensures even { result.0
-            ≡ run 0 16 (λ i. int_wrap w32 (matrix_sum self.now (place + 2 * i))) }
+            ≡ run 0 16 (λ i. int_wrap w32 (matrix_sum self.now (index + 2 * i))) }
         ensures odd { result.1
-            ≡ run 0 16 (λ i. int_wrap w32 (matrix_sum self.now (place + 1 + 2 * i))) }
+            ≡ run 0 16 (λ i. int_wrap w32 (matrix_sum self.now (index + 1 + 2 * i))) }
     {
         let (mut even, mut odd) = (i32x16::splat(0), i32x16::splat(0));
         for l in 0..self.count {
             let (row, table) = (row_of(self.rows, self.line, l), row_of(self.tables, 80, l));
-            let (left, right) = add_row(row, place, table, self.pairs, even, odd);
+            let (left, right) = add_row(row, index, table, self.pairs, even, odd);
             even = left;
             odd = right;
         }
         (even, odd)
     }
 
-    /// Returns the sums at the 32 indices from `place` on.
-    fn sum_block(&self, place: usize) -> [i32; 32]
-        requires { place + 2 * self.now.pairs + 31 ≤ self.now.line }
-        ensures { result ≡ run 0 32 (λ i. matrix_sum self.now (place + i)) }
+    /// Returns the sums at the 32 indices from `index` on.
+    fn sum_block(&self, index: usize) -> [i32; 32]
+        requires { index + 2 * self.now.pairs + 31 ≤ self.now.line }
+        ensures { result ≡ run 0 32 (λ i. matrix_sum self.now (index + i)) }
     {
-        let (even, odd) = self.sum_rows(place);
+        let (even, odd) = self.sum_rows(index);
         let (first, second) = even.interleave(odd);
         let mut sums = [0; 32];
         first.copy_to_slice(&mut sums[..16]);
@@ -82,15 +82,15 @@ impl MatrixRows<'_> {
         sums
     }
 
-    /// Writes at most 32 samples, from the index `place` on.
-    fn write_block<T: Clamped>(&self, place: usize, out: &mut [T])
+    /// Writes at most 32 samples, from `index` on.
+    fn write_block<T: Clamped>(&self, index: usize, out: &mut [T])
         requires few { length out.old ≤ 32 }
-        requires room { place + 41 ≤ self.now.line }
+        requires room { index + 41 ≤ self.now.line }
         ensures { map T.value out.new ≡ run 0 (length out.old) (λ i.
-            clamp T.format (int_div (matrix_sum self.now (place + i))
+            clamp T.format (int_div (matrix_sum self.now (index + i))
             (pos (2 ^ self.now.exponent)))) }
     {
-        let sums = self.sum_block(place);
+        let sums = self.sum_block(index);
         let scale = Scale {
             exponent: self.exponent,
         };

@@ -21,11 +21,11 @@ pub trait OfNine<T: Item> {
     fn item(&self, above: ThreeItems, here: ThreeItems, below: ThreeItems) -> T
         ensures { T.value result ≡ formula self.now (nine_of above here below) };
 
-    /// Writes the results of 32 windows, from the index `place` on.
-    fn lanes(&self, nine: &Nine<'_>, place: usize, out: &mut [T])
-        requires room { place + 32 ≤ window_count nine.now }
+    /// Writes the results of 32 windows, from `index` on.
+    fn lanes(&self, nine: &Nine<'_>, index: usize, out: &mut [T])
+        requires room { index + 32 ≤ window_count nine.now }
         requires out_len { length out.old ≡ 32 }
-        ensures { map T.value out.new ≡ run place 32
+        ensures { map T.value out.new ≡ run index 32
             (λ i. formula self.now (nine_at nine.now i)) };
 }
 
@@ -47,11 +47,11 @@ impl<'a> Three<'a> {
     }
 
     /// Returns the three items at an index.
-    pub fn items(&self, place: usize) -> ThreeItems
-        requires { place < length self.now.left.now }
-        ensures { result ≡ three_of self.now place }
+    pub fn items(&self, index: usize) -> ThreeItems
+        requires { index < length self.now.left.now }
+        ensures { result ≡ three_of self.now index }
     {
-        (self.left[place], self.middle[place], self.right[place])
+        (self.left[index], self.middle[index], self.right[index])
     }
 }
 
@@ -76,23 +76,23 @@ impl<'a> Nine<'a> {
 /// Three neighbours in each of 32 lanes.
 pub type ThreeLanes = (u8x32, u8x32, u8x32);
 
-/// Returns the 32 items of a row from the index `place` on.
-fn lanes_at(row: &[u8], place: usize) -> u8x32
-    requires { place + 32 ≤ length row.now }
-    ensures { result ≡ map (slice_index row.now) (range_with_len place 32) }
+/// Returns the 32 items of a row from `index` on.
+fn lanes_at(row: &[u8], index: usize) -> u8x32
+    requires { index + 32 ≤ length row.now }
+    ensures { result ≡ map (slice_index row.now) (range_with_len index 32) }
 {
-    u8x32::from_slice(&row[place..place + 32])
+    u8x32::from_slice(&row[index..index + 32])
 }
 
-/// Returns the 32 items of each of three rows from the index `place` on.
-pub fn three_lanes(rows: &Three<'_>, place: usize) -> ThreeLanes
-    requires { place + 32 ≤ length rows.now.left.now }
-    ensures { result ≡ lanes_of rows.now place }
+/// Returns the 32 items of each of three rows from `index` on.
+pub fn three_lanes(rows: &Three<'_>, index: usize) -> ThreeLanes
+    requires { index + 32 ≤ length rows.now.left.now }
+    ensures { result ≡ lanes_of rows.now index }
 {
     (
-        lanes_at(rows.left, place),
-        lanes_at(rows.middle, place),
-        lanes_at(rows.right, place),
+        lanes_at(rows.left, index),
+        lanes_at(rows.middle, index),
+        lanes_at(rows.right, index),
     )
 }
 
@@ -108,14 +108,14 @@ impl<T: Item, K: OfNine<T>> Indexed<T> for NineAt<'_, '_, K> {
 
     ghost at = { λ s i. K.formula s.kernel.now (nine_at s.nine.now i) };
 
-    fn item(&self, place: usize) -> T {
+    fn item(&self, index: usize) -> T {
         let nine = self.nine;
-        let (above, here) = (nine.above.items(place), nine.here.items(place));
-        self.kernel.item(above, here, nine.below.items(place))
+        let (above, here) = (nine.above.items(index), nine.here.items(index));
+        self.kernel.item(above, here, nine.below.items(index))
     }
 
-    fn lanes(&self, place: usize, out: &mut [T]) {
-        self.kernel.lanes(self.nine, place, out);
+    fn lanes(&self, index: usize, out: &mut [T]) {
+        self.kernel.lanes(self.nine, index, out);
     }
 }
 

@@ -11,20 +11,20 @@ ghost use Rattle.lane_rows.specs.Pairs.{AreAdded, IsPairTable, alternation, pair
 
 use std::simd::prelude::*;
 
-/// Returns a sum for each of eight indices: every second index from `place` on. The sum is the
+/// Returns a sum for each of eight indices: every second index from `index` on. The sum is the
 /// sample at the index times one coefficient, plus the next sample times another.
 ///
 /// The coefficients are read from a table here. If a caller loaded them into vectors before its
 /// loop, the compiler would widen those vectors, and then need a multiplication for each product.
-fn eight_places(row: &[i16], place: usize, table: &[i16], at: usize) -> i32x8
-    requires room { place + 16 ≤ length row.now }
+fn eight_pairs(row: &[i16], index: usize, table: &[i16], at: usize) -> i32x8
+    requires room { index + 16 ≤ length row.now }
     requires fit { Each1 (FitsSigned w16) row.now }
     requires table_room { at + 16 ≤ length table.now }
     requires table_fits { Each1 (FitsSigned w16) table.now }
     ensures { (a b : ℤ) → chunk at 16 table.now ≡ alternation 8 a b →
-        result ≡ run 0 8 (λ i. int_wrap w32 (pair_at row.now a b (place + 2 * i))) }
+        result ≡ run 0 8 (λ i. int_wrap w32 (pair_at row.now a b (index + 2 * i))) }
 {
-    let samples = i16x16::from_slice(&row[place..place + 16]);
+    let samples = i16x16::from_slice(&row[index..index + 16]);
     let coefficients = i16x16::from_slice(&table[at..at + 16]);
     samples.swizzle([0, 2, 4, 6, 8, 10, 12, 14]).cast::<i32>()
         * coefficients
@@ -36,22 +36,22 @@ fn eight_places(row: &[i16], place: usize, table: &[i16], at: usize) -> i32x8
                 .cast::<i32>()
 }
 
-/// Returns the sums that `eight_places` returns, but for 16 indices: every second index from
-/// `place` on.
+/// Returns the sums that `eight_pairs` returns, but for 16 indices: every second index from
+/// `index` on.
 ///
 /// The two halves are joined before the caller adds them to its sums. Otherwise the compiler adds
 /// the products one by one, which takes twice as many multiplications.
-fn sixteen_places(row: &[i16], place: usize, table: &[i16], at: usize) -> i32x16
-    requires room { place + 32 ≤ length row.now }
+fn sixteen_pairs(row: &[i16], index: usize, table: &[i16], at: usize) -> i32x16
+    requires room { index + 32 ≤ length row.now }
     requires fit { Each1 (FitsSigned w16) row.now }
     requires table_room { at + 16 ≤ length table.now }
     requires table_fits { Each1 (FitsSigned w16) table.now }
     ensures { (a b : ℤ) → chunk at 16 table.now ≡ alternation 8 a b →
-        result ≡ run 0 16 (λ i. int_wrap w32 (pair_at row.now a b (place + 2 * i))) }
+        result ≡ run 0 16 (λ i. int_wrap w32 (pair_at row.now a b (index + 2 * i))) }
 {
     let (first, second) = (
-        eight_places(row, place, table, at),
-        eight_places(row, place + 16, table, at),
+        eight_pairs(row, index, table, at),
+        eight_pairs(row, index + 16, table, at),
     );
     first.shuffle(
         second,
@@ -59,29 +59,29 @@ fn sixteen_places(row: &[i16], place: usize, table: &[i16], at: usize) -> i32x16
     )
 }
 
-/// Adds the products of one matrix row to the sums at the 32 indices from `place` on. Returns the
-/// new sums at an even distance from `place`, and the new sums at an odd distance.
+/// Adds the products of one matrix row to the sums at the 32 indices from `index` on. Returns the
+/// new sums at an even distance from `index`, and the new sums at an odd distance.
 pub fn add_row(
     row: &[i16],
-    place: usize,
+    index: usize,
     table: &[i16],
     pairs: usize,
     even: i32x16,
     odd: i32x16,
 ) -> (i32x16, i32x16)
-    requires room { place + 2 * pairs + 31 ≤ length row.now }
+    requires room { index + 2 * pairs + 31 ≤ length row.now }
     requires fit { Each1 (FitsSigned w16) row.now }
     requires table_len { 16 * pairs ≤ length table.now }
     requires table { IsPairTable pairs table.now }
     requires table_fits { Each1 (FitsSigned w16) table.now }
-    ensures even { AreAdded (λ i. row_sum row.now table.now pairs (place + 2 * i)) even result.0 }
-    ensures odd { AreAdded (λ i. row_sum row.now table.now pairs (place + 1 + 2 * i)) odd
+    ensures even { AreAdded (λ i. row_sum row.now table.now pairs (index + 2 * i)) even result.0 }
+    ensures odd { AreAdded (λ i. row_sum row.now table.now pairs (index + 1 + 2 * i)) odd
         result.1 }
 {
     let (mut left, mut right) = (even, odd);
     for j in 0..pairs {
-        let more_left = sixteen_places(row, place + 2 * j, table, 16 * j);
-        let more_right = sixteen_places(row, place + 1 + 2 * j, table, 16 * j);
+        let more_left = sixteen_pairs(row, index + 2 * j, table, 16 * j);
+        let more_right = sixteen_pairs(row, index + 1 + 2 * j, table, 16 * j);
         left = left + more_left;
         right = right + more_right;
     }

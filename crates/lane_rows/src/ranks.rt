@@ -112,10 +112,10 @@ impl<C: Choice> OfNine<u8> for C {
         chosen::<C>((chosen::<C>(above), chosen::<C>(here), chosen::<C>(below)))
     }
 
-    fn lanes(&self, nine: &Nine<'_>, place: usize, out: &mut [u8]) {
-        let above = chosen_lanes::<C>(three_lanes(&nine.above, place));
-        let here = chosen_lanes::<C>(three_lanes(&nine.here, place));
-        let below = chosen_lanes::<C>(three_lanes(&nine.below, place));
+    fn lanes(&self, nine: &Nine<'_>, index: usize, out: &mut [u8]) {
+        let above = chosen_lanes::<C>(three_lanes(&nine.above, index));
+        let here = chosen_lanes::<C>(three_lanes(&nine.here, index));
+        let below = chosen_lanes::<C>(three_lanes(&nine.below, index));
         store_32_bytes(chosen_lanes::<C>((above, here, below)).to_array(), out);
     }
 }
@@ -132,13 +132,13 @@ impl<C: Choice> Indexed<u8> for ChosenAt<'_, '_, C> {
 
     ghost at = { λ s. chosen_at C.of_numbers s.rows.now };
 
-    fn item(&self, place: usize) -> u8 {
-        chosen::<C>(self.rows.items(place))
+    fn item(&self, index: usize) -> u8 {
+        chosen::<C>(self.rows.items(index))
     }
 
-    fn lanes(&self, place: usize, out: &mut [u8]) {
+    fn lanes(&self, index: usize, out: &mut [u8]) {
         store_32_bytes(
-            chosen_lanes::<C>(three_lanes(self.rows, place)).to_array(),
+            chosen_lanes::<C>(three_lanes(self.rows, index)).to_array(),
             out,
         );
     }
@@ -202,10 +202,10 @@ impl OfNine<u8> for Median {
         median_of(above, here, below)
     }
 
-    fn lanes(&self, nine: &Nine<'_>, place: usize, out: &mut [u8]) {
-        let above = three_lanes(&nine.above, place);
-        let here = three_lanes(&nine.here, place);
-        let below = three_lanes(&nine.below, place);
+    fn lanes(&self, nine: &Nine<'_>, index: usize, out: &mut [u8]) {
+        let above = three_lanes(&nine.above, index);
+        let here = three_lanes(&nine.here, index);
+        let below = three_lanes(&nine.below, index);
         store_32_bytes(medians(above, here, below).to_array(), out);
     }
 }

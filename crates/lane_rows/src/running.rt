@@ -8,7 +8,7 @@ use std::simd::prelude::*;
 /// Returns the running sums of 16 items.
 ///
 /// Each lane starts as the sum of a pair of neighbours. Within each half of the lanes, the first
-/// step adds to each lane the lane before it, and the second step the lane two places before it.
+/// step adds to each lane the lane before it, and the second step the lane two before it.
 /// The third step adds the last lane of the first half to each lane of the second half. Now each
 /// lane is the sum up to the end of a pair. The sum up to the middle of a pair is the sum up to the
 /// pair's end minus the pair's second item.

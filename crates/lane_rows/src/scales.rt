@@ -43,7 +43,7 @@ pub fn scaled_lanes(numbers: i32x16, exponent: u8) -> i32x16
     (numbers + added) >> i32::from(exponent)
 }
 
-/// Returns the 16 numbers of a block.
+/// Reads a block of 16 numbers into lanes.
 pub fn sixteen(row: &[i32]) -> i32x16
     requires { length row.now ≡ 16 }
     ensures value { result ≡ row.now }

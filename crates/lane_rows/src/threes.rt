@@ -20,12 +20,12 @@ pub trait Addend: Item {
         requires { IsUpTo 8191 (Self.value self) }
         ensures { pos result ≡ Self.value self };
 
-    /// Returns the 32 numbers of a row from the index `place` on.
-    fn numbers(row: &[Self], place: usize) -> u16x32
-        requires room { place + 32 ≤ length row.now }
+    /// Returns the 32 numbers of a row from `index` on.
+    fn numbers(row: &[Self], index: usize) -> u16x32
+        requires room { index + 32 ≤ length row.now }
         requires limit { AreUpTo 8191 (map Self.value row.now) }
         ensures { map pos result
-            ≡ map (number_at (map Self.value row.now)) (range_with_len place 32) };
+            ≡ map (number_at (map Self.value row.now)) (range_with_len index 32) };
 }
 
 impl Addend for u8 {
@@ -33,8 +33,8 @@ impl Addend for u8 {
         u16::from(self)
     }
 
-    fn numbers(row: &[u8], place: usize) -> u16x32 {
-        u8x32::from_slice(&row[place..place + 32]).cast::<u16>()
+    fn numbers(row: &[u8], index: usize) -> u16x32 {
+        u8x32::from_slice(&row[index..index + 32]).cast::<u16>()
     }
 }
 
@@ -43,8 +43,8 @@ impl Addend for i16 {
         self as u16
     }
 
-    fn numbers(row: &[i16], place: usize) -> u16x32 {
-        i16x32::from_slice(&row[place..place + 32]).cast::<u16>()
+    fn numbers(row: &[i16], index: usize) -> u16x32 {
+        i16x32::from_slice(&row[index..index + 32]).cast::<u16>()
     }
 }
 
@@ -118,15 +118,15 @@ impl<A: Addend, T: SumItem, K: OfThree<T>> Indexed<T> for ThreeAt<'_, A, T, K> {
     ghost at = { λ s i. K.formula (number_at (map A.value s.first.now) i)
         (number_at (map A.value s.second.now) i) (number_at (map A.value s.third.now) i) };
 
-    fn item(&self, place: usize) -> T {
-        <K as OfColumn<A, T>>::item(self.first[place], self.second[place], self.third[place])
+    fn item(&self, index: usize) -> T {
+        <K as OfColumn<A, T>>::item(self.first[index], self.second[index], self.third[index])
     }
 
-    fn lanes(&self, place: usize, out: &mut [T]) {
+    fn lanes(&self, index: usize, out: &mut [T]) {
         let numbers = K::of_three_lanes(
-            A::numbers(self.first, place),
-            A::numbers(self.second, place),
-            A::numbers(self.third, place),
+            A::numbers(self.first, index),
+            A::numbers(self.second, index),
+            A::numbers(self.third, index),
         );
         T::store(numbers, out);
     }

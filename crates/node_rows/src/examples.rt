@@ -8,7 +8,7 @@ ghost use Rattle.vx_base.specs.Object.{ImageObject, ConvolutionObject};
 ghost use Rattle.node_rows.specs.Radius.{window_radius};
 ghost use Rattle.node_rows.specs.Examples.{column, upper_row, node_samples};
 
-/// Bitwise Not: if row 2 differs, row 2 of the output does.
+/// Bitwise Not: a change in row 2 of the input changes row 2 of the output.
 pub fn not_of_a_column()
     ensures window_radius { window_radius NotBits None ≡ Some 0 }
     ensures first { node_samples NotBits U8 (column 10 20 30 40) None
@@ -17,7 +17,7 @@ pub fn not_of_a_column()
         ≡ pos 245 ∷ pos 235 ∷ pos 165 ∷ pos 215 ∷ [] }
 {}
 
-/// Box filter: if row 2 differs, rows 1 to 3 of the output do, and row 0 doesn't.
+/// Box filter: a change in row 2 of the input changes rows 1 to 3 of the output, but not row 0.
 pub fn box_of_a_column()
     ensures window_radius { window_radius Box None ≡ Some 1 }
     ensures first { node_samples Box U8 (column 10 20 30 40) None
@@ -26,7 +26,8 @@ pub fn box_of_a_column()
         ≡ pos 13 ∷ pos 40 ∷ pos 50 ∷ pos 56 ∷ [] }
 {}
 
-/// Convolution with a matrix of five rows: if row 2 of the input differs, row 0 of the output does.
+/// Convolution with a matrix of five rows: a change in row 2 of the input changes row 0 of the
+/// output.
 pub fn convolved_column()
     ensures window_radius { window_radius Convolve (Some upper_row) ≡ Some 2 }
     ensures first { node_samples Convolve U8 (column 10 20 30 40)
@@ -35,7 +36,7 @@ pub fn convolved_column()
         (Some (ConvolutionObject upper_row)) ≡ pos 90 ∷ pos 40 ∷ pos 40 ∷ pos 40 ∷ [] }
 {}
 
-/// Accumulation: if row 2 of the accumulator differs, row 2 of the output does.
+/// Accumulation: a change in row 2 of the accumulator changes row 2 of the output.
 pub fn accumulated_column()
     ensures window_radius { window_radius Accumulate None ≡ Some 0 }
     ensures first { node_samples Accumulate S16 (column 10 20 30 40) (Some (ImageObject

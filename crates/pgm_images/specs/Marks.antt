@@ -102,6 +102,6 @@ AreBegins begins bytes = (place : ℕ) → place < 64 → bit_at begins place �
 -- The code examined the first 64 positions of a text and marked the positions where a number
 -- begins. The first position isn't inside a number.
 pub record IsBlock (maxval : ℕ) (numbers bytes : List ℕ) (begins : ℕ) (text : List ℕ) : Type 0 where
-  pub told : FindNumbers maxval 64 numbers bytes text
+  pub found : FindNumbers maxval 64 numbers bytes text
   pub marked : AreBegins begins bytes
   pub outside : begins_digit text ≡ false

@@ -48,10 +48,10 @@ abbrev pub samples_up_to : ℕ → Option (List ℕ) → Result (List ℤ) PgmFa
 samples_up_to maxval None = Err InvalidFormat
 samples_up_to maxval (Some numbers) = if all_up_to maxval numbers then Ok (map pos numbers) else Err InvalidValue
 
--- The code wrote the samples of `told` over existing samples, or returned the fault of `told`.
-pub record Reads {A : Type 0} (told : Result (List ℤ) PgmFault) (samples : List ℤ) (result : Result A PgmFault) : Type 0 where
-  pub ok : OnOk result (told ≡ Ok samples)
-  pub err : IfErr result (λ fault. told ≡ Err fault)
+-- The code wrote the samples of `wanted` over existing samples, or returned the fault of `wanted`.
+pub record Reads {A : Type 0} (wanted : Result (List ℤ) PgmFault) (samples : List ℤ) (result : Result A PgmFault) : Type 0 where
+  pub ok : OnOk result (wanted ≡ Ok samples)
+  pub err : IfErr result (λ fault. wanted ≡ Err fault)
 
 -- `high` says whether one of these numbers is above the maxval. If none is, `written` are the
 -- numbers as samples.

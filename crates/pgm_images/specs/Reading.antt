@@ -51,7 +51,7 @@ description_in text = description_after (take_header text)
 -- The text's header is accepted, and the samples have the format and number that the header states.
 pub record SamplesFitHeader (text : List ℕ) (samples : Samples) : Type 0 where
   pub description : Description
-  pub told : description_in text ≡ Ok description
+  pub parses : description_in text ≡ Ok description
   pub described : Describes description samples
 
 -- whether the text begins with a header that is accepted; only then is memory allocated

@@ -16,8 +16,8 @@ pub enum Encoding {
     Raw,
 }
 
-/// The fields of a header. A number above 65535 is stored as 65535, which is still above every
-/// limit.
+/// The fields of a header. A number above 65535 is stored as 65535. That is still larger than any
+/// width, height or maxval that is accepted.
 #[derive(Clone, Copy, Debug)]
 pub struct Header {
     pub encoding: Encoding,

@@ -20,7 +20,7 @@ use vx_base::{Desc, Picture, Samples};
 /// 2. `InvalidDimension`: a side isn't 1 to 8192.
 /// 3. `InvalidFormat`: the maxval isn't 1 to 32767.
 pub fn read_description(text: &[u8]) -> Result<Desc, PgmFault>
-    ensures told { result ≡ description_in text.now }
+    ensures description { result ≡ description_in text.now }
     ensures ok { IfOk result (λ d. (p : PictureValue) →
         read_result text.now ≡ Ok p → p.description ≡ d) }
     ensures err { IfErr result (λ fault. read_result text.now ≡ Err fault) }

@@ -9,9 +9,9 @@ use Rattle.stat_kernels.proofs.MergeLaws.{at_most}
 abbrev pub rows_at : ℕ → ℕ → Band
 rows_at start count = record { start = start; count = count }
 
--- ---- places by rows
+-- ---- pixels by rows
 
--- the places of a rectangle in one row
+-- the pixels of a rectangle in one row
 abbrev pub row_of : Rectangle → ℕ → List (ℕ × ℕ)
 row_of r y = if nat_le r.y0 y && nat_lt y r.y1 then row_pixels r.x0 (r.x1 - r.x0) y else []
 
@@ -26,7 +26,7 @@ rows_of r start count = max (max r.y0 start) (min r.y1 (start + count)) - max r.
 abbrev rows_from : Rectangle → ℕ → ℕ → List (ℕ × ℕ)
 rows_from r y n = flat_map (row_pixels r.x0 (r.x1 - r.x0)) (range_with_len y n)
 
--- no rows have no places
+-- no rows have no pixels
 pub no_places : (r : Rectangle) (start : ℕ) → rectangle_pixels (band_of (rows_at start 0) r) ≡ []
 no_places r start = ap (rows_from r (max r.y0 start)) (let none : rows_of r start 0 ≡ 0 = grind (arith, nat_tests) in none)
 
@@ -134,7 +134,7 @@ few_samples image is rows = omega (arith, length-map (rectangle_pixels (band_of 
 pub none_located : (image : ImageValue) (start : ℕ) → extremes (valid_in (rows_at start 0) image) ≡ no_extremes
 none_located image start = ap (λ l. extremes_of (found_in (pixel_at image) l)) (no_places image.valid start)
 
--- no more places hold an extreme than are valid
+-- no more pixels hold an extreme than are valid
 pub extremes_few : (image : ImageValue) → ((extremes image).min_count ≤ length (valid_samples image)) × ((extremes image).max_count ≤ length (valid_samples image))
 extremes_few image =
     let long = length-map (rectangle_pixels image.valid) (λ p. pixel_at image p.0 p.1) in

@@ -33,7 +33,8 @@ fn with_row(found: Found, image: &Image<'_>, y: u16, down: u16) -> Found
 }
 
 /// Returns the least and the greatest valid sample of a U8 or S16 image (OpenVX 1.3, "Min, Max
-/// Location"). Each comes with the number of pixels that have it and the first of these pixels.
+/// Location"). For each of the two, also returns how many pixels have this value, and which of them
+/// comes first.
 #[tactic(auto, using(crate::proofs::BandLaws::few_extremes))]
 pub fn min_max(image: &Image<'_>) -> Extremes
     requires { image.now.format ≢ U32 }
@@ -44,8 +45,8 @@ pub fn min_max(image: &Image<'_>) -> Extremes
     add_min_max(image, Band::whole(image.desc()), 0, nothing)
 }
 
-/// Merges the extremes of a band into the extremes of the rows above it. The band is `down` rows
-/// lower in the whole image than in `image`.
+/// Merges the extremes of a band into the extremes of the rows above it. Row 0 of `image` is row
+/// `down` of the whole image.
 pub fn add_min_max(image: &Image<'_>, rows: Band, down: u16, above: Extremes) -> Extremes
     requires format { image.now.format ≢ U32 }
     requires rows { IsInRows image.now.height rows }

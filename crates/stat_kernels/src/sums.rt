@@ -96,8 +96,8 @@ fn write_row_from_top(image: &Image<'_>, y: u16, out: &mut [u32])
     ensures { map pos out.new ≡ sums_row image.now y }
 {
     let (_valid, _limits) = (image.valid(), image.desc().width());
-    let mut room = [0; LONGEST_ROW];
-    let above = &mut room[..out.len()];
+    let mut scratch = [0; LONGEST_ROW];
+    let above = &mut scratch[..out.len()];
     integral_on(image, Band { start: 0, count: 1 }, None, out);
     for line in 0..y {
         above.copy_from_slice(out);
@@ -122,8 +122,8 @@ fn write_integral_rows(image: &Image<'_>, rows: Band, samples: &mut [u32])
     if rows.start == 0 {
         integral_on(image, rows, None, samples);
     } else {
-        let mut room = [0; LONGEST_ROW];
-        let above = &mut room[..usize::from(image.desc().width())];
+        let mut scratch = [0; LONGEST_ROW];
+        let above = &mut scratch[..usize::from(image.desc().width())];
         write_row_from_top(image, rows.start - 1, above);
         integral_on(image, rows, Some(above), samples);
     }

@@ -312,8 +312,9 @@ pub fn nodes()
     }) ≡ false }
 {}
 
-/// Partial descriptions, open and filled in, and the formats that output images get if their own
-/// format is open.
+/// Partial descriptions: one that takes its open fields from another description, one that stays
+/// open, one without open fields, and one that is too wide. The other clauses are about outputs of
+/// open format: which format each function gives them.
 pub fn partial_descs()
     ensures filled { with_defaults (record { width = Some 4; height = None; format = None })
         (record { width = Some 8; height = Some 2; format = Some U8 })

@@ -261,7 +261,7 @@ pub fn extremes_made_and_read()
 /// The replies for a distribution of 3 bins, and for the least sample -2 and the greatest sample
 /// 258. Sample -2 occurs once, in column 3 and row 4. Sample 258 occurs 65,536 times, first in
 /// column 5 and row 515.
-pub fn statistics_told()
+pub fn statistics_replies()
     ensures counts { counts_bytes (1 ∷ 0 ∷ 16777216 ∷ [])
         ≡ 0 ∷ 3 ∷ 0 ∷ 0 ∷ 0 ∷ 1 ∷ 0 ∷ 0 ∷ 0 ∷ 0 ∷ 1 ∷ 0 ∷ 0 ∷ 0 ∷ [] }
     ensures extremes { extremes_bytes (record {

@@ -25,7 +25,7 @@ impl<S: Item, T: SampleItem, D: OfColumn<u8, S>, A: Across<S, T, D>> OfWindow<T,
     for ByColumns<D, A> {
     ghost formula = { λ _. A.of_nine };
 
-    ghost room = { 1 };
+    ghost scratch_rows = { 1 };
 
     fn item(&self, above: ThreeItems, here: ThreeItems, below: ThreeItems) -> T {
         A::item(

@@ -150,7 +150,7 @@ impl<T: Convolved> RowFormula<T, i16> for FromMatrix<'_, '_> {
 
     ghost most = { λ _. PIECE_WIDTH };
 
-    ghost room = { λ s. 9 * (min s.image.now.width PIECE_WIDTH + 48) };
+    ghost scratch_len = { λ s. 9 * (min s.image.now.width PIECE_WIDTH + 48) };
 
     fn area(&self) -> Rect {
         self.area
@@ -197,8 +197,8 @@ fn write_convolved<T: Convolved>(
 {
     let (columns, rows) = (convolution.columns() / 2, convolution.rows() / 2);
     let area = window_valid(border, u16::from(columns), u16::from(rows), image.valid());
-    let mut room = [0; 9 * 80];
-    let tables = &mut room[..usize::from(convolution.rows()) * 80];
+    let mut longest = [0; 9 * 80];
+    let tables = &mut longest[..usize::from(convolution.rows()) * 80];
     write_tables(convolution, tables);
     let formula = FromMatrix {
         image,

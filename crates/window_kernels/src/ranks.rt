@@ -31,7 +31,7 @@ impl Across<u8, u8, ByChoice<Greatest>> for ByChoice<Greatest> {
 impl OfWindow<u8, u8> for Median {
     ghost formula = { λ _. median };
 
-    ghost room = { 0 };
+    ghost scratch_rows = { 0 };
 
     fn item(&self, above: ThreeItems, here: ThreeItems, below: ThreeItems) -> u8 {
         OfNine::item(self, above, here, below)

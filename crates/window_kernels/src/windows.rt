@@ -33,7 +33,7 @@ pub trait OfWindow<T: Sample, S> {
     ghost formula: { Self → List ℤ → ℤ };
 
     /// The number of scratch items that the function needs for each column of three rows.
-    ghost room: { ℕ };
+    ghost scratch_rows: { ℕ };
 
     /// Returns the output sample of one window.
     fn item(&self, above: ThreeItems, here: ThreeItems, below: ThreeItems) -> T
@@ -44,7 +44,7 @@ pub trait OfWindow<T: Sample, S> {
         requires above { length above.now ≡ length out.old + 2 }
         requires here { length here.now ≡ length out.old + 2 }
         requires below { length below.now ≡ length out.old + 2 }
-        requires scratch { room * length above.now ≤ length scratch.old }
+        requires scratch { scratch_rows * length above.now ≤ length scratch.old }
         ensures { map T.value out.new ≡ run 0 (length out.old)
             (λ i. formula self.now (nine_from above.now here.now below.now i)) };
 }
@@ -71,7 +71,7 @@ struct FromNine<'a, 'b, K> {
 
 impl<K> FromNine<'_, '_, K> {
     /// Writes the sample of one pixel.
-    fn write_place<T: Sample, S>(&self, x: u16, y: u16, out: &mut [T])
+    fn write_pixel<T: Sample, S>(&self, x: u16, y: u16, out: &mut [T])
     where
         K: OfWindow<T, S>,
         requires rows { self.now.image.now.valid.y0 < self.now.image.now.valid.y1 }
@@ -95,7 +95,7 @@ impl<K> FromNine<'_, '_, K> {
         requires rows { self.now.image.now.valid.y0 < self.now.image.now.valid.y1 }
         requires columns { (self.now.image.now.valid.x0 ≤ x) ×
             (x + length out.old + 2 ≤ self.now.image.now.valid.x1) }
-        requires scratch { K.room * (length out.old + 2) ≤ length scratch.old }
+        requires scratch { K.scratch_rows * (length out.old + 2) ≤ length scratch.old }
         ensures { map T.value out.new ≡ run (x + 1) (length out.old)
             (λ k. K.formula self.now.kernel.now (nine_around
             (sample_or_border self.now.image.now self.now.border) (pos k) (pos y))) }
@@ -118,7 +118,7 @@ impl<T: Sample, S, K: OfWindow<T, S>> RowFormula<T, S> for FromNine<'_, '_, K> {
 
     ghost most = { λ _. 65535 };
 
-    ghost room = { λ s. K.room * s.image.now.width };
+    ghost scratch_len = { λ s. K.scratch_rows * s.image.now.width };
 
     fn area(&self) -> Rect {
         self.area
@@ -131,14 +131,14 @@ impl<T: Sample, S, K: OfWindow<T, S>> RowFormula<T, S> for FromNine<'_, '_, K> {
     fn fill(&self, x: u16, y: u16, scratch: &mut [S], out: &mut [T]) {
         let (_valid, last) = (self.image.valid(), out.len() - 1);
         if last == 0 {
-            self.write_place::<T, S>(x, y, out);
+            self.write_pixel::<T, S>(x, y, out);
         } else {
             // Only the windows of the first and the last pixel may reach beyond the valid columns.
             let (first, others) = out.split_at_mut(1);
             let (inside, end) = others.split_at_mut(last - 1);
-            self.write_place::<T, S>(x, y, first);
+            self.write_pixel::<T, S>(x, y, first);
             self.write_inside(x, y, scratch, inside);
-            self.write_place::<T, S>(x + last as u16, y, end);
+            self.write_pixel::<T, S>(x + last as u16, y, end);
         }
     }
 }
@@ -159,7 +159,7 @@ fn write_windows_with_rows<T: Sample, S, K: OfWindow<T, S>>(
     requires off_rows { map pos off_rows.now
         ≡ replicate (length off_rows.now) (border_value border (pos 0)) }
     requires room { image.now.width ≤ length off_rows.now }
-    requires scratch { K.room * image.now.width ≤ length scratch.old }
+    requires scratch { K.scratch_rows * image.now.width ≤ length scratch.old }
     ensures { Writes (from_nine T.format (K.formula kernel.now) border image.now)
         output.old output.new }
 {
@@ -218,7 +218,7 @@ pub fn write_windows<T: Sample, S, K: OfWindow<T, S>>(
     requires size { HaveSameSize (target_image output.old) image.now }
     requires input_format { image.now.format ≡ U8 }
     requires format { (target_image output.old).format ≡ T.format }
-    requires scratch { K.room * image.now.width ≤ length scratch.old }
+    requires scratch { K.scratch_rows * image.now.width ≤ length scratch.old }
     ensures { Writes (from_nine T.format (K.formula kernel.now) border image.now)
         output.old output.new }
 {

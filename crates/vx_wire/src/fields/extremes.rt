@@ -6,11 +6,11 @@ ghost use Rattle.vx_wire.specs.Extremes.{pixel_bytes, extremes_bytes};
 use vx_base::Extremes;
 
 /// Returns the bytes of a pixel: its column, then its row.
-fn pixel_bytes(place: (u16, u16)) -> [u8; 4]
-    ensures { result ≡ pixel_bytes place }
+fn pixel_bytes(pixel: (u16, u16)) -> [u8; 4]
+    ensures { result ≡ pixel_bytes pixel }
 {
-    let [a, b] = place.0.to_be_bytes();
-    let [c, d] = place.1.to_be_bytes();
+    let [a, b] = pixel.0.to_be_bytes();
+    let [c, d] = pixel.1.to_be_bytes();
     [a, b, c, d]
 }
 

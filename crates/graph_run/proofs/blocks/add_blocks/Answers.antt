@@ -2,26 +2,26 @@ use Rattle.std.proofs.Common.{◌≡◌, ℕ, ◌+◌, [], ◌∷◌, ◌++◌, 
 use Rattle.graph_run.proofs.Common.{Format, U8, lent_of, Samples}
 use Rattle.std.proofs.lemmas.List.{length_push}
 use Rattle.graph_run.specs.Blocks.{blocks_of_format, block_size}
-use Rattle.graph_run.proofs.BlockLemmas.{lends_more, rooms_left, sizes_more, taken_adds}
+use Rattle.graph_run.proofs.BlockLemmas.{lends_more, capacities_left, sizes_more, taken_adds}
 use Rattle.graph_run.proofs.blocks.add_blocks.Goals as goal
 
 pub loop-k-preserved : goal.loop-k-preserved
 loop-k-preserved c =
     let blocks = c.loop-k.blocks.items in
     let b : Samples = c.in_ok-block.block in
-    let rooms = c.args.rooms.now in
+    let capacities = c.args.capacities.now in
     let k = c.loop-k.k in
     let d : Format × ℕ = (U8, 0) in
-    let r = get_or rooms k d in
+    let r = get_or capacities k d in
     let pool = c.loop-k.pool in
     let taken = c.in_ok-block.ensures in
     let pushed : c.push_reserved.new.self.items ≡ blocks ++ b ∷ [] = c.push_reserved.ensures.items in
     record {
       room = omega (arith, ap length pushed, length_push blocks b, c.loop-k.invariant.room, c.push_reserved.ensures.capacity, c.loop-k-test.true);
-      rooms = ap (map block_size) pushed ∙ sizes_more rooms blocks b k r d c.loop-k-test.true refl c.loop-k.invariant.rooms taken.format taken.count;
+      capacities = ap (map block_size) pushed ∙ sizes_more capacities blocks b k r d c.loop-k-test.true refl c.loop-k.invariant.capacities taken.format taken.count;
       lends = λ f.
           subst (λ (l : List Samples). lent_of c.take.new.self f ≡ lent_of c.args.pool.now f + blocks_of_format l f) (sym pushed)
           (lends_more blocks b r.0 taken.format c.args.pool.now pool c.take.new.self f taken.lends.lends (c.loop-k.invariant.lends f));
       adds = λ f.
-          omega (arith, taken_adds pool c.take.new.self r.0 taken.lends.lends taken.lends.most taken.lends.other_free f, rooms_left rooms k r d c.loop-k-test.true refl f, c.loop-k.invariant.adds f);
+          omega (arith, taken_adds pool c.take.new.self r.0 taken.lends.lends taken.lends.most taken.lends.other_free f, capacities_left capacities k r d c.loop-k-test.true refl f, c.loop-k.invariant.adds f);
     }

@@ -11,12 +11,12 @@ loop-k-preserved c =
     let k = c.loop-k.k in
     let o = c.index-demand-k.result in
     let most = c.loop-k.most in
-    let place = c.args.place in
+    let wanted = c.args.wanted in
     let s = get_or d.slots.now k 0 in
-    let now : c.most_of-most.result ≡ (if s == place then max most (band_samples d.size (halo d.halos.now k) o.desc) else most) =
-    c.most_of-most.ensures ∙ ap (λ n. if s == place then max most n else most) c.band_samples.ensures
-    ∙ ap (λ (x : VirtualOutput). if s == place then max most (band_samples d.size (halo d.halos.now k) x.desc) else most) (sym c.index-demand-k.is)
+    let now : c.most_of-most.result ≡ (if s == wanted then max most (band_samples d.size (halo d.halos.now k) o.desc) else most) =
+    c.most_of-most.ensures ∙ ap (λ n. if s == wanted then max most n else most) c.band_samples.ensures
+    ∙ ap (λ (x : VirtualOutput). if s == wanted then max most (band_samples d.size (halo d.halos.now k) x.desc) else most) (sym c.index-demand-k.is)
     in
-    ap (λ n. max n (samples_from d.size d.halos.now (k + 1) (drop (k + 1) d.images.now) (drop (k + 1) d.slots.now) place)) now
-    ∙ samples_next d.size d.halos.now d.images.now d.slots.now place most k o s c.loop-k-test.true (omega (arith, c.requires.slots, c.loop-k-test.true)) c.index-demand-k.is refl
+    ap (λ n. max n (samples_from d.size d.halos.now (k + 1) (drop (k + 1) d.images.now) (drop (k + 1) d.slots.now) wanted)) now
+    ∙ samples_next d.size d.halos.now d.images.now d.slots.now wanted most k o s c.loop-k-test.true (omega (arith, c.requires.slots, c.loop-k-test.true)) c.index-demand-k.is refl
     ∙ c.loop-k.invariant

@@ -44,7 +44,7 @@ pub fill_planes-requires-clause-runs : goal.fill_planes-requires-clause-runs
 fill_planes-requires-clause-runs c = can_run c.args.table.now.objects c.args.verified.now c.args.schedule.now c.requires.objects c.requires.names c.requires.ready c.requires.schedule c.prove_descriptions.ensures
 
 pub fill_planes-requires-clause-sizes : goal.fill_planes-requires-clause-sizes
-fill_planes-requires-clause-sizes c = ap (map block_size) c.as_mut_slice-slots.ensures.value ∙ c.in_ok-take_blocks.ensures.rooms ∙ c.deref.ensures.value
+fill_planes-requires-clause-sizes c = ap (map block_size) c.as_mut_slice-slots.ensures.value ∙ c.in_ok-take_blocks.ensures.capacities ∙ c.deref.ensures.value
 
 pub run-requires : goal.run-requires
 run-requires c =
@@ -62,7 +62,7 @@ pub empty_planes-requires : goal.empty_planes-requires
 empty_planes-requires c =
     let objects = c.args.table.now.objects in
     let g = can_run objects c.args.verified.now c.args.schedule.now c.requires.objects c.requires.names c.requires.ready c.requires.schedule c.prove_descriptions.ensures in
-    let sizes = ap (map block_size) c.as_mut_slice-slots.ensures.value ∙ c.in_ok-take_blocks.ensures.rooms ∙ c.deref.ensures.value in
+    let sizes = ap (map block_size) c.as_mut_slice-slots.ensures.value ∙ c.in_ok-take_blocks.ensures.capacities ∙ c.deref.ensures.value in
     let bare = ap (λ (x : Context). x.objects) c.fill_planes.ensures.left in
     let planes = c.as_mut_slice-planes.ensures.value in
     let tallies = c.as_mut_slice-tallies.ensures.value ∙ c.in_ok-begin_tallies.ensures ∙ ap (tallies_of objects) c.steps.ensures.steps in
@@ -91,7 +91,7 @@ returns-clause-free c =
     λ f. omega (
       arith,
       counts_stay _ _ blocks f,
-      blocks_counted c.take_blocks.new.blocks.items c.args.schedule.now.rooms.items (c.in_ok-take_blocks.ensures.rooms ∙ c.deref.ensures.value) f,
+      blocks_counted c.take_blocks.new.blocks.items c.args.schedule.now.capacities.items (c.in_ok-take_blocks.ensures.capacities ∙ c.deref.ensures.value) f,
       c.in_ok-take_blocks.ensures.lends f,
       c.give_back.ensures.lent f,
       c.give_back.ensures.blocks f,
@@ -103,7 +103,7 @@ returns-clause-value c = λ nodes ready.
     let v = c.args.verified.now in
     let s = c.args.schedule.now in
     let g = can_run objects v s c.requires.objects c.requires.names (nodes, ready) c.requires.schedule c.prove_descriptions.ensures in
-    let sizes = ap (map block_size) c.as_mut_slice-slots.ensures.value ∙ c.in_ok-take_blocks.ensures.rooms ∙ c.deref.ensures.value in
+    let sizes = ap (map block_size) c.as_mut_slice-slots.ensures.value ∙ c.in_ok-take_blocks.ensures.capacities ∙ c.deref.ensures.value in
     let bare = ap (λ (x : Context). x.objects) c.fill_planes.ensures.left in
     let planes = c.as_mut_slice-planes.ensures.value in
     let tallies = c.as_mut_slice-tallies.ensures.value ∙ c.in_ok-begin_tallies.ensures ∙ ap (tallies_of objects) c.steps.ensures.steps in

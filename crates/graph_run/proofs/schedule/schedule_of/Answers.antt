@@ -52,8 +52,8 @@ halos_of-requires-clause-output c = λ s i.
     in
     omega (arith, names.output, c.deref-2.ensures.len, c.len.ensures)
 
-pub rooms_of-requires-clause-halos : goal.rooms_of-requires-clause-halos
-rooms_of-requires-clause-halos c =
+pub capacities_of-requires-clause-halos : goal.capacities_of-requires-clause-halos
+capacities_of-requires-clause-halos c =
     let v = c.args.verified.now in
     omega (
       arith,
@@ -91,7 +91,7 @@ returns c =
       enough = subst (λ (l : List Task). Suffice high halos l) c.deref-4.ensures.value c.in_ok-halos.ensures.enough;
       some = c.high_of-high.ensures.some;
       forward = c.band_size-size.ensures.forward;
-      rooms = c.in_ok-rooms.ensures
+      capacities = c.in_ok-capacities.ensures
           ∙ ap (λ (l : List ℕ). planned_capacities (band_plan size l c.virtual_outputs-images.result.now c.deref-8.result.now p)) c.deref-7.ensures.value
           ∙ ap (λ (l : List VirtualOutput). planned_capacities (band_plan size halos l c.deref-8.result.now p)) c.virtual_outputs-images.ensures
           ∙ ap (λ (l : List ℕ). planned_capacities (band_plan size halos outs l p)) c.deref-8.ensures.value;

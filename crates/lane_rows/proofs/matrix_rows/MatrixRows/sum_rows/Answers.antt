@@ -5,7 +5,7 @@ use Rattle.lane_rows.proofs.MatrixSumLaws.{each_of_row, length_row, no_rows, row
 use Rattle.lane_rows.proofs.matrix_rows.MatrixRows.sum_rows.Goals as goal
 
 pub loop-l-init : goal.loop-l-init
-loop-l-init c = let none = no_rows c.args.self.now in record { even = none c.args.place; odd = none (c.args.place + 1) }
+loop-l-init c = let none = no_rows c.args.self.now in record { even = none c.args.index; odd = none (c.args.index + 1) }
 
 pub row_of-row-requires : goal.row_of-row-requires
 row_of-row-requires c = let m = c.args.self.now in omega (arith, m.rows_len, row_fits m.line m.count c.loop-l.l c.loop-l-test.true)
@@ -30,14 +30,14 @@ loop-l-preserved c =
     let row = c.row_of-row.ensures in
     let table = c.row_of-table.ensures in
     record {
-      even = row_added m c.loop-l.l c.args.place _ _ _ _ c.loop-l.invariant.even row table c.add_row.ensures.even;
-      odd = row_added m c.loop-l.l (c.args.place + 1) _ _ _ _ c.loop-l.invariant.odd row table c.add_row.ensures.odd;
+      even = row_added m c.loop-l.l c.args.index _ _ _ _ c.loop-l.invariant.even row table c.add_row.ensures.even;
+      odd = row_added m c.loop-l.l (c.args.index + 1) _ _ _ _ c.loop-l.invariant.odd row table c.add_row.ensures.odd;
     }
 
 pub returns : goal.returns
 returns c =
     let all = all_rows c.args.self.now c.loop-l.l in
     record {
-      even = all c.args.place _ c.loop-l.invariant.even (omega arith);
-      odd = all (c.args.place + 1) _ c.loop-l.invariant.odd (omega arith);
+      even = all c.args.index _ c.loop-l.invariant.even (omega arith);
+      odd = all (c.args.index + 1) _ c.loop-l.invariant.odd (omega arith);
     }

@@ -14,7 +14,7 @@ pub of_three_lanes-numbers-requires-clause-limit : goal.of_three_lanes-numbers-r
 of_three_lanes-numbers-requires-clause-limit g c =
     let m = g.K.OfThree.limit in
     let rows = c.args.self.now in
-    let ks = range_with_len c.args.place 32 in (
+    let ks = range_with_len c.args.index 32 in (
       limited_numbers m _ ks c.numbers.result rows.limit.0 c.numbers.ensures,
       limited_numbers m _ ks c.numbers-2.result rows.limit.1 c.numbers-2.ensures,
       limited_numbers m _ ks c.numbers-3.result rows.limit.2 c.numbers-3.ensures,
@@ -26,4 +26,4 @@ returns g c =
     let rows = c.args.self.now in
     c.store.ensures ∙ c.of_three_lanes-numbers.ensures.value
     ∙ rw (c.numbers.ensures, c.numbers-2.ensures, c.numbers-3.ensures)
-    (zip3-map g.K.OfThree.formula (number_at (map value rows.first.now)) (number_at (map value rows.second.now)) (number_at (map value rows.third.now)) (range_with_len c.args.place 32))
+    (zip3-map g.K.OfThree.formula (number_at (map value rows.first.now)) (number_at (map value rows.second.now)) (number_at (map value rows.third.now)) (range_with_len c.args.index 32))

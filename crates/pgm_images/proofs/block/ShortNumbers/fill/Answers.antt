@@ -7,7 +7,7 @@ use Rattle.pgm_images.proofs.block.ShortNumbers.fill.Goals as goal
 
 pub of_number-requires : goal.of_number-requires
 of_number-requires g c =
-    let next = walk_lowest c.args.maxval c.args.self.now.numbers c.args.self.now.bytes c.args.text.now c.requires.block.told c.loop-left.left c.loop-left.end c.loop-left.invariant.0 c.loop-left-test.true c.loop-left.auto.left-fits.fits in
+    let next = walk_lowest c.args.maxval c.args.self.now.numbers c.args.self.now.bytes c.args.text.now c.requires.block.found c.loop-left.left c.loop-left.end c.loop-left.invariant.0 c.loop-left-test.true c.loop-left.auto.left-fits.fits in
     omega (arith, next.low, c.from.ensures, c.requires.limit)
 
 pub loop-left-smaller : goal.loop-left-smaller
@@ -15,7 +15,7 @@ loop-left-smaller g c = omega (arith, and_le_r c.loop-left.left (c.loop-left.lef
 
 pub loop-left-preserved : goal.loop-left-preserved
 loop-left-preserved g c =
-    let next = walk_lowest c.args.maxval c.args.self.now.numbers c.args.self.now.bytes c.args.text.now c.requires.block.told c.loop-left.left c.loop-left.end c.loop-left.invariant.0 c.loop-left-test.true c.loop-left.auto.left-fits.fits in
+    let next = walk_lowest c.args.maxval c.args.self.now.numbers c.args.self.now.bytes c.args.text.now c.requires.block.found c.loop-left.left c.loop-left.end c.loop-left.invariant.0 c.loop-left-test.true c.loop-left.auto.left-fits.fits in
     let text = c.args.text.now in
     let place : ℕ = count_trailing_zeros 64 c.loop-left.left in
     let bytes = c.from-in-loop-left.ensures in
