@@ -14,8 +14,8 @@ use image_core::{Image, ImageMut, RowUpdate};
 use lane_rows::{Accumulated, OfSum, Squared, update_row};
 use vx_base::Rect;
 
-/// An update of sums by a lane kernel, from an image of the sums' size. It is limited to an area
-/// where the image is valid.
+/// An update of an image of sums, from another image of the same width and height. A lane kernel
+/// computes each new sum in an area of the images.
 #[derive(Drop)]
 struct Added<'a, 'b, K> {
     kernel: &'a K,

@@ -22,7 +22,7 @@ without_one free class = slice_set free class (slice_index free class - 1)
 abbrev pub with_one : List ℕ → ℕ → List ℕ
 with_one free class = slice_set free class (slice_index free class + 1)
 
--- a free block of the smallest class that fits `count` samples was taken
+-- the smallest free block that fits `count` samples was taken
 pub record UsesSmallest (count : ℕ) (old new : List ℕ) : Type 0 where
   pub class : ℕ
   pub free : HasFree old class

@@ -67,7 +67,7 @@ pub struct Devices {
 pub struct Served {
     pub result: Result<Summary, StreamFault>,
     pub written: Vec<u8>,
-    /// The number of bytes left, and the number of reads.
+    /// The number of bytes of the stream that weren't read, and the number of reads.
     left: (usize, u64),
 }
 

@@ -35,7 +35,7 @@ const MOST_READS: u64 = 1_099_511_627_776;
 /// WriteImagePgm are parsed straight into the image's new samples. A refused request changes no
 /// samples. ReadImage and ReadImagePgm write their replies straight from the image.
 ///
-/// Ok: the stream ended between two frames. Faults:
+/// Ok: the stream ended after a whole frame, or was empty. Faults:
 ///
 /// - `Truncated`: the stream ended within a frame
 /// - `BadLength`: a frame's length is below 3 or above 2^29; this fault is reported as soon as the
