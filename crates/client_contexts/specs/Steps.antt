@@ -64,7 +64,7 @@ client_result (Ok r) = Ok r
 client_result (Err (Refused refusal)) = Ok (reply.Refused (refusal_code refusal))
 client_result (Err NoMemory) = Err (record {})
 
--- if there is no memory, the request is one that takes memory
+-- only a request that takes memory has the fault NoMemory. `takes` says that the request takes memory
 abbrev pub WantsMemory : RequestFault → Type 0 → Type 0
 WantsMemory (Refused refusal) takes = ⊤
 WantsMemory NoMemory takes = takes

@@ -45,7 +45,7 @@ impl Change {
     }
 }
 
-/// A kernel of three rows.
+/// A kernel that computes each item from the three items at its index in three rows.
 pub trait OfColumn<A: Item, T: Item> {
     ghost formula: { ℤ → ℤ → ℤ → ℤ };
 

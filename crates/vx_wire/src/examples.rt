@@ -431,8 +431,8 @@ pub fn multiply_nodes()
     ensures too_much_and_cut { request_of 24 (7 ∷ 0 ∷ 0 ∷ 0 ∷ 16 ∷ []) ≡ Err InvalidValue }
 {}
 
-/// Creating delays of 3, 1 and 16 slots from image 1, and of 3 slots from slot 5 of delay 258; and
-/// invalid slot counts.
+/// Creating delays of 3, 1 and 16 slots from image 1, and of 3 slots from slot 5 of delay 258. Then
+/// invalid slot counts, and bodies that are too short or too long.
 pub fn delays_made()
     ensures made { request_of 25 (0 ∷ 0 ∷ 0 ∷ 1 ∷ 255 ∷ 3 ∷ [])
         ≡ Ok (CreateDelay (record { name = 1; slot = None }) 3) }
