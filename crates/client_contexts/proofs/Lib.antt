@@ -11,6 +11,7 @@ mod VerifiedLemmas
 mod BlockLemmas
 mod RuntimeLemmas
 mod CallLemmas
+mod AlikeLemmas
 mod ImmediateLemmas
 mod OutcomeLemmas
 mod WriteLemmas

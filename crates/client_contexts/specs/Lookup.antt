@@ -1,18 +1,22 @@
 -- The lookup of objects in a context, by reference, by name, and by the operands of a node.
-use Rattle.std.specs.Prelude.{ℕ, ◌≡◌, IsTrue, is_some, List, Option, Some, Result, Ok, Err}
+use Rattle.std.specs.Prelude.{ℕ, ◌≡◌, IsTrue, is_some, List, [], ◌∷◌, Option, Some, None, IfSome, IsSomeAnd, Result, Ok, Err}
 use Rattle.vx_base.specs.declared.kind.Kind.{Kind}
 use Rattle.vx_base.specs.declared.kind.Kind.TheVariants as kind
+use Rattle.vx_base.specs.declared.node.Node.{Node}
 use Rattle.vx_base.specs.Reference.{Reference}
 use Rattle.vx_base.specs.Description.{Description}
+use Rattle.vx_base.specs.Function.{parameters}
 use Rattle.vx_base.specs.Image.{ImageValue, description_of}
 use Rattle.vx_base.specs.Object.{ObjectValue, object_kind}
 use Rattle.object_table.specs.Context.{object_named}
 use Rattle.object_table.specs.Delay.{in_slot, object_in}
 use Rattle.object_table.specs.NamedObject.{NamedObject, object_held, object_at}
 use Rattle.object_table.specs.Table.{image_held, HoldsImage}
+use Rattle.graph_verify.specs.declared.operand.Operand.{Operand}
+use Rattle.graph_run.specs.Operands.{operand_held}
 use Rattle.client_model.specs.declared.refusal.Refusal.{Refusal}
 use Rattle.client_model.specs.Images.{picture_refusal}
-use Rattle.client_model.specs.Operands.{stands_for, image_of}
+use Rattle.client_model.specs.Operands.{stands_for, operands_refusal, image_of}
 
 -- the reference names this object, and the reference's slot exists and is of the wanted kind; a
 -- virtual image counts as an image
@@ -56,3 +60,18 @@ refusal_for (Ok image) d = picture_refusal (description_of image) d
 -- the operand's reference names an object of the operand's kind; a virtual image counts as an image
 abbrev pub IsFound : List NamedObject → Reference × Kind → Type 0
 IsFound objects operand = (object : ObjectValue) × (object_at objects operand.0 ≡ Some object) × IsTrue (stands_for (object_kind object) operand.1)
+
+-- a lookup gives this operand of a reference and a kind, and no refusal
+pub record IsLookup (objects : List NamedObject) (scope : Option ℕ) (cell : Reference × Kind) (operand : Operand) : Type 0 where
+  pub held : operand ≡ operand_held objects cell.0
+  pub found : IsFound objects cell
+  pub allowed : operands_refusal scope objects (cell ∷ []) ≡ None
+
+-- an operand that is known without a lookup, if there is one, is that of a reference that is given
+abbrev pub IsKnown : List NamedObject → Option ℕ → Kind → Option Reference → Option Operand → Type 0
+IsKnown objects scope wanted cell operand = IfSome operand (λ o. IsSomeAnd cell (λ c. IsLookup objects scope (c, wanted) o))
+
+-- the operands of a node's outputs that are known without a lookup
+pub record AreKnown (objects : List NamedObject) (scope : Option ℕ) (n : Node) (known : Option Operand × Option Operand) : Type 0 where
+  pub first : IsKnown objects scope (parameters n.function).output n.out1 known.0
+  pub second : IsKnown objects scope (parameters n.function).output n.out2 known.1

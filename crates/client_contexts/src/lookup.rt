@@ -16,7 +16,7 @@ ghost use Rattle.graph_verify.specs.Operand.{operands_of, is_virtual};
 ghost use Rattle.graph_run.specs.Operands.{operand_held};
 ghost use Rattle.client_model.specs.Operands.{is_kind, operands_refusal, image_of};
 ghost use Rattle.client_model.specs.States.{holds_operand};
-ghost use Rattle.client_contexts.specs.Lookup.{Found, IsNamed, IsImageOf, IsFound};
+ghost use Rattle.client_contexts.specs.Lookup.{AreKnown, Found, IsNamed, IsImageOf, IsFound, IsKnown};
 ghost use Rattle.client_contexts.specs.Steps.{refusal_in, name_refusal, is_outside, slot_refusal};
 ghost use Rattle.client_contexts.specs.Steps.{first_class, all_operands};
 
@@ -194,9 +194,47 @@ fn both<A: Drop, B: Drop>(
     }
 }
 
+/// Returns the operand of a node's output: the known operand, or as `find_if_given` does.
+fn find_output(
+    table: &Table,
+    cell: Option<ObjRef>,
+    kind: Kind,
+    scope: Option<u32>,
+    known: Option<Operand>,
+) -> Result<Option<Operand>, Refusal>
+    requires { IsKnown table.now.objects scope kind cell known }
+    ensures ok { IfOk result (λ operand. operand
+        ≡ option_map (operand_held table.now.objects) cell) }
+    ensures found { OnOk result (All (IsFound table.now.objects) (with_kind kind cell)) }
+    ensures err { refusal_in result ≡ operands_refusal scope table.now.objects
+        (with_kind kind cell) }
+{
+    match known {
+        Some(operand) => Ok(Some(operand)),
+        None => find_if_given(table, cell, kind, scope),
+    }
+}
+
 /// Returns a node's operands, each of the kind that the node's function expects. `scope` is the
 /// node's graph, or `None` for an immediate node.
 pub fn find_operands(table: &Table, node: &Node, scope: Option<u32>) -> Result<Operands, Refusal>
+    ensures ok { IfOk result (λ found. found
+        ≡ operands_of (operand_held table.now.objects) node.now) }
+    ensures found { OnOk result (All (IsFound table.now.objects) (operands node.now)) }
+    ensures err { refusal_in result ≡ operands_refusal scope table.now.objects (operands node.now) }
+{
+    find_unknown_operands(table, node, scope, (None, None))
+}
+
+/// Returns a node's operands as `find_operands` does. `known` are operands of the outputs that need
+/// no lookup.
+pub fn find_unknown_operands(
+    table: &Table,
+    node: &Node,
+    scope: Option<u32>,
+    known: (Option<Operand>, Option<Operand>),
+) -> Result<Operands, Refusal>
+    requires { AreKnown table.now.objects scope node.now known }
     ensures ok { IfOk result (λ found. found
         ≡ operands_of (operand_held table.now.objects) node.now) }
     ensures found { OnOk result (All (IsFound table.now.objects) (operands node.now)) }
@@ -206,8 +244,8 @@ pub fn find_operands(table: &Table, node: &Node, scope: Option<u32>) -> Result<O
     let second = parameters.second_input.unwrap_or(Kind::Image);
     let in1 = find_operand(table, node.in1, Kind::Image, scope);
     let in2 = find_if_given(table, node.in2, second, scope);
-    let out1 = find_if_given(table, node.out1, parameters.output, scope);
-    let out2 = find_if_given(table, node.out2, parameters.output, scope);
+    let out1 = find_output(table, node.out1, parameters.output, scope, known.0);
+    let out2 = find_output(table, node.out2, parameters.output, scope, known.1);
     let ((in1, in2), (out1, out2)) = both(both(in1, in2), both(out1, out2))?;
     Ok(Operands {
         in1,

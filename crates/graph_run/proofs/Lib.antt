@@ -49,4 +49,5 @@ pub mod HoldSteps
 pub mod SolutionStepsTaken
 pub mod NearSteps
 pub mod ScheduleSteps
+pub mod LendLemmas
 pub mod OnceLemmas

@@ -1,36 +1,81 @@
 -- A node by itself: what it reads and writes in a table.
-use Rattle.std.proofs.Common.{◌≡◌, ◌≢◌, ◌⊎◌, List, [], ◌∷◌, Option, Some, refl, sym, ap, subst, ◌∙◌, arith, All, IfSome, option_map}
-use Rattle.graph_run.proofs.Common.{First, Second, Output, Kind, Node, Reference, parameters, ImageValue, IsImage, description_of, ObjectValue, ImageObject, IsObject, object_kind, node_image, node_output, second_or_output, written_by, Context, with_objects, NamedObject, object_at, with_object, with_written, image_value, cell_object, image_held, HoldsImage, IsStrictlyIncreasing, names_of, Lasts, RunsOn, RunsTo, with_output_object, CanRunNow, Holds}
+use Rattle.std.proofs.Common.{◌≡◌, ◌≢◌, ◌⊎◌, IsTrue, List, [], ◌∷◌, Option, Some, None, refl, sym, ap, subst, ◌∙◌, arith, All, is_some, IfSome, option_map}
+use Rattle.graph_run.proofs.Common.{First, Second, Output, Kind, Node, Reference, parameters, ImageValue, IsImage, description_of, ObjectValue, ImageObject, IsObject, object_kind, node_image, node_output, second_or_output, written_by, Context, with_objects, NamedObject, object_at, with_object, with_written, image_value, cell_object, image_held, IsStrictlyIncreasing, names_of, AreApart, Lasts, RunsOn, RunsTo, with_output_object, CanRunNow, Holds}
 use Rattle.vx_base.specs.declared.kind.Kind.TheVariants as kind
 use Rattle.graph_steps.specs.declared.tally.Tally.{Tally}
 use Rattle.graph_steps.specs.Planes.{IsWhole, PlaneValue, block_image}
 use Rattle.graph_steps.specs.Steps.{CanMake, lent_step}
 use Rattle.graph_steps.specs.Tallies.{tally_of}
-use Rattle.graph_run.specs.Bind.{image_plane, without_samples}
+use Rattle.graph_run.specs.declared.output_planes.OutputPlanes.{OutputPlanes}
 use Rattle.graph_run.specs.Bound.{IsTallyFor}
+use Rattle.graph_run.specs.OutputPlanes.{AreInPlanes, IsInPlane, IsInPlaneIf, with_plane, with_planes}
 use Rattle.graph_run.specs.Program.{tally_by}
 use Rattle.graph_run.specs.Results.{tally_object}
 use Rattle.graph_run.specs.Steps.{HasInputs, output_of}
-use Rattle.graph_run.proofs.CellLemmas.{hold_elsewhere, holds_image, image_after, image_elsewhere, object_after, object_elsewhere, object_if_elsewhere, there_is, with_object_twice}
+use Rattle.graph_run.proofs.CellLemmas.{elsewhere, object_after, object_elsewhere, object_if_elsewhere, there_is, with_object_twice}
+use Rattle.graph_run.proofs.LendLemmas.{back_after, format_there, image_there, names-with_plane, runs_before, taken_after}
 use Rattle.graph_run.proofs.OutputLemmas.{image_of_object}
-use Rattle.graph_run.proofs.RunLemmas.{Lasts-outputs, written_is}
+use Rattle.graph_run.proofs.RunLemmas.{Lasts-outputs, runs_first, runs_second, runs_then, two_outputs, written_is}
 use Rattle.graph_run.proofs.SolutionStepsReturns.{counted_kind, tally_output}
 use Rattle.graph_run.proofs.SolutionStepsTaken.{tally_for}
 
 -- ---- both outputs
 
-module _ (n : Node) (before between after : Context) (are : All (λ o. IsObject o.object) before.objects) (can : CanRunNow before.objects n)
-    (first : between ≡ with_objects before (with_output_object before.objects n First n.out1)) (second : after ≡ with_objects between (with_output_object between.objects n Second n.out2)) where
-  both : after ≡ with_objects before (with_output_object (with_output_object before.objects n First n.out1) n Second n.out2)
-  both = second ∙ ap (λ (t : Context). with_objects t (with_output_object t.objects n Second n.out2)) first
+module _ (t : Context) (n : Node) (planes : OutputPlanes) (taken : AreInPlanes t.objects n planes) (names : IsStrictlyIncreasing (names_of t.objects))
+    (are : All (λ o. IsObject o.object) (with_planes t.objects n planes)) (can : CanRunNow (with_planes t.objects n planes) n) where
+  abbrev whole : List NamedObject
+  whole = with_planes t.objects n planes
 
-  pub both_written : after ≡ with_objects before (with_written before.objects (written_by n (object_at before.objects)))
-  both_written = both ∙ ap (with_objects before) (sym (written_is n before.objects are can))
+  abbrev first : List NamedObject
+  first = with_plane t.objects n.out1 planes.first
 
-  pub both_last : IsStrictlyIncreasing (names_of before.objects) → Lasts before.objects after.objects
-  both_last names = subst (λ (t : Context). Lasts before.objects t.objects) (sym both) (Lasts-outputs n before.objects are can names)
+  names_first : IsStrictlyIncreasing (names_of first)
+  names_first = subst IsStrictlyIncreasing (sym (names-with_plane t.objects n.out1 planes.first)) names
 
--- ---- an output that is an image
+  pub runs_first_taken : IfSome n.out1 (RunsTo first n)
+  runs_first_taken = runs_before first n n.out1 n.out2 planes.second names_first taken.second (runs_first n whole are can) (runs_second n whole are can) (two_outputs n whole are can)
+
+  -- after the first output
+  module _ (between : Context) (one : between ≡ with_objects t (with_output_object first n First n.out1)) where
+    then : with_plane between.objects n.out2 planes.second ≡ with_output_object whole n First n.out1
+    then =
+        ap (λ (b : Context). with_plane b.objects n.out2 planes.second) one
+        ∙ back_after first n n.out1 n.out2 planes.second runs_first_taken (runs_second n whole are can) (two_outputs n whole are can)
+
+    pub taken_then : IsInPlaneIf between.objects n.out2 planes.second
+    taken_then = subst (λ (b : Context). IsInPlaneIf b.objects n.out2 planes.second) (sym one) (taken_after first n n.out1 n.out2 planes.second taken.second (two_outputs n whole are can))
+
+    pub runs_then_taken : IfSome n.out2 (RunsTo (with_plane between.objects n.out2 planes.second) n)
+    runs_then_taken = subst (λ (l : List NamedObject). IfSome n.out2 (RunsTo l n)) (sym then) (runs_then n whole are can)
+
+    -- and after the second
+    module _ (after : Context) (two : after ≡ with_objects between (with_output_object (with_plane between.objects n.out2 planes.second) n Second n.out2)) where
+      both : after ≡ with_objects t (with_output_object (with_output_object whole n First n.out1) n Second n.out2)
+      both =
+          two
+          ∙ ap (λ (b : Context). with_objects b (with_output_object (with_plane between.objects n.out2 planes.second) n Second n.out2)) one
+          ∙ ap (λ (l : List NamedObject). with_objects t (with_output_object l n Second n.out2)) then
+
+      pub both_written : after ≡ with_objects t (with_written whole (written_by n (object_at whole)))
+      both_written = both ∙ ap (with_objects t) (sym (written_is n whole are can))
+
+      pub both_last : Lasts whole after.objects
+      both_last =
+          let names_whole = subst IsStrictlyIncreasing (sym (names-with_plane first n.out2 planes.second)) names_first in
+          subst (λ (c : Context). Lasts whole c.objects) (sym both) (Lasts-outputs n whole are can names_whole)
+
+-- ---- inputs
+
+pub reads : (objects : List NamedObject) (n : Node) (output : Reference) → RunsTo objects n output → HasInputs objects n
+reads objects n output h = record {
+  first = h.in1;
+  image = image_of_object (cell_object objects n.in1) h.runs.first_kind h.runs.first_is;
+  second = h.in2;
+  object = h.runs.second_is;
+  kind = h.runs.second_kind;
+}
+
+-- ---- an output image, whose samples are in a plane
 
 can_make : (n : Node) (which : Output) (first : ObjectValue) (second : Option ObjectValue) (out : ObjectValue) → RunsOn n first second out → object_kind out ≡ kind.Image
     → CanMake (lent_step n which) (image_value first) second (description_of (image_value out))
@@ -41,88 +86,60 @@ image_output : (n : Node) (which : Output) (first : ObjectValue) (second : Optio
 image_output n which (ImageObject a) second (ImageObject b) h i = refl
 image_output n which first second other h i = grind arith
 
-module _ (before : Context) (n : Node) (which : Output) (output : Reference) (h : RunsTo before.objects n output) where
+module _ (t : Context) (n : Node) (which : Output) (output : Reference) (p : PlaneValue) (taken : IsInPlane t.objects output p) (h : RunsTo (with_plane t.objects (Some output) (Some p)) n output) where
+  abbrev image : ImageValue
+  image = block_image p
+
+  -- the objects with the image
   abbrev l : List NamedObject
-  l = before.objects
+  l = with_object t.objects output (ImageObject image)
 
-  abbrev second : Option ObjectValue
-  second = option_map (cell_object l) n.in2
+  own : cell_object l output ≡ ImageObject image
+  own = object_after t.objects output (image_there t.objects output p taken) image
 
-  pub reads : HasInputs l n
-  reads = record {
-    first = h.in1;
-    image = image_of_object (cell_object l n.in1) h.runs.first_kind h.runs.first_is;
-    second = h.in2;
-    object = h.runs.second_is;
-    kind = h.runs.second_kind;
-  }
+  first_same : cell_object l n.in1 ≡ cell_object t.objects n.in1
+  first_same = object_elsewhere t.objects output n.in1 (ImageObject image) h.in1_apart
 
-  module _ (is_image : (parameters n.function).output ≡ kind.Image) where
-    out_kind : object_kind (cell_object l output) ≡ kind.Image
-    out_kind = h.runs.out_kind ∙ is_image
+  second_same : option_map (cell_object l) n.in2 ≡ option_map (cell_object t.objects) n.in2
+  second_same = object_if_elsewhere t.objects output n.in2 (ImageObject image) h.in2_apart
 
-    abbrev own : ImageValue
-    own = image_held l output
+  holds_beside : (cell : Option Reference) → IfSome cell (λ c. AreApart c output) → IfSome cell (Holds l) → IfSome cell (Holds t.objects)
+  holds_beside None apart held = tt
+  holds_beside (Some c) apart held = subst (λ (o : Option ObjectValue). IsTrue (is_some o)) (elsewhere t.objects output c (ImageObject image) apart) held
 
-    pub holds : HoldsImage l output
-    holds = holds_image l output h.out out_kind
-
-    pub own_whole : (p : PlaneValue) → p ≡ image_plane own → IsWhole p
-    own_whole p is = let image = image_of_object (cell_object l output) out_kind h.runs.out_is in subst IsWhole (sym is) (record { format = refl; top = refl; size = image.size; valid = image.room })
-
-    -- while its samples are in a plane
-    module _ (after : Context) (taken : after ≡ with_objects before (with_object l output (ImageObject (without_samples own)))) where
-      abbrev bare : ObjectValue
-      bare = ImageObject (without_samples own)
-
-      first_same : cell_object after.objects n.in1 ≡ cell_object l n.in1
-      first_same = ap (λ (t : Context). cell_object t.objects n.in1) taken ∙ object_elsewhere l output n.in1 bare h.in1_apart
-
-      second_same : option_map (cell_object after.objects) n.in2 ≡ second
-      second_same = ap (λ (t : Context). option_map (cell_object t.objects) n.in2) taken ∙ object_if_elsewhere l output n.in2 bare h.in2_apart
-
-      pub reads_elsewhere : HasInputs after.objects n
-      reads_elsewhere = record {
-        first = subst (λ (t : Context). HoldsImage t.objects n.in1) (sym taken) (image_elsewhere l output n.in1 bare h.in1_apart h.in1);
-        image = subst (λ (o : ObjectValue). IsImage (image_value o)) (sym first_same) reads.image;
-        second = subst (λ (t : Context). IfSome n.in2 (Holds t.objects)) (sym taken) (hold_elsewhere l output n.in2 bare h.in2_apart h.in2);
-        object = subst (λ (o : Option ObjectValue). IfSome o IsObject) (sym second_same) reads.object;
-        kind = subst (λ (o : Option ObjectValue). IfSome o (λ object. (parameters n.function).second_input ≡ Some (object_kind object))) (sym second_same) reads.kind;
+  pub reads_beside : HasInputs t.objects n
+  reads_beside =
+      let with_image = reads l n output h in
+      record {
+        first = sym (ap (option_map object_kind) (elsewhere t.objects output n.in1 (ImageObject image) h.in1_apart)) ∙ h.in1;
+        image = subst (λ (o : ObjectValue). IsImage (image_value o)) first_same with_image.image;
+        second = holds_beside n.in2 h.in2_apart h.in2;
+        object = subst (λ (o : Option ObjectValue). IfSome o IsObject) second_same with_image.object;
+        kind = subst (λ (o : Option ObjectValue). IfSome o (λ object. (parameters n.function).second_input ≡ Some (object_kind object))) second_same with_image.kind;
       }
 
-      pub can_make_elsewhere : (p : PlaneValue) → p ≡ image_plane own → CanMake (lent_step n which) (image_held after.objects n.in1) (option_map (cell_object after.objects) n.in2) p.desc
-      can_make_elsewhere p is =
-          subst (λ (q : PlaneValue). CanMake (lent_step n which) (image_held after.objects n.in1) (option_map (cell_object after.objects) n.in2) q.desc) (sym is)
-          (subst (λ (o : Option ObjectValue). CanMake (lent_step n which) (image_held after.objects n.in1) o (description_of own)) (sym second_same)
-          (subst (λ (o : ObjectValue). CanMake (lent_step n which) (image_value o) second (description_of own)) (sym first_same)
-          (can_make n which (cell_object l n.in1) second (cell_object l output) h.runs out_kind)))
+  pub can_make_beside : CanMake (lent_step n which) (image_held t.objects n.in1) (option_map (cell_object t.objects) n.in2) p.desc
+  can_make_beside =
+      subst (λ (o : Option ObjectValue). CanMake (lent_step n which) (image_held t.objects n.in1) o p.desc) second_same
+      (subst (λ (o : ObjectValue). CanMake (lent_step n which) (image_value o) (option_map (cell_object l) n.in2) p.desc) first_same
+      (can_make n which (cell_object l n.in1) (option_map (cell_object l) n.in2) (ImageObject image) (subst (RunsOn n (cell_object l n.in1) (option_map (cell_object l) n.in2)) own h.runs) refl))
 
-      pub stands : HoldsImage after.objects output
-      stands = subst (λ (t : Context). HoldsImage t.objects output) (sym taken) (image_after l output holds (without_samples own))
+  pub plane_whole : IsWhole p
+  plane_whole =
+      let is : IsImage image = subst IsObject own h.runs.out_is in
+      record { format = format_there t.objects output p taken; top = ap (λ (q : PlaneValue). q.top) taken.whole; size = is.size; valid = is.room }
 
-      -- and once it is back
-      module _ (p q : PlaneValue) (is : p ≡ image_plane own) (desc : q.desc ≡ p.desc) (format : q.format ≡ p.format) where
-        pub desc_back : q.desc ≡ description_of (image_held after.objects output)
-        desc_back =
-            desc
-            ∙ ap (λ (x : PlaneValue). x.desc) is
-            ∙ sym (ap (λ (t : Context). description_of (image_held t.objects output)) taken ∙ ap (λ (o : ObjectValue). description_of (image_value o)) (object_after l output holds (without_samples own)))
-
-        pub format_back : q.format ≡ q.desc.format
-        format_back = format ∙ ap (λ (x : PlaneValue). x.format) is ∙ sym (ap (λ (x : PlaneValue). x.desc.format) is) ∙ sym (ap (λ d. d.format) desc)
-
-        pub image_back : block_image q ≡ node_image n which p.desc.format (image_held after.objects n.in1) (second_or_output n (option_map (cell_object after.objects) n.in2) (ImageObject (block_image p)))
-            → (back : Context) → back ≡ with_objects after (with_object after.objects output (ImageObject (block_image q))) → back ≡ with_objects before (with_output_object l n which (Some output))
-        image_back made back put =
-            let written : ImageObject (block_image q) ≡ output_of l n which output =
-            ap (λ i. ImageObject i) made
-            ∙ ap (λ (x : PlaneValue). ImageObject (node_image n which x.desc.format (image_held after.objects n.in1) (second_or_output n (option_map (cell_object after.objects) n.in2) (ImageObject (block_image x))))) is
-            ∙ ap (λ (o : ObjectValue). ImageObject (node_image n which own.format (image_value o) (second_or_output n (option_map (cell_object after.objects) n.in2) (ImageObject own)))) first_same
-            ∙ ap (λ (o : Option ObjectValue). ImageObject (node_image n which own.format (image_held l n.in1) (second_or_output n o (ImageObject own)))) second_same
-            ∙ image_output n which (cell_object l n.in1) second (cell_object l output) h.runs.first_kind out_kind in
-            put
-            ∙ ap (λ (t : Context). with_objects t (with_object t.objects output (ImageObject (block_image q)))) taken
-            ∙ ap (with_objects before) (with_object_twice l output bare (block_image q) ∙ ap (with_object l output) written)
+  -- once the plane is written and its image is back
+  pub image_back : (q : PlaneValue) → block_image q ≡ node_image n which p.desc.format (image_held t.objects n.in1) (second_or_output n (option_map (cell_object t.objects) n.in2) (ImageObject image))
+      → (back : Context) → back ≡ with_objects t (with_object t.objects output (ImageObject (block_image q))) → back ≡ with_objects t (with_output_object l n which (Some output))
+  image_back q made back put =
+      let written : ImageObject (block_image q) ≡ output_of l n which output =
+      ap (λ i. ImageObject i) made
+      ∙ ap (λ (o : ObjectValue). ImageObject (node_image n which p.desc.format (image_value o) (second_or_output n (option_map (cell_object t.objects) n.in2) (ImageObject image)))) (sym first_same)
+      ∙ ap (λ (o : Option ObjectValue). ImageObject (node_image n which p.desc.format (image_held l n.in1) (second_or_output n o (ImageObject image)))) (sym second_same)
+      ∙ image_output n which (cell_object l n.in1) (option_map (cell_object l) n.in2) (ImageObject image) h.runs.first_kind refl
+      ∙ ap (node_output n which (cell_object l n.in1) (option_map (cell_object l) n.in2)) (sym own) in
+      put ∙ ap (with_objects t) (sym (with_object_twice t.objects output (ImageObject image) (block_image q)) ∙ ap (with_object l output) written)
 
 -- ---- an output that is a tally
 

@@ -14,3 +14,4 @@ pub mod Program
 pub mod Blocks
 pub mod Bound
 pub mod Schedule
+pub mod OutputPlanes

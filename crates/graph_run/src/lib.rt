@@ -1,6 +1,7 @@
 //! Runs nodes and graphs on a table of objects. OpenVX 1.3, "Graphs".
 //!
-//! - `run_once` runs a single node.
+//! - `lend_outputs` moves the output images of a single node to planes. `run_lent` then runs the
+//!   node. `return_outputs` moves the images back without a run.
 //! - `verify_in` verifies a graph.
 //! - `run` runs a verified graph.
 //! - `schedule_of` makes the schedule of a verified graph. `run_scheduled` runs the graph by its
@@ -11,6 +12,7 @@
 //!
 //! - `operand`: objects as operands
 //! - `once`: runs a single node
+//! - `output_planes`: planes for the output images of a single node
 //! - `verify`: the verdict on a graph, and an order in which its nodes can run
 //! - `runs`: runs a graph
 //! - `schedule`: the planes, slots, tasks, halos and bands of a run
@@ -34,6 +36,7 @@ pub mod examples;
 pub mod laws;
 mod once;
 mod operand;
+mod output_planes;
 mod runs;
 mod schedule;
 mod sizes;
@@ -44,8 +47,9 @@ mod verify;
 mod virtual_planes;
 mod workspace;
 
-pub use once::run_once;
+pub use once::run_lent;
 pub use operand::{operand_in, operand_of};
+pub use output_planes::{OutputPlanes, lend_outputs, return_outputs};
 pub use runs::{run, run_scheduled};
 pub use schedule::{Schedule, schedule_of};
 pub use verify::verify_in;

@@ -1,5 +1,5 @@
 //! Objects that a client holds.
-ghost use Rattle.std.specs.Prelude.{◌≡◌, ◌≤◌, ◌*◌, ◌==◌, not, if◌then◌else◌, IsTrue, [], is_some};
+ghost use Rattle.std.specs.Prelude.{◌≡◌, ◌≤◌, ◌*◌, ◌==◌, ◌↔◌, not, if◌then◌else◌, IsTrue, [], is_some};
 ghost use Rattle.std.specs.Prelude.{length, find, Some, IfOk, IfErr, OnOk, OnErr};
 ghost use Rattle.std.specs.Result.{is_err};
 ghost use Rattle.vx_base.specs.declared.kind.Kind.TheVariants as kind;
@@ -126,6 +126,18 @@ impl Object {
             (None, _) => true,
             (Some(k), Content::Delay(delay)) => delay.slot(k).is_ok(),
             (Some(_), _) => false,
+        }
+    }
+
+    /// Returns whether `image(slot)` returns an image: the object is a delay that has the slot, or
+    /// without a slot an image that isn't virtual.
+    pub fn has_image(&self, slot: Option<u8>) -> bool
+        ensures { IsTrue result ↔ HasImage slot self.now }
+    {
+        match (slot, &self.content) {
+            (None, Content::Image(_)) => true,
+            (Some(k), Content::Delay(delay)) => delay.slot(k).is_ok(),
+            _ => false,
         }
     }
 

@@ -1,5 +1,5 @@
 use Rattle.std.proofs.Common.{◌∙◌, ap, sym, subst}
-use Rattle.graph_run.proofs.Common.{First, ImageValue, IsImage, with_object, with_objects}
+use Rattle.graph_run.proofs.Common.{ImageValue, IsImage, with_object, with_objects}
 use Rattle.graph_steps.specs.declared.tally.Tally.{Tally}
 use Rattle.graph_steps.specs.Tallies.{tally_of}
 use Rattle.graph_run.specs.Bound.{IsTallyFor}
@@ -8,7 +8,7 @@ use Rattle.graph_run.proofs.OnceLemmas.{is_for, reads, tally_written}
 use Rattle.graph_run.proofs.once.reduce_to.Goals as goal
 
 pub image-requires-2 : goal.image-requires-2
-image-requires-2 c = subst IsImage (sym c.image.ensures) (reads c.args.table.now c.args.node.now First c.args.output c.requires.runs).image
+image-requires-2 c = subst IsImage (sym c.image.ensures) (reads c.args.table.now.objects c.args.node.now c.args.output c.requires.runs).image
 
 pub set_tally-requires : goal.set_tally-requires
 set_tally-requires c =
