@@ -42,8 +42,8 @@ written_among top rows image old =
     take ((rows.start - top) * image.width) old
     ++ (band image.width rows.start rows.count (pixel_at image) ++ drop ((rows.start - top + rows.count) * image.width) old)
 
--- the plane after these rows of an image are written to it; the plane gets the image's valid
--- rectangle
+-- the plane after these rows of an image are written to it; the plane then has these rows, and the
+-- image's valid rectangle
 abbrev pub with_rows : Band → ImageValue → PlaneValue → PlaneValue
 with_rows rows image p =
     record { desc = p.desc; valid = image.valid; top = p.top; rows = rows; format = p.format; samples = written_among p.top rows image p.samples }

@@ -45,7 +45,7 @@ impl<'a> ImageMut<'a> {
     }
 
     /// Returns an output over the samples of a band, one for each of the band's pixels, with an
-    /// empty valid rectangle. Kernels describe whole images, and only the band's rows are written.
+    /// empty valid rectangle. `desc` is of the whole image. A kernel writes only the band's rows.
     pub fn of_rows<T: Sample>(desc: Desc, rows: Band, samples: &'a mut [T]) -> ImageMut<'a>
         requires format { desc.format ≡ T.format }
         requires rows { IsInRows desc.height rows }

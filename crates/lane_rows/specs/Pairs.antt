@@ -20,7 +20,7 @@ abbrev pub sum_of_first : ℕ → (ℕ → ℤ) → ℤ
 sum_of_first zero g = pos 0
 sum_of_first (suc n) g = sum_of_first n g +ℤ g n
 
--- the sample at an index times a, plus the next sample times b
+-- `a` times the sample at an index, plus `b` times the next sample
 abbrev pub pair_at : List ℤ → ℤ → ℤ → ℕ → ℤ
 pair_at row a b p = slice_index_or row p (pos 0) *ℤ a +ℤ slice_index_or row (p + 1) (pos 0) *ℤ b
 

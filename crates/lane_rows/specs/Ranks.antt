@@ -1,6 +1,6 @@
 -- The choice from nine items, by choices between two items, and the median of nine items.
 
--- the choice from three items
+-- the item chosen from three; `op` chooses one of two items, such as the smaller
 abbrev pub chosen_of_three : {A : Type 0} → (A → A → A) → A → A → A → A
 chosen_of_three op a b c = op (op a b) c
 

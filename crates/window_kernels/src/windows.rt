@@ -87,8 +87,8 @@ impl<K> FromNine<'_, '_, K> {
         set_all(out, self.kernel.item(above, here, below));
     }
 
-    /// Writes the samples of row `y` to the right of column `x`, whose windows lie in valid
-    /// columns. The rows are read without a copy.
+    /// Writes to `out` the samples of row `y` from column `x` + 1 on. The windows of these samples
+    /// lie in valid columns. The rows are read without a copy.
     fn write_inside<T: Sample, S>(&self, x: u16, y: u16, scratch: &mut [S], out: &mut [T])
     where
         K: OfWindow<T, S>,
