@@ -29,8 +29,12 @@ impl OutputPlanes {
         ensures second { result.1 ≡ option_map (λ p. Image p.desc) self.now.second }
     {
         (
-            self.first.as_ref().map(|plane| Operand::Image(plane.desc())),
-            self.second.as_ref().map(|plane| Operand::Image(plane.desc())),
+            self.first
+                .as_ref()
+                .map(|plane| Operand::Image(plane.desc())),
+            self.second
+                .as_ref()
+                .map(|plane| Operand::Image(plane.desc())),
         )
     }
 }
