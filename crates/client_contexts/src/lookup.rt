@@ -16,7 +16,8 @@ ghost use Rattle.graph_verify.specs.Operand.{operands_of, is_virtual};
 ghost use Rattle.graph_run.specs.Operands.{operand_held};
 ghost use Rattle.client_model.specs.Operands.{is_kind, operands_refusal, image_of};
 ghost use Rattle.client_model.specs.States.{holds_operand};
-ghost use Rattle.client_contexts.specs.Lookup.{AreKnown, Found, IsNamed, IsImageOf, IsFound, IsKnown};
+ghost use Rattle.client_contexts.specs.Lookup.{AreKnown, Found, IsNamed, IsImageOf, IsFound};
+ghost use Rattle.client_contexts.specs.Lookup.{IsKnown};
 ghost use Rattle.client_contexts.specs.Steps.{refusal_in, name_refusal, is_outside, slot_refusal};
 ghost use Rattle.client_contexts.specs.Steps.{first_class, all_operands};
 

@@ -8,7 +8,8 @@ ghost use Rattle.buffer_plan.specs.Places.{plan_view};
 ghost use Rattle.buffer_plan.specs.Plan.{IsPlan};
 ghost use Rattle.graph_run.specs.Blocks.{band_plan, band_samples, blocks_of_format, block_size};
 ghost use Rattle.graph_run.specs.Blocks.{capacity_count, samples_from};
-ghost use Rattle.graph_run.specs.Slots.{slot_index_of, planned_capacities, capacities_for, slot_index};
+ghost use Rattle.graph_run.specs.Slots.{slot_index_of, planned_capacities, capacities_for};
+ghost use Rattle.graph_run.specs.Slots.{slot_index};
 
 use buffer_plan::Plan;
 use graph_verify::{Verified, VirtualOutput};

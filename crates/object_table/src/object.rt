@@ -1,5 +1,6 @@
 //! Objects that a client holds.
-ghost use Rattle.std.specs.Prelude.{◌≡◌, ◌≤◌, ◌*◌, ◌==◌, ◌↔◌, not, if◌then◌else◌, IsTrue, [], is_some};
+ghost use Rattle.std.specs.Prelude.{◌≡◌, ◌≤◌, ◌*◌, ◌==◌, ◌↔◌, not, if◌then◌else◌, IsTrue, []};
+ghost use Rattle.std.specs.Prelude.{is_some};
 ghost use Rattle.std.specs.Prelude.{length, find, Some, IfOk, IfErr, OnOk, OnErr};
 ghost use Rattle.std.specs.Result.{is_err};
 ghost use Rattle.vx_base.specs.declared.kind.Kind.TheVariants as kind;
