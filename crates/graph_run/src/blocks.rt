@@ -66,8 +66,9 @@ pub fn capacities_of(
 ) -> Result<Vec<(Format, usize)>, AllocError>
     requires slots { length demand.now.slots.now ≡ length demand.now.images.now }
     requires halos { length demand.now.images.now ≤ length demand.now.halos.now }
-    ensures { IfOk result (λ capacities. capacities.items ≡ planned_capacities (band_plan demand.now.size
-        demand.now.halos.now demand.now.images.now demand.now.slots.now (plan_view plan.now))) }
+    ensures { IfOk result (λ capacities. capacities.items ≡ planned_capacities (band_plan
+        demand.now.size demand.now.halos.now demand.now.images.now demand.now.slots.now
+        (plan_view plan.now))) }
 {
     let mut capacities = Vec::new(alloc);
     add_capacities(&mut capacities, plan, demand, Format::U8)?;

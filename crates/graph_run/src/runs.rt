@@ -118,7 +118,8 @@ pub fn run_scheduled(
 
     // The blocks of this run are free for the next run.
     ensures free { OnOk result ((format : SampleFormat) →
-        capacity_count schedule.now.capacities.items format ≤ free_count (free_of pool.new format)) }
+        capacity_count schedule.now.capacities.items format
+        ≤ free_count (free_of pool.new format)) }
 {
     prove_descriptions(verified);
     let (planes, blocks) = (&mut lists.planes, &mut lists.blocks);

@@ -5,8 +5,9 @@ ghost use Rattle.vx_base.specs.Picture.{values, samples_format};
 ghost use Rattle.pixel_pool.specs.Classes.{class_count, FitsIn};
 ghost use Rattle.pixel_pool.specs.Free.{HasCapacity, IsTrim, IsFewer, GetsFree};
 ghost use Rattle.pixel_pool.specs.Free.{LosesLargestFirst, LosesNoMore, free_count};
-ghost use Rattle.pixel_pool.specs.Pool.{lent_of, free_of, blocks_of, capacity_of, HasLent, LendsBlock};
-ghost use Rattle.pixel_pool.specs.Pool.{GetsBack, KeepsLent, KeepsBlockCounts, KeepsOtherFree};
+ghost use Rattle.pixel_pool.specs.Pool.{lent_of, free_of, blocks_of, capacity_of, HasLent};
+ghost use Rattle.pixel_pool.specs.Pool.{LendsBlock, GetsBack, KeepsLent, KeepsBlockCounts};
+ghost use Rattle.pixel_pool.specs.Pool.{KeepsOtherFree};
 
 use crate::block::Block;
 use crate::shelf::Shelf;
