@@ -33,7 +33,7 @@ class TestAll(unittest.TestCase):
                           "Pictures over a cluster": 1,
                           "Compare with a reference, and tolerate small shifts": 1,
                           "Find the regions of marks": 1, "Measure a part of a picture": 1,
-                          "Several recipes in one station": 1,
+                          "Several types of workpiece": 1,
                           "A live camera": 1, "A robot that survives the end of a server": 1,
                           "A background that follows the light": 1})
         self.assertEqual(len(programs_in("clients", "python", "README.md")[""]), 1)

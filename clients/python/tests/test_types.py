@@ -137,7 +137,7 @@ class TestTypes(unittest.TestCase):
         """Returns the recipe of the manual that another recipe calls."""
         first = "Compare with a reference, and tolerate small shifts"
         return programs_in("docs", "python.md")[first][0] if heading == (
-            "Several recipes in one station") else ""
+            "Several types of workpiece") else ""
 
 
 if __name__ == "__main__":

@@ -25,8 +25,8 @@ abbrev pub row_seen : Rectangle → Border → ℤ → Option ℕ
 row_seen valid border y =
     if int_le (pos valid.y0) y && int_lt y (pos valid.y1) then Some (unsigned_abs y) else border_row valid border y
 
--- the sample that a window reads in column x along the valid row `line`, or the border's sample if
--- column x is not valid
+-- the sample that a window reads in column x along the valid row `line`: the image's sample if
+-- column x is valid, else the border's
 abbrev pub seen_along : ImageValue → Border → ℕ → ℤ → ℤ
 seen_along image border line x =
     if int_lt x (pos image.valid.x0) then border_value border (pixel_at image image.valid.x0 line)

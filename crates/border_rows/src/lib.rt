@@ -4,8 +4,8 @@
 //!   the border's sample next to either end of the row.
 //! - `seen_around` returns the sample at a valid column with its left and right neighbours.
 //! - `load_row` writes part of a row, border included, as U8 or S16 numbers; a `RowWindow` holds
-//!   one whole row, border included, as U8. Both copy the valid samples as one block and then fill
-//!   in the border, so kernels need no special case for the border.
+//!   one whole row, border included, as U8. Both copy the valid samples and fill in the border's
+//!   samples on both sides, so kernels need no special case for the border.
 //! - `window_valid` returns the valid rectangle of a window function's output.
 #![tactic(auto)]
 

@@ -37,8 +37,8 @@ impl Model for RowWindow {
 }
 
 impl RowWindow {
-    /// Returns a row of this width and radius, whose samples are 0 until `load` is called, or an
-    /// error if there is no memory for it.
+    /// Returns a row of this width and radius, or an error if there is no memory for the row. The
+    /// samples are 0 until `load` is called.
     pub fn new(alloc: Global, width: u16, radius: u16) -> Result<RowWindow, AllocError>
         ensures width { IfOk result (λ made. made.width ≡ width) }
         ensures radius { IfOk result (λ made. made.radius ≡ radius) }
@@ -53,8 +53,8 @@ impl RowWindow {
         })
     }
 
-    /// Loads row `y` of a U8 image of this width, border included. The image has a valid pixel.
-    /// Allocates nothing.
+    /// Loads row `y` of a U8 image, border included. Allocates nothing. The caller has to pass an
+    /// image of this `RowWindow`'s width, with at least one valid pixel.
     pub fn load(&mut self, image: &Image<'_>, y: i32, border: Border)
         requires format { image.now.format ≡ U8 }
         requires width { self.old.width ≡ image.now.width }
@@ -70,7 +70,7 @@ impl RowWindow {
         load_row(image, 0, self.radius, y, border, samples);
     }
 
-    /// Returns the samples, the first one `radius` columns to the left of the image.
+    /// Returns the samples. The first one is `radius` columns to the left of the image.
     pub fn row(&self) -> &[u8]
         ensures value { map pos result.now ≡ self.now.samples }
         ensures len { length result.now ≡ self.now.width + 2 * self.now.radius }

@@ -11,7 +11,7 @@ use vx_base::Border;
 
 /// A number type into which rows are loaded: `u8` or `i16`.
 pub trait Loaded: Number {
-    /// Returns the sample in the number type.
+    /// Returns the sample, converted to this number type.
     fn loaded(sample: u8) -> Self
         ensures { Self.value result ≡ pos sample };
 }
@@ -82,8 +82,8 @@ fn load_between<T: Loaded>(left: u8, before: usize, samples: &[u8], right: u8, o
     set_all(back, T::loaded(right));
 }
 
-/// Writes the samples that a window reads along the valid row `line`, from column `start - radius`
-/// on.
+/// Fills `out` with the samples that a window reads along row `line`, which is valid, from column
+/// `start - radius` on.
 fn load_line<T: Loaded>(
     image: &Image<'_>,
     start: u16,
@@ -114,8 +114,8 @@ fn load_line<T: Loaded>(
     load_between(left, before, samples, right, out);
 }
 
-/// Writes the samples that a window reads in row `y` of a U8 image, from column `start - radius`
-/// on. The image has a valid pixel.
+/// Fills `out` with the samples that a window reads in row `y` of a U8 image, from column
+/// `start - radius` on. The caller has to pass an image with at least one valid pixel.
 pub fn load_row<T: Loaded>(
     image: &Image<'_>,
     start: u16,
@@ -137,8 +137,9 @@ pub fn load_row<T: Loaded>(
 }
 
 /// Returns the samples that a window reads in row `y` of a U8 image, at `count` valid columns from
-/// column `x` on. They are the image's own samples, without a copy. If the window reads no valid
-/// row for row `y`, they are part of `off_rows`, whose samples all have the border's value.
+/// column `x` on. The result borrows the image's samples, without a copy. If the window reads no
+/// valid row for row `y`, the result borrows part of `off_rows`. The caller has to pass at least
+/// `count` samples in `off_rows`, all with the border's value.
 pub fn row_in_place<'a>(
     image: &'a Image<'_>,
     x: u16,
@@ -163,7 +164,8 @@ pub fn row_in_place<'a>(
     }
 }
 
-/// Returns what a window reads along a valid row in the column to the left of column `x`.
+/// Returns the sample that a window reads along the valid row `line`, in the column to the left of
+/// column `x`.
 fn sample_before(image: &Image<'_>, x: u16, line: u16, border: Border) -> u8
     requires format { image.now.format ≡ U8 }
     requires line { line < image.now.valid.y1 }
@@ -181,7 +183,8 @@ fn sample_before(image: &Image<'_>, x: u16, line: u16, border: Border) -> u8
 }
 
 /// Returns three samples that a window reads in row `y` of a U8 image: at the columns `x - 1`, `x`
-/// and `x + 1`. Column `x` is valid.
+/// and `x + 1`. The caller has to pass a valid column `x`, and an image with at least one valid
+/// row.
 pub fn seen_around(image: &Image<'_>, x: u16, y: i32, border: Border) -> (u8, u8, u8)
     requires format { image.now.format ≡ U8 }
     requires rows { image.now.valid.y0 < image.now.valid.y1 }

@@ -39,7 +39,7 @@ TakesSlot l ends ends' slot =
     ⊎ ((slot ≡ length ends) × (ends' ≡ ends ++ l.last ∷ [])
     × ((k : ℕ) → k < length ends → l.first ≤ slice_index_or ends k 0))
 
--- no image that is live together with p has p's slot
+-- no image of the list has p's slot if the image and p are live at the same step
 abbrev pub IsApart : Placed → List Placed → Type 0
 IsApart p ps = (q : Placed) (step : ℕ) → In q ps → is_in step p.life ≡ true →
     is_in step q.life ≡ true → p.slot ≢ q.slot

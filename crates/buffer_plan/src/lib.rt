@@ -1,11 +1,11 @@
 //! Plans of buffers for the virtual images of a graph. Images that are never live together can
 //! share a buffer.
 //!
-//! A virtual image is live from the step that writes it to the last step that reads it. Images of
-//! one format can share a buffer, called a *slot*, if no two of them are live at the same step. A
-//! `Plan` gives a slot to each virtual image that a verified graph writes. No plan for the verified
-//! graph's order of nodes has fewer slots of a format. `peak_step` returns the first step that
-//! needs all slots of a format.
+//! A virtual image is live from the step that writes it to the last step that reads or writes it.
+//! Images of one format can share a buffer, called a *slot*, if no two of them are live at the same
+//! step. A `Plan` gives a slot to each virtual image that a verified graph writes. For the verified
+//! graph's order of nodes, no plan has fewer slots of any format. `peak_step` returns the first
+//! step that needs all slots of a format.
 //!
 //! - `lives`: the first and the last step at which each image is live
 //! - `slots`: the assignment of the images of one format

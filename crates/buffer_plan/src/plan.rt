@@ -17,7 +17,8 @@ use graph_verify::Verified;
 use std::alloc::{AllocError, Global};
 use vx_base::{Format, ObjRef};
 
-/// A slot for each virtual image of a verified graph. The slots of each format are counted from 0.
+/// A slot for each virtual image that a verified graph's nodes write. The slots of each format are
+/// counted from 0.
 #[derive(Drop)]
 pub struct Plan {
     u8s: Places,
@@ -54,8 +55,8 @@ impl Plan {
         }
     }
 
-    /// Returns the slot of a virtual image; the slots of each format are counted from 0. `None`:
-    /// the operand isn't virtual, or no node of the graph writes it.
+    /// Returns the slot of a virtual image; the slots of each format are counted from 0. Returns
+    /// `None` if the operand isn't virtual, or no node of the graph writes it.
     pub fn slot_of(&self, cell: ObjRef) -> Option<usize>
         ensures { result ≡ (plan_view self.now).slot_of cell }
     {

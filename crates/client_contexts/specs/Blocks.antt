@@ -9,7 +9,8 @@ use Rattle.client_model.specs.Limits.{LimitsValue}
 use Rattle.client_model.specs.States.{KeepsLimits}
 use Rattle.client_contexts.specs.World.{ClientContext}
 
--- the number of blocks of a format that hold samples of the clients' images: one for each image and each slot of a delay
+-- the number of blocks of a format that hold samples of the clients' images: one for each image and
+-- each slot of a delay
 abbrev pub clients_blocks : List (ℕ × ClientContext) → Format → ℕ
 clients_blocks contexts format = sum_by (λ c. blocks_in c.1.context.objects format) contexts
 

@@ -18,8 +18,8 @@ use Rattle.client_contexts.specs.Lookup.{refusal_for}
 use Rattle.client_contexts.specs.World.{World}
 use Rattle.client_contexts.specs.Applies.{Applies, AppliesToKept, IsAnswered}
 
--- `fills` is the effect of a call of fill. Its arguments are the source before and after, the format
--- of the samples, the samples after, and the result.
+-- `fills` is the effect of a call of fill. The arguments of `fills` are the source before and
+-- after, the format of the samples, the samples after, and the result.
 module _ {S E : Type 0} (fills : S → S → Format → List ℤ → Result ⊤ E → Type 0) (d : Description) (old new : S) where
   -- p has this description, and its samples are those that the source gave, or any samples if the
   -- source failed
@@ -28,7 +28,7 @@ module _ {S E : Type 0} (fills : S → S → Format → List ℤ → Result ⊤ 
     pub size : length p.samples ≡ sample_count d
     pub came : fills old new d.format p.samples result
 
-  -- a picture that the source gave is written to a client's image, as by a WriteImage
+  -- a picture that the source gave is written to a client's image, as WriteImage writes it
   abbrev pub WritesReadPicture : ℕ → Reference → World → World → Type 0
   WritesReadPicture client cell before after =
       (p : PictureValue) × IsRead p (Ok tt)

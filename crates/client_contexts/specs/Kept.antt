@@ -22,7 +22,7 @@ use Rattle.client_contexts.specs.declared.kept.KeptGraph.{KeptGraph}
 use Rattle.client_contexts.specs.declared.memory.NoMemory.{NoMemory}
 
 -- A valid cache entry under a name. If a graph is held under the name, the entry has the graph's
--- verification. No verdict refuses this graph within the entry's quota of work bytes. The plan
+-- verification. No verdict refuses this graph within the entry's limit on work bytes. The plan
 -- gives slots to the virtual images, for a run in the order of the verified steps. The schedule
 -- fits a run on the objects that the nodes name.
 pub record IsKept (c : Context) (name : ℕ) (k : KeptGraph) : Type 0 where
@@ -36,7 +36,7 @@ pub record IsKept (c : Context) (name : ℕ) (k : KeptGraph) : Type 0 where
 abbrev pub AreKept : Context → List (ℕ × KeptGraph) → Type 0
 AreKept c kept = All (λ k. IsKept c k.0 k.1) kept
 
--- the quota of work bytes with which a graph was verified, if the graph is in the cache
+-- the limit on work bytes with which a graph was verified, if the graph is in the cache
 abbrev pub kept_within : ℕ → List (ℕ × KeptGraph) → Option ℕ
 kept_within graph kept = option_map (λ k. k.work) (lookup (is_at (nat_cmp graph)) kept)
 
@@ -56,16 +56,17 @@ forgotten_by other kept = kept
 
 -- ---- the visible part of the cache
 
--- the names of the graphs in the cache, each with the quota of work bytes with which the graph was
+-- the names of the graphs in the cache, each with the limit on work bytes with which the graph was
 -- verified
 abbrev pub verified_in : List (ℕ × KeptGraph) → List (ℕ × ℕ)
 verified_in kept = map (λ k. (k.0, k.1.work)) kept
 
--- the graph is in the cache, verified with this quota of work bytes
+-- the graph is in the cache, verified with this limit on work bytes
 abbrev pub IsKeptWithin : ℕ → ℕ → List (ℕ × ℕ) → Type 0
 IsKeptWithin work graph verified = lookup (is_at (nat_cmp graph)) verified ≡ Some work
 
--- each graph that was in the cache with this quota still is
+-- each graph that was in the old cache with this limit on work bytes is in the new cache with the
+-- same limit
 abbrev pub StayKept : ℕ → List (ℕ × ℕ) → List (ℕ × ℕ) → Type 0
 StayKept work old new = (graph : ℕ) → IsKeptWithin work graph old → IsKeptWithin work graph new
 

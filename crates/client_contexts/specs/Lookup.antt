@@ -1,4 +1,4 @@
--- The lookup of objects in a context, by reference, by name, and by the operands of a node.
+-- The lookup of objects in a context, by reference or by name, and of the operands of nodes.
 use Rattle.std.specs.Prelude.{ℕ, ◌≡◌, IsTrue, is_some, List, [], ◌∷◌, Option, Some, None, IfSome, IsSomeAnd, Result, Ok, Err}
 use Rattle.vx_base.specs.declared.kind.Kind.{Kind}
 use Rattle.vx_base.specs.declared.kind.Kind.TheVariants as kind
@@ -18,7 +18,7 @@ use Rattle.client_model.specs.declared.refusal.Refusal.{Refusal}
 use Rattle.client_model.specs.Images.{picture_refusal}
 use Rattle.client_model.specs.Operands.{stands_for, operands_refusal, image_of}
 
--- the reference names this object, and the reference's slot exists and is of the wanted kind; a
+-- the reference names this object, and the reference's cell exists and is of the wanted kind; a
 -- virtual image counts as an image
 pub record Found (objects : List NamedObject) (cell : Reference) (wanted : Kind) (object : ObjectValue) : Type 0 where
   pub live : object_named objects cell.name ≡ Some object
@@ -61,17 +61,17 @@ refusal_for (Ok image) d = picture_refusal (description_of image) d
 abbrev pub IsFound : List NamedObject → Reference × Kind → Type 0
 IsFound objects operand = (object : ObjectValue) × (object_at objects operand.0 ≡ Some object) × IsTrue (stands_for (object_kind object) operand.1)
 
--- a lookup gives this operand of a reference and a kind, and no refusal
+-- the lookup of a reference, with the kind that is expected, gives this operand and no refusal
 pub record IsLookup (objects : List NamedObject) (scope : Option ℕ) (cell : Reference × Kind) (operand : Operand) : Type 0 where
   pub held : operand ≡ operand_held objects cell.0
   pub found : IsFound objects cell
   pub allowed : operands_refusal scope objects (cell ∷ []) ≡ None
 
--- an operand that is known without a lookup, if there is one, is that of a reference that is given
+-- if an operand is known, then the reference is given and its lookup gives this operand
 abbrev pub IsKnown : List NamedObject → Option ℕ → Kind → Option Reference → Option Operand → Type 0
 IsKnown objects scope wanted cell operand = IfSome operand (λ o. IsSomeAnd cell (λ c. IsLookup objects scope (c, wanted) o))
 
--- the operands of a node's outputs that are known without a lookup
+-- the known operands of a node's outputs, if any, are those that lookups of these outputs give
 pub record AreKnown (objects : List NamedObject) (scope : Option ℕ) (n : Node) (known : Option Operand × Option Operand) : Type 0 where
   pub first : IsKnown objects scope (parameters n.function).output n.out1 known.0
   pub second : IsKnown objects scope (parameters n.function).output n.out2 known.1

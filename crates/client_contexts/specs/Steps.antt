@@ -7,7 +7,6 @@ use Rattle.graph_verify.specs.declared.operand.Operand.{Operand}
 use Rattle.graph_verify.specs.Operand.{other_operands}
 use Rattle.graph_verify.specs.declared.fault.GraphFault.{GraphFault}
 use Rattle.graph_verify.specs.declared.fault.GraphFault.TheVariants as graph
-use Rattle.graph_verify.specs.declared.verdict.Verdict.{Verdict}
 use Rattle.graph_verify.specs.declared.verified.VerifyFault.{VerifyFault}
 use Rattle.graph_verify.specs.declared.verified.VerifyFault.TheVariants as verified
 use Rattle.pgm_images.specs.declared.fault.PgmFault.{PgmFault}
@@ -35,13 +34,14 @@ use Rattle.client_model.specs.Operands.{is_kind, is_of_other_graph}
 abbrev pub IsContext : Context → Type 0
 IsContext c = (limits : LimitsValue) × KeepsLimits limits c
 
--- a context still keeps all limits that it kept before
+-- the new context keeps all limits that the old context keeps
 abbrev pub Keeps : Context → Context → Type 0
 Keeps old new = (limits : LimitsValue) → KeepsLimits limits old → KeepsLimits limits new
 
 -- ---- results
 
--- a method that takes no memory has this outcome: its reply and the new context, or a refusal that leaves the context unchanged
+-- a method that takes no memory has this outcome: its reply and the new context, or a refusal that
+-- leaves the context unchanged
 pub record ComesTo (outcome : Outcome) (old new : Context) (result : Result Reply Refusal) : Type 0 where
   pub done : IfOk result (λ reply. outcome ≡ Ok (reply, Some new))
   pub refused : IfErr result (λ refusal. outcome ≡ Err refusal)
@@ -52,7 +52,8 @@ abbrev pub SaysWhy : Outcome → RequestFault → Type 0
 SaysWhy outcome (Refused refusal) = outcome ≡ Err refusal
 SaysWhy outcome NoMemory = ⊤
 
--- a method that may take memory has this outcome, or finds no memory and leaves the context unchanged
+-- a method that may take memory has this outcome, or finds no memory and leaves the context
+-- unchanged
 pub record MayComeTo (outcome : Outcome) (old new : Context) (result : Result Reply RequestFault) : Type 0 where
   pub done : IfOk result (λ reply. outcome ≡ Ok (reply, Some new))
   pub refused : IfErr result (SaysWhy outcome)
@@ -64,7 +65,8 @@ client_result (Ok r) = Ok r
 client_result (Err (Refused refusal)) = Ok (reply.Refused (refusal_code refusal))
 client_result (Err NoMemory) = Err (record {})
 
--- only a request that takes memory has the fault NoMemory. `takes` says that the request takes memory
+-- only a request that takes memory has the fault NoMemory. `takes` says that the request takes
+-- memory
 abbrev pub WantsMemory : RequestFault → Type 0 → Type 0
 WantsMemory (Refused refusal) takes = ⊤
 WantsMemory NoMemory takes = takes
@@ -74,7 +76,7 @@ abbrev pub text_fault : PgmFault → RequestFault
 text_fault fault.NoMemory = NoMemory
 text_fault other = Refused (fault_refusal other)
 
--- the fault of an object that can't be added, or of a name that isn't live
+-- the fault of a request for which a call on the object table fails
 abbrev pub table_fault : TableFault → RequestFault
 table_fault table.NoMemory = NoMemory
 table_fault table.InvalidReference = Refused InvalidReference
@@ -91,12 +93,6 @@ graph_fault graph.InvalidReference = Refused InvalidReference
 abbrev pub verify_fault : VerifyFault → RequestFault
 verify_fault verified.NoMemory = NoMemory
 verify_fault (verified.Refused verdict) = Refused (Rejected verdict)
-
--- the fault is NoMemory, or a refusal by a verdict with this property
-abbrev pub IfRejected : RequestFault → (Verdict → Type 0) → Type 0
-IfRejected NoMemory P = ⊤
-IfRejected (Refused (Rejected verdict)) P = P verdict
-IfRejected (Refused other) P = ⊥
 
 -- ---- operands
 
@@ -123,8 +119,8 @@ slot_refusal wanted scope slot object =
     else (if is_outside scope (in_slot slot object) then Some InvalidScope
     else (if is_none (in_slot slot object) then Some InvalidValue else None))
 
--- of two refusals of operands, the one whose class comes first; the order of the classes is names,
--- kinds, scopes, slots
+-- of two refusals of operands, the one that comes first in this order: InvalidReference,
+-- InvalidType, InvalidScope, InvalidValue
 abbrev pub first_class : Option Refusal → Option Refusal → Option Refusal
 first_class None other = other
 first_class one None = one

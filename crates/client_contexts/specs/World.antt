@@ -8,7 +8,7 @@ use Rattle.object_table.specs.Context.{Context}
 use Rattle.client_model.specs.Limits.{LimitsValue}
 use Rattle.client_model.specs.Context.{State}
 
--- an open context, and the names of the graphs in its cache, each with the quota of work bytes with
+-- an open context, and the names of the graphs in its cache, each with the limit on work bytes with
 -- which the graph was verified. The model's replies and states don't depend on the cache.
 pub record ClientContext : Type 0 where
   pub context : Context
@@ -23,7 +23,7 @@ pub record World : Type 0 where
 abbrev pub state_of : ℕ → World → State
 state_of client world = option_map (λ o. o.context) (lookup (is_at (nat_cmp client)) world.contexts)
 
--- the graphs in a client's cache, each with its quota of work bytes; none if the client has no
+-- the graphs in a client's cache, each with its limit on work bytes; none if the client has no
 -- context
 abbrev pub verified_of : ℕ → World → List (ℕ × ℕ)
 verified_of client world = unwrap_or (option_map (λ o. o.verified) (lookup (is_at (nat_cmp client)) world.contexts)) []

@@ -132,7 +132,7 @@ impl Client {
                 *graph,
             ),
             _ => {
-                // The laws of requests need the fact that this call states.
+                // The prover learns from this call that the request's fields are in range.
                 request.prove_request();
                 let reply = answer(&mut self.table, pool, limits, alloc, request)?;
                 forget(&mut self.kept, request);
@@ -163,7 +163,7 @@ impl Client {
             self.old.context.objects self.new.context.objects }
         ensures verified { self.new.verified ≡ self.old.verified }
     {
-        // The laws of requests need the fact that this call states.
+        // The prover learns from this call that the reference's name and slot are in range.
         reference.prove_reference();
         write_from(&mut self.table, pool, reference, desc, source)
     }
@@ -183,12 +183,12 @@ impl Client {
             self.old.context.objects self.new.context.objects }
         ensures verified { self.new.verified ≡ self.old.verified }
     {
-        // The laws of requests need the fact that this call states.
+        // The prover learns from this call that the reference's name and slot are in range.
         reference.prove_reference();
         write_text(&mut self.table, pool, reference, text)
     }
 
-    /// Returns the image that a reference names. Refused: the reference names no image with
+    /// Returns the image that a reference names. Refused if the reference names no image with
     /// samples.
     pub fn image(&self, reference: ObjRef) -> Result<&Stored, Refusal>
         requires { IsContext self.now.context }
@@ -201,7 +201,7 @@ impl Client {
         find_image(&self.table, reference)
     }
 
-    /// Returns the U8 image that a reference names. Refused: the reference names no U8 image with
+    /// Returns the U8 image that a reference names. Refused if the reference names no U8 image with
     /// samples.
     pub fn text_image(&self, reference: ObjRef) -> Result<&Stored, Refusal>
         requires { IsContext self.now.context }

@@ -91,8 +91,8 @@ pub fn remove_node(
 /// Verifies a graph. OpenVX 1.3, "Object: Graph", vxVerifyGraph. A graph that can't run is refused
 /// with its verdict.
 ///
-/// The result stays in the cache until the graph's nodes change. Until then, the same request with
-/// the same quota of work bytes verifies nothing and allocates nothing.
+/// The result stays in the cache until the graph's nodes change or its name is released. Until
+/// then, the same request with the same limit on work bytes verifies nothing and allocates nothing.
 pub fn verify_graph(
     table: &Table,
     kept: &mut BTreeMap<u32, KeptGraph>,
@@ -132,7 +132,7 @@ pub fn verify_graph(
     }
 }
 
-/// Returns whether a graph is in the cache `kept`, verified with this quota of work bytes.
+/// Returns whether a graph is in the cache `kept`, verified with this limit on work bytes.
 fn is_kept(kept: &BTreeMap<u32, KeptGraph>, graph: u32, work: u64) -> bool
     ensures kept { result ≡ true → kept_within graph kept.now.entries ≡ Some work }
     ensures other { result ≡ false → kept_within graph kept.now.entries ≢ Some work }
@@ -144,8 +144,8 @@ fn is_kept(kept: &BTreeMap<u32, KeptGraph>, graph: u32, work: u64) -> bool
 }
 
 /// Runs a graph, and then ages the delays that are registered with it. OpenVX 1.3, "Object: Graph",
-/// vxProcessGraph. A graph that can't run is refused as by `verify_graph`. `lists` may come from a
-/// run of any graph.
+/// vxProcessGraph. A graph that can't run is refused with its verdict. The run reuses the memory of
+/// `lists`, which earlier runs of any graph may have used.
 pub fn process_graph(
     table: &mut Table,
     kept: &mut BTreeMap<u32, KeptGraph>,

@@ -1,5 +1,6 @@
-//! Requests that create and query images, write and read their samples, also as PGM texts, and set
-//! valid rectangles. OpenVX 1.3, "Object: Image". Writes from a source or a text are in `incoming`.
+//! Requests that create, query, write and read images, and set valid rectangles. OpenVX 1.3,
+//! "Object: Image". Samples are read as a picture or as a PGM text. Writes from a source or a PGM
+//! text are in `incoming`.
 #![tactic(auto, using(crate::proofs::OutcomeLemmas::image_steps))]
 
 ghost use Rattle.std.specs.Prelude.{◌≡◌, Some, Ok, Err, IfOk, IfErr, OnOk};
@@ -135,8 +136,8 @@ pub fn read_image(table: &Table, alloc: Global, reference: ObjRef) -> Result<Rep
     Ok(Reply::Picture(image.picture(alloc)?))
 }
 
-/// Returns the U8 image that a reference names, for ReadImagePgm. Refused: the reference names no
-/// image with samples, or the image has another format.
+/// Returns the U8 image that a reference names, for ReadImagePgm. Refused if the reference names no
+/// image with samples, or if the image has another format.
 pub fn find_text_image(table: &Table, reference: ObjRef) -> Result<&Stored, Refusal>
     requires { IsContext table.now }
     ensures ok { IfOk result (λ image. read_text table.now reference

@@ -38,7 +38,7 @@ pub fn run_at_once(table: &mut Table, node: NodeSpec) -> Result<Reply, Refusal>
 }
 
 /// Checks that a node can run immediately: its operands are found, none of them is a virtual image,
-/// and no verdict refuses the node. Operands of outputs that are known aren't looked up.
+/// and no verdict refuses the node. An output whose operand is in `known` isn't looked up.
 fn check_node(
     table: &Table,
     node: &Node,

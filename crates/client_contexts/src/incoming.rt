@@ -79,8 +79,8 @@ pub fn write_text(
     written
 }
 
-/// Takes a block for the samples of a picture, with any contents. If there is no memory for the
-/// block, drops the free blocks and tries once more.
+/// Takes a block for the samples of a picture. The block may have any contents. If there is no
+/// memory for the block, drops the free blocks and tries once more.
 fn take_block(pool: &mut Pool, desc: Desc) -> Result<Block, AllocError>
     ensures described { IfOk result (Describes desc) }
     ensures lends { OnOk result (Lends pool.old pool.new desc.format) }
@@ -149,7 +149,7 @@ fn give_text(
 }
 
 /// Swaps the memory of a block with that of an image. The image then has the block's samples, and
-/// all of it is valid.
+/// the whole image is valid.
 fn exchange(table: &mut Table, reference: ObjRef, desc: Desc, block: &mut Block)
     requires context { IsContext table.old }
     requires image { IsImageFor table.old.objects reference desc }

@@ -11,7 +11,7 @@ use graph_verify::Verified;
 use std::collections::BTreeMap;
 
 /// A verified graph: its nodes in order, the slots of its virtual images, and the schedule of a
-/// run. `work` is the quota of work bytes with which the graph was verified. All fields are valid
+/// run. `work` is the limit on work bytes with which the graph was verified. All fields are valid
 /// until the graph's nodes change.
 #[derive(Drop)]
 pub struct KeptGraph {

@@ -8,7 +8,7 @@ ghost use Rattle.client_contexts.specs.Calls.{Call, Does, Lead};
 ghost use Rattle.client_contexts.specs.Kept.{ends_verification};
 ghost use Rattle.client_contexts.specs.World.{World};
 
-/// After VerifyGraph of a graph has succeeded, VerifyGraph of the same graph never fails for want
+/// After VerifyGraph of a graph has succeeded, VerifyGraph of the same graph never fails for lack
 /// of memory. Whatever other clients request, this holds until the client changes the graph's
 /// nodes, or releases the graph or the context.
 pub fn verified_once()

@@ -5,8 +5,8 @@
 //! don't change, so no client can see or change another client's objects.
 //!
 //! Each client has a cache of verified graphs. A graph enters the cache when it is verified or
-//! runs, and stays until its nodes change or its name or context is released. While a graph is in
-//! the cache, VerifyGraph of this graph takes no memory.
+//! runs. The graph stays there until its nodes change, or its name or context is released. While a
+//! graph is in the cache, VerifyGraph of this graph takes no memory.
 //!
 //! More methods move samples without a copy: `write_from` reads a picture from a source,
 //! `write_text` reads one from a PGM text, and `image` and `text_image` lend an image to the
@@ -14,12 +14,12 @@
 //! does.
 //!
 //! A client's objects are named 1, 2, .. in the order of their creation. A client holds at most
-//! 1,024 objects, and its images are charged against its quota. Nodes read their inputs in place.
-//! An object that a node uses stays held after its name is released. A run of a graph allocates all
-//! its memory before it changes anything.
+//! 1,024 objects, and its images are charged against its quota. Nodes read their input images
+//! without copying them. An object that a node uses stays held after its name is released. A run of
+//! a graph allocates all its memory before it changes anything.
 //!
 //! - `memory`, `fault`: the faults of requests
-//! - `lookup`: finds objects by reference, by name, and by the operands of a node
+//! - `lookup`: finds objects by reference or by name, and the operands of nodes
 //! - `new_objects`: checks the limits on new objects, and inserts the objects
 //! - `images`: creates, queries, writes and reads images, and sets valid rectangles
 //! - `objects`: releases objects of any kind
@@ -35,7 +35,7 @@
 //!   context
 //! - `runtime`: all clients, and the pool for the samples of their images; opens and releases
 //!   contexts
-//! - `laws`: VerifyGraph of a graph in the cache never fails for want of memory
+//! - `laws`: VerifyGraph of a graph in the cache never fails for lack of memory
 #![tactic(auto)]
 
 mod client;

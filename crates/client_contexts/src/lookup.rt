@@ -1,4 +1,4 @@
-//! Finds objects by reference, by name, and by the operands of a node.
+//! Finds objects by reference or by name, and the operands of nodes.
 #![tactic(auto, using(crate::proofs::LookupLemmas::refusal_steps))]
 
 ghost use Rattle.std.specs.Prelude.{◌≡◌, ◌∷◌, [], is_some, Some, Ok, Err, IsTrue, All, IfOk, IfErr};
@@ -46,8 +46,8 @@ fn is_kind(wanted: Kind, kind: Option<Kind>) -> bool
     }
 }
 
-/// Returns whether an object is outside a scope: a virtual image of a graph other than the scope's.
-/// Without a scope, no object is outside.
+/// Returns whether an object is outside the scope of a graph: the object is a virtual image of
+/// another graph. `scope` is the graph's name. Without a scope, no object is outside.
 fn is_outside(object: &Object, slot: Option<u8>, scope: Option<u32>) -> bool
     ensures { result ≡ is_outside scope (in_slot slot object.now) }
 {
@@ -77,8 +77,9 @@ fn slot_refusal(
     }
 }
 
-/// Returns the object that a reference names, if the reference's slot exists and is of the wanted
-/// kind. In the scope of a graph, a virtual image must belong to that graph.
+/// Returns the object that a reference names. The reference's cell, which is this object or one of
+/// its slots, must exist and be of the wanted kind. In the scope of a graph, a virtual image must
+/// belong to that graph.
 pub fn find(
     table: &Table,
     reference: ObjRef,
@@ -98,8 +99,8 @@ pub fn find(
     }
 }
 
-/// Returns the object with this name. Refused: the name isn't live, or its object is of another
-/// kind.
+/// Returns the object with this name. Refused if the name isn't live, or if its object is of
+/// another kind.
 pub fn find_named(table: &Table, name: u32, kind: Kind) -> Result<&Object, Refusal>
     ensures ok { IfOk result (λ object. IsNamed table.now.objects name kind object.now) }
     ensures err { refusal_in result ≡ name_refusal kind (object_named table.now.objects name) }
@@ -165,8 +166,8 @@ fn find_if_given(
     }
 }
 
-/// Returns the one of two refusals whose class comes first. The order of the classes is: names,
-/// kinds, scopes, slots.
+/// Returns whichever of two refusals comes first in this order: InvalidReference, InvalidType,
+/// InvalidScope, InvalidValue.
 fn first_class(one: Refusal, other: Refusal) -> Refusal
     ensures { Some result ≡ first_class (Some one) (Some other) }
 {
@@ -180,7 +181,8 @@ fn first_class(one: Refusal, other: Refusal) -> Refusal
     }
 }
 
-/// Returns both values, or a refusal. Of two refusals, the one whose class comes first is returned.
+/// Returns both values, or a refusal. Of two refusals, returns the one that comes first in the
+/// order of `first_class`.
 fn both<A: Drop, B: Drop>(
     one: Result<A, Refusal>,
     other: Result<B, Refusal>,
@@ -195,7 +197,8 @@ fn both<A: Drop, B: Drop>(
     }
 }
 
-/// Returns the operand of a node's output: the known operand, or as `find_if_given` does.
+/// Returns the operand of a node's output: `known` if given, otherwise the operand that
+/// `find_if_given` returns.
 fn find_output(
     table: &Table,
     cell: Option<ObjRef>,
@@ -227,8 +230,8 @@ pub fn find_operands(table: &Table, node: &Node, scope: Option<u32>) -> Result<O
     find_unknown_operands(table, node, scope, (None, None))
 }
 
-/// Returns a node's operands as `find_operands` does. `known` are operands of the outputs that need
-/// no lookup.
+/// Returns a node's operands as `find_operands` does. An output whose operand is in `known` isn't
+/// looked up.
 pub fn find_unknown_operands(
     table: &Table,
     node: &Node,
@@ -257,7 +260,8 @@ pub fn find_unknown_operands(
 }
 
 /// Checks that a node can be added to a graph: the graph exists, and each operand of the node is
-/// found in the graph's scope. Of several refusals, the one whose class comes first is returned.
+/// found in the graph's scope. Of several refusals, returns the one that comes first in the order
+/// of `first_class`.
 pub fn find_graph_for(table: &Table, graph: u32, node: &Node) -> Result<(), Refusal>
     ensures ok { OnOk result (IsTrue (is_some (object_named table.now.objects graph)) ×
         IsUnder table.now.objects kind.Graph graph) }

@@ -34,8 +34,8 @@ use std::collections::BTreeMap;
 use std::marker::Model;
 use vx_base::{Code, Desc, Format, ObjRef};
 
-/// The open contexts, at most one for each client; the pool whose blocks hold the samples of the
-/// clients' images; and the lists that runs of graphs reuse.
+/// The open contexts, at most one for each client, with a pool and with lists for runs. The pool's
+/// blocks hold the samples of the clients' images. Runs of graphs reuse the memory of the lists.
 #[derive(Drop)]
 pub struct Runtime {
     alloc: Global,
@@ -98,7 +98,7 @@ impl Runtime {
         self.contexts.get(&client)?.kept(graph)
     }
 
-    /// Drops the free blocks, whose memory goes back to the system. No client notices.
+    /// Drops the free blocks, whose memory goes back to the system. No context or cache changes.
     pub fn drop_free(&mut self)
         ensures { self.new ≡ self.old }
     {
@@ -124,19 +124,19 @@ impl Runtime {
         }
     }
 
-    /// Drops free blocks above the limit on free memory.
+    /// Drops free blocks beyond the pool's limits.
     fn trim(&mut self)
         ensures { self.new ≡ self.old }
     {
         self.pool.trim();
     }
 
-    /// Answers a request of a client. Samples in a reply are allocated with `alloc`.
+    /// Answers a request of a client. The contents of a reply are allocated with `alloc`.
     ///
     /// The result is `NoMemory` only if an allocation failed; then no state is changed. A graph
     /// that was verified or has run stays in the client's cache until its nodes change, or its name
     /// or context is released. While a graph is in the cache, VerifyGraph of this graph takes no
-    /// memory. At the end, free blocks above the limit are dropped.
+    /// memory. At the end, free blocks beyond the pool's limits are dropped.
     pub fn apply(
         &mut self,
         alloc: Global,
@@ -277,8 +277,8 @@ impl Runtime {
         }
     }
 
-    /// Returns the image that a client's reference names, as ReadImage finds it, or the code with
-    /// which ReadImage is refused.
+    /// Returns the image that a client's reference names. The error is the code with which
+    /// ReadImage of this reference is refused.
     pub fn image(&self, client: u16, reference: ObjRef) -> Result<&Stored, Code>
         ensures ok { IfOk result (λ image. IsAnswered client (ReadImage reference) self.now
             (replies.Picture (picture_of image.now))) }
@@ -295,8 +295,8 @@ impl Runtime {
         }
     }
 
-    /// Returns the U8 image that a client's reference names, as ReadImagePgm finds it, or the code
-    /// with which ReadImagePgm is refused.
+    /// Returns the U8 image that a client's reference names. The error is the code with which
+    /// ReadImagePgm of this reference is refused.
     pub fn text_image(&self, client: u16, reference: ObjRef) -> Result<&Stored, Code>
         ensures ok { IfOk result (λ image. IsAnswered client (ReadImagePgm reference) self.now
             (replies.Text (pgm_text (picture_of image.now)))) }

@@ -18,9 +18,9 @@ use Rattle.client_model.specs.Graphs.{graph_named}
 abbrev pub at_begin : List Node → List NamedObject → List NamedObject
 at_begin nodes objects = map (named_at_start (resolved_operand (operand_held objects) nodes) nodes) objects
 
--- The run of a graph with these nodes. The objects at its end are the only solution. Running the
--- nodes one by one gives the same objects, in every order that puts each node after the nodes whose
--- outputs it reads. After the run, virtual images have no samples again.
+-- The run of a graph with these nodes. The objects at the end of the run are the graph's only
+-- solution. Running the nodes one by one gives the same objects, in every order that puts each node
+-- after the nodes whose outputs it reads. After the run, virtual images have no samples again.
 pub record IsTheRun (nodes : List Node) (before later : List NamedObject) : Type 0 where
   pub at_end : List NamedObject
   pub solves : Solves nodes (at_begin nodes before) at_end
@@ -29,8 +29,8 @@ pub record IsTheRun (nodes : List Node) (before later : List NamedObject) : Type
   pub in_order : (steps : List Node) → IsOrder feeds nodes steps → one_by_one steps (at_begin nodes before) ≡ at_end
   pub left : later ≡ objects_at_end before at_end
 
--- the context after a run of the graph with this name: the objects after the run, with each registered delay aged; the next name is
--- unchanged
+-- the context after a run of the graph with this name: the objects after the run, with each
+-- registered delay aged; the next name is unchanged
 pub record IsRunOf (name : ℕ) (c later : Context) : Type 0 where
   pub graph : GraphValue
   pub named : graph_named c.objects name ≡ Ok graph

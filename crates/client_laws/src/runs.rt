@@ -31,8 +31,9 @@ pub fn what_verifies_runs()
 
 /// A successful ProcessGraph leaves the only solution of the graph. In the solution, each image,
 /// distribution and extremes that a node writes is the result of the node's function. The
-/// function's arguments are the node's inputs at the end of the run. Inputs and outputs include
-/// virtual images. All other objects are unchanged. After the run, virtual images have no samples
+/// function's arguments are the node's inputs at the end of the run. A function that adds to an
+/// output also takes that output as it was before the run. Inputs and outputs include virtual
+/// images. Objects that no node writes are unchanged. After the run, virtual images have no samples
 /// again, and the graph's registered delays age.
 pub fn a_run_is_the_only_solution()
     ensures { (limits : LimitsValue) (c later : Context) (name : ℕ) → KeepsLimits limits c →

@@ -1,4 +1,5 @@
--- Requests on delays. OpenVX 1.3, "Object: Delay", vxCreateDelay, vxAgeDelay and vxRegisterAutoAging.
+-- Requests on delays. OpenVX 1.3, "Object: Delay", vxCreateDelay, vxAgeDelay and
+-- vxRegisterAutoAging.
 use Rattle.std.specs.Prelude.{ℕ, Option, Some, None, Result, Ok, Err}
 use Rattle.vx_base.specs.Reference.{Reference}
 use Rattle.vx_base.specs.Image.{ImageValue, description_of}
@@ -20,7 +21,8 @@ abbrev pub create_like : LimitsValue → Context → Result ImageValue Refusal �
 create_like limits c (Err refusal) slots = Err refusal
 create_like limits c (Ok image) slots = create limits c (DelayObject (new_delay (description_of image) slots))
 
--- CreateDelay: a delay of `slots` new images with the size and format of the image that a reference names
+-- CreateDelay: a delay of `slots` new images with the size and format of the image that a reference
+-- names
 abbrev pub create_delay : LimitsValue → Context → Reference → ℕ → Outcome
 create_delay limits c cell slots = create_like limits c (image_of c.objects cell) slots
 

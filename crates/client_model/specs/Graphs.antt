@@ -1,5 +1,5 @@
--- Requests on graphs. OpenVX 1.3, "Object: Graph", vxCreateGraph, vxVerifyGraph and vxProcessGraph, "Object: Node", vxRemoveNode,
--- and "Object: Image", vxCreateVirtualImage.
+-- Requests on graphs. OpenVX 1.3, "Object: Graph", vxCreateGraph, vxVerifyGraph and vxProcessGraph,
+-- "Object: Node", vxRemoveNode, and "Object: Image", vxCreateVirtualImage.
 use Rattle.std.specs.Prelude.{ℕ, List, ◌∷◌, Option, Some, None, Result, Ok, Err, if◌then◌else◌}
 use Rattle.std.specs.Option.{option_map}
 use Rattle.vx_base.specs.declared.kind.Kind.TheVariants as kind
@@ -68,7 +68,7 @@ remove_from (Ok graph) c name number =
 abbrev pub remove_node : Context → ℕ → ℕ → Outcome
 remove_node c name number = remove_from (graph_named c.objects name) c name number
 
--- the verdict on a graph, within the limit of work bytes
+-- the verdict on a graph, within the limit on work bytes
 abbrev pub graph_verdict : LimitsValue → List NamedObject → GraphValue → Option Verdict
 graph_verdict limits objects graph = verdict limits.work (operand_held objects) (nodes_of graph)
 

@@ -1,5 +1,5 @@
--- Requests that create objects, and requests on the samples of images. OpenVX 1.3, "Object: Image", vxCreateImage, vxQueryImage,
--- vxCopyImagePatch and vxSetImageValidRectangle.
+-- Requests that create objects, and requests on the samples of images. OpenVX 1.3, "Object: Image",
+-- vxCreateImage, vxQueryImage, vxCopyImagePatch and vxSetImageValidRectangle.
 use Rattle.std.specs.Prelude.{ℕ, List, not, nat_le, ◌&&◌, unwrap_or, Option, Some, None, Result, Ok, Err, if◌then◌else◌}
 use Rattle.vx_base.specs.declared.format.Format.TheVariants.{U8}
 use Rattle.vx_base.specs.Reference.{Reference}
@@ -87,8 +87,8 @@ fault_refusal fault.InvalidDimension = InvalidDimension
 fault_refusal fault.InvalidValue = InvalidValue
 fault_refusal other = InvalidFormat
 
--- the image with the samples of a text's picture; or the first refusal: of the image's reference,
--- of the text, or of the picture
+-- the image with the samples of a text's picture; or the first of these refusals: of the image's
+-- reference, of the text, of the picture
 abbrev pub write_text_to : Result ImageValue Refusal → Context → Reference → Result PictureValue PgmFault → Outcome
 write_text_to (Err refusal) c cell picture = Err refusal
 write_text_to (Ok image) c cell (Err fault) = Err (fault_refusal fault)

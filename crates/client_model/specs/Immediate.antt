@@ -43,8 +43,8 @@ abbrev pub away_refusal : List NamedObject → Node → Option Refusal
 away_refusal objects n =
     if list_any (λ operand. is_some_virtual (object_at objects operand.0)) (operands n) then Some OptimizedAway else None
 
--- the first refusal of an immediate node: of its operands, of a virtual image among them, or by the
--- verdict on the node
+-- why an immediate node can't run: a refusal of its operands, or else a virtual image among them,
+-- or else the verdict on the node
 abbrev pub node_refusal : List NamedObject → Node → Option Refusal
 node_refusal objects n =
     option_or (operands_refusal None objects (operands n))

@@ -21,7 +21,8 @@ is_unknown objects cell = is_none (object_named objects cell.name)
 abbrev pub kind_of : List NamedObject → Reference → Option Kind
 kind_of objects cell = option_and_then (slot_kind cell.slot) (object_named objects cell.name)
 
--- whether an object of one kind is accepted where another is expected: a virtual image is accepted as an image
+-- whether the first kind is accepted where the second is expected: both are the same kind, or a
+-- virtual image is given and an image is expected
 abbrev pub stands_for : Kind → Kind → Bool
 stands_for kind.VirtualImage kind.Image = true
 stands_for kind wanted = same_kind wanted kind
@@ -44,8 +45,8 @@ abbrev pub is_of_other_graph : ℕ → Option ObjectValue → Bool
 is_of_other_graph graph (Some (VirtualObject image)) = not (image.graph == graph)
 is_of_other_graph graph other = false
 
--- whether a reference in a node of this graph is out of the graph's scope; an immediate node has no
--- scope
+-- whether a reference in a node of this graph names a virtual image of another graph; false for an
+-- immediate node, which has no graph
 abbrev pub is_beyond : Option ℕ → List NamedObject → Reference → Bool
 is_beyond None objects cell = false
 is_beyond (Some graph) objects cell = is_of_other_graph graph (object_at objects cell)

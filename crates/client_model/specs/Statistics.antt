@@ -1,4 +1,5 @@
--- Requests on distributions and extremes. OpenVX 1.3, "Object: Distribution" and "Min, Max Location".
+-- Requests on distributions and extremes. OpenVX 1.3, "Object: Distribution" and "Min, Max
+-- Location".
 use Rattle.std.specs.Prelude.{ℕ, Option, Some, None, Ok, Err}
 use Rattle.vx_base.specs.Object.{ObjectValue, DistributionObject, ExtremesObject}
 use Rattle.client_model.specs.declared.refusal.Refusal.TheVariants.{InvalidReference, InvalidType}

@@ -2,13 +2,13 @@
 //!
 //! A client's objects are named 1, 2, .. in the order of their creation. `specs/Answer.antt`
 //! defines the reply to a request in any state of the client, and the client's new state. The
-//! crates above are proved against this definition. Nothing in this crate depends on how objects
-//! are stored.
+//! crate `client_contexts` is proved against this definition. Nothing in this crate depends on how
+//! objects are stored.
 //!
 //! - `request`: what a client can ask for
 //! - `reply`, `text`, `counts`: replies and their parts
 //! - `refusal`: why a request is refused
-//! - `limits`: quotas of bytes
+//! - `limits`: limits on sample bytes
 #![tactic(auto)]
 
 mod counts;

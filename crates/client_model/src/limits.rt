@@ -1,4 +1,4 @@
-//! Quotas of bytes.
+//! Limits on sample bytes.
 ghost use Rattle.std.specs.Prelude.{◌≡◌, ◌≤◌};
 ghost use Rattle.client_model.specs.Limits.{limits_from};
 
@@ -10,8 +10,8 @@ pub const GREATEST_LIMIT: u64 = 1_099_511_627_776;
 /// The default of each limit in bytes: 2^28.
 pub const DEFAULT_LIMIT: u64 = 268_435_456;
 
-/// The greatest number of sample bytes: of a client's images (`quota`), and of the virtual images
-/// of one graph (`work`). Each limit is 1 to 2^40.
+/// Limits on sample bytes. `quota` is the limit for a client's images, and `work` is the limit for
+/// the virtual images of one graph. Each limit is 1 to 2^40.
 #[derive(Clone, Copy, PartialEq, Eq, Debug)]
 pub struct Limits {
     quota: u64,
@@ -44,7 +44,7 @@ impl Limits {
         }
     }
 
-    /// Returns the greatest number of sample bytes of a client's images.
+    /// Returns the greatest allowed number of sample bytes of a client's images.
     pub fn quota(self) -> u64
         ensures value { result ≡ self.quota }
         ensures limit { result ≤ 1099511627776 }
@@ -52,7 +52,7 @@ impl Limits {
         self.quota
     }
 
-    /// Returns the greatest number of sample bytes of a graph's virtual images.
+    /// Returns the greatest allowed number of sample bytes of a graph's virtual images.
     pub fn work(self) -> u64
         ensures { result ≡ self.work }
     {

@@ -7,10 +7,10 @@ use vx_base::Code;
 /// Why a request is refused. A refused request changes nothing.
 #[derive(Clone, Copy, PartialEq, Eq, Debug)]
 pub enum Refusal {
-    /// A name isn't live, or the graph has no node of this number.
+    /// A name isn't live, or the graph doesn't have the node that the request removes.
     InvalidReference,
-    /// An object is of another kind than the request needs. Slots of a delay are images; other
-    /// objects have no slots.
+    /// An object isn't of the kind that the request needs, or a reference names a slot of an object
+    /// that isn't a delay.
     InvalidType,
     /// One of these cases:
     ///
@@ -21,15 +21,16 @@ pub enum Refusal {
     InvalidValue,
     /// One of these cases:
     ///
-    /// - a picture has another format than the image
+    /// - the format of a picture isn't the image's format
     /// - an image that is read as a PGM text isn't U8
     /// - a text that is written isn't a PGM text
     InvalidFormat,
-    /// A picture has another size than the image, or a side that a PGM text states isn't 1 to 8192.
+    /// The size of a picture isn't the image's size, or a PGM text states a side that isn't 1 to
+    /// 8192.
     InvalidDimension,
     /// A node names a virtual image of another graph.
     InvalidScope,
-    /// A virtual image has no samples that a client can access.
+    /// The request names a virtual image, but can't take one.
     OptimizedAway,
     /// All names are used, 1,024 objects are held, a new object would exceed the quota, or the
     /// graph can't take another node.

@@ -51,7 +51,8 @@ pub enum Request {
     CreateVirtualImage(u32, PartialDesc),
     /// Adds a node to the graph with this name.
     AddNode(u32, NodeSpec),
-    /// Removes the node of this number from the graph with this name.
+    /// Removes a node from a graph. The first field is the graph's name, and the second is the
+    /// node's number.
     RemoveNode(u32, u32),
     /// Asks for the verdict on the graph with this name.
     VerifyGraph(u32),
@@ -71,9 +72,9 @@ pub enum Request {
 }
 
 impl Request {
-    /// States for the prover that the request's fields are in range, as the laws of requests
-    /// require. The function has no effect: the prover learns a type's invariant when a field of
-    /// that type is read.
+    /// Ensures for the prover that the request's fields are in the ranges of their types. The
+    /// function has no effect: the prover learns a type's invariant when a field of that type is
+    /// read.
     pub fn prove_request(&self)
         ensures { IsRequest self.now }
     {

@@ -54,9 +54,6 @@ with_object_twice (o ∷ objects) q left image = grind (arith, with_object_twice
 pub there_is : (objects : List NamedObject) (cell : Reference) → Holds objects cell → object_at objects cell ≡ Some (cell_object objects cell)
 there_is objects cell h = grind arith
 
-pub holds_image : (objects : List NamedObject) (cell : Reference) → Holds objects cell → object_kind (cell_object objects cell) ≡ kind.Image → HoldsImage objects cell
-holds_image objects cell h is = ap (option_map object_kind) (there_is objects cell h) ∙ ap Some is
-
 pub kind_there : (objects : List NamedObject) (operand : Reference × Kind) → HoldsKind objects operand → object_kind (cell_object objects operand.0) ≡ operand.1
 kind_there objects operand h = grind arith
 

@@ -14,7 +14,7 @@ use Rattle.graph_run.specs.Steps.{AreApart}
 abbrev pub HoldImages : List NamedObject → List Reference → Type 0
 HoldImages objects cells = (c : Reference) → In c cells → HoldsImage objects c
 
--- any two of the references can be written independently
+-- any two of the references name objects that can be written independently
 abbrev pub AreAllApart : List Reference → Type 0
 AreAllApart [] = ⊤
 AreAllApart (c ∷ cells) = ((p : Reference) → In p cells → AreApart p c) × AreAllApart cells

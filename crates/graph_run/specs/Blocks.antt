@@ -34,8 +34,8 @@ capacity_count capacities format = sum_by (λ r. one_of r.0 format) capacities
 abbrev pub band_samples : ℕ → ℕ → Description → ℕ
 band_samples size rows desc = min desc.height (size + rows + rows) * desc.width
 
--- the number of samples that a slot needs for the images of the list: the most that any of these
--- images in the slot needs. The first image of the list has index k.
+-- the number of samples that the slot `wanted` needs for a list of images: the most that any image
+-- in the slot needs. The first image of the list has index k.
 abbrev pub samples_from : ℕ → List ℕ → ℕ → List VirtualOutput → List ℕ → ℕ → ℕ
 samples_from size halos k [] slots wanted = 0
 samples_from size halos k (o ∷ outs) [] wanted = 0

@@ -1,4 +1,5 @@
--- The objects that a run reads as tables, and the objects that it writes as tallies.
+-- The objects that a run reads as tables (lookup tables, thresholds and matrices), and the objects
+-- to which it writes tallies.
 use Rattle.std.specs.Prelude.{◌≡◌, ⊤, Bool, true, false, List, [], ◌∷◌, length, All, IfSome, unwrap_or}
 use Rattle.vx_base.specs.declared.kind.Kind.{Kind}
 use Rattle.vx_base.specs.declared.kind.Kind.TheVariants as kind
@@ -16,7 +17,7 @@ use Rattle.graph_run.specs.Turns.{HoldsKind}
 
 -- ---- tables
 
--- whether objects of this kind are read as tables
+-- whether nodes read objects of this kind as tables: lookup tables, thresholds and matrices
 abbrev pub is_lent : Kind → Bool
 is_lent kind.Lut = true
 is_lent kind.Threshold = true
@@ -33,8 +34,8 @@ LendTables objects nodes = All (λ n. IfSome (node_table objects n) (λ object. 
 
 -- ---- tallies
 
--- an output of this kind can take its tally: its reference names an object of this kind, a
--- distribution or extremes. Nothing is required of an image.
+-- an output of this kind can take a tally: the reference names an object of this kind, which is a
+-- distribution or extremes. Nothing is required of an image, which takes no tally.
 abbrev pub KeepsTally : List NamedObject → Kind → Reference → Type 0
 KeepsTally objects kind.Image cell = ⊤
 KeepsTally objects kind.Distribution cell = HoldsKind objects (cell, kind.Distribution)

@@ -1,4 +1,5 @@
--- References to the images of a graph: first the virtual images that its nodes write, then the clients' images that the nodes read or write.
+-- References to the images of a graph: first the virtual images that its nodes write, then the
+-- client's images that the nodes read or write.
 use Rattle.std.specs.Prelude.{ℕ, ◌+◌, List, [], ◌∷◌, ◌++◌, map, Option, if◌then◌else◌}
 use Rattle.std.specs.List.{list_any, flat_map}
 use Rattle.vx_base.specs.declared.kind.Kind.{Kind}
@@ -9,7 +10,7 @@ use Rattle.vx_base.specs.Function.{parameters}
 use Rattle.vx_base.specs.Node.{optional_cells, second_kind}
 use Rattle.graph_verify.specs.declared.verified.Verified.{Verified}
 
--- the reference of an operand, as a list; empty unless the operand is given and an image
+-- the reference of an operand, as a list; empty unless the operand is given and is an image
 abbrev pub image_given : Kind → Option Reference → List Reference
 image_given kind.Image cell = optional_cells cell
 image_given other cell = []
@@ -37,7 +38,7 @@ with_cells cells (c ∷ more) = with_cells (with_cell cells c) more
 abbrev pub virtual_cells : Verified → List Reference
 virtual_cells v = map (λ o. o.cell) v.virtual_outputs
 
--- references to all images of a verified graph: its virtual images, then the clients' images
+-- references to all images of a verified graph: its virtual images, then the client's images
 abbrev pub cells_of : Verified → List Reference
 cells_of v = with_cells (virtual_cells v) (images_named v.steps)
 

@@ -21,7 +21,8 @@ abbrev pub rounds_of_nodes : List Node → ℕ → List NamedObject → List Nam
 rounds_of_nodes nodes zero objects = objects
 rounds_of_nodes nodes (suc k) objects = round_of_nodes nodes objects (rounds_of_nodes nodes k objects)
 
--- the value of a virtual image at the start of a run that writes it: an image of its resolved description, wholly valid and 0 everywhere
+-- the value of a virtual image at the start of a run that writes it: an image of its resolved
+-- description, wholly valid and 0 everywhere
 abbrev pub object_at_start : ObjectValue → Operand → ObjectValue
 object_at_start (VirtualObject image) (Image d) = ImageObject (new_image d.width d.height d.format)
 object_at_start object operand = object
@@ -42,7 +43,8 @@ abbrev pub objects_at_end : List NamedObject → List NamedObject → List Named
 objects_at_end (o ∷ before) (p ∷ after) = (if is_virtual_object o.object then o else p) ∷ objects_at_end before after
 objects_at_end before after = after
 
--- the objects after a run of a graph whose references resolve to these operands: as many rounds as there are nodes
+-- the objects after a run of a graph whose references resolve to these operands; the run has one
+-- round for each node
 abbrev pub run_of_graph : (Reference → Operand) → List Node → List NamedObject → List NamedObject
 run_of_graph is nodes objects = objects_at_end objects (rounds_of_nodes nodes (length nodes) (map (named_at_start is nodes) objects))
 

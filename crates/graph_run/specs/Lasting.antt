@@ -6,7 +6,7 @@ use Rattle.object_table.specs.NamedObject.{NamedObject}
 use Rattle.object_table.specs.Skeleton.{skeleton}
 use Rattle.object_table.specs.Uses.{nodes_in}
 
--- the part of an object that writes don't change: its skeleton, and the nodes of a graph
+-- the part of an object that writes don't change: its skeleton and, if it is a graph, its nodes
 abbrev pub lasting_part : ObjectValue → ObjectValue × List Node
 lasting_part object = (skeleton object, nodes_in object)
 

@@ -30,7 +30,8 @@ abbrev pub StandsFor : Operand → Kind → Type 0
 StandsFor (Virtual declared) wanted = wanted ≡ kind.Image
 StandsFor operand wanted = operand_kind operand ≡ Some wanted
 
--- each reference in the nodes names an object with the operand that `is` gives for the reference. Each output has the kind that its node's function writes.
+-- each reference in the nodes names an object with the operand that `is` gives for the reference.
+-- Each output has the kind that its node's function writes.
 pub record CellsStand (is : Reference → Operand) (nodes : List Node) (objects : List NamedObject) : Type 0 where
   pub found : (n : Node) (cell : Reference) → In n nodes → names_cell n cell ≡ true → HoldsOperand objects cell (is cell)
   pub kinds : (n : Node) (cell : Reference) → In n nodes → writes n cell ≡ true → StandsFor (is cell) (parameters n.function).output

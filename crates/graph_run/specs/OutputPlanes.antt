@@ -1,4 +1,5 @@
--- Planes that hold the samples of a node's output images, from before the node is checked until it has run.
+-- Planes that hold the samples of a node's output images, from before the node is checked until it
+-- has run.
 use Rattle.std.specs.Prelude.{◌≡◌, ◌≢◌, IsTrue, is_some, List, map, Option, Some, None, IfSome, IfNone, IsSomeAnd, MatchOption}
 use Rattle.vx_base.specs.declared.kind.Kind.{Kind}
 use Rattle.vx_base.specs.declared.kind.Kind.TheVariants as kind
@@ -16,7 +17,8 @@ use Rattle.graph_run.specs.Bind.{image_plane, without_samples}
 use Rattle.graph_run.specs.Lasting.{lasting_named}
 use Rattle.graph_run.specs.Operands.{HoldsOperand}
 
--- the samples of the image that a reference names are in this plane; the image in the table has none
+-- the samples of the image that a reference names are in this plane; the image in the table has
+-- none
 pub record IsInPlane (objects : List NamedObject) (cell : Reference) (p : PlaneValue) : Type 0 where
   pub left : object_at objects cell ≡ Some (ImageObject (without_samples (block_image p)))
   pub whole : p ≡ image_plane (block_image p)
@@ -31,8 +33,8 @@ with_plane objects output None = objects
 with_plane objects None (Some p) = objects
 with_plane objects (Some cell) (Some p) = with_object objects cell (ImageObject (block_image p))
 
--- the objects after the images of a node's output planes are back in the table, the second output's
--- after the first's
+-- the objects after the images of a node's output planes are back in the table. The second output's
+-- image is put back after the first's.
 abbrev pub with_planes : List NamedObject → Node → OutputPlanes → List NamedObject
 with_planes objects n planes = with_plane (with_plane objects n.out1 planes.first) n.out2 planes.second
 
@@ -42,7 +44,7 @@ pub record AreInPlanes (objects : List NamedObject) (n : Node) (planes : OutputP
   pub first : IsInPlaneIf objects n.out1 planes.first
   pub second : IsInPlaneIf (with_plane objects n.out1 planes.first) n.out2 planes.second
 
--- an output without a plane is no image
+-- an output without a plane isn't an image
 abbrev pub HasPlaneFor : Kind → Option Reference → Option PlaneValue → Type 0
 HasPlaneFor wanted output plane = IfSome output (λ _. IfNone plane (wanted ≢ kind.Image))
 
@@ -55,11 +57,12 @@ pub record HavePlanes (n : Node) (planes : OutputPlanes) : Type 0 where
 abbrev pub IsLiveImage : List NamedObject → Reference → Description → Type 0
 IsLiveImage objects cell d = IsTrue (is_some (object_named objects cell.name)) × HoldsOperand objects cell (Image d)
 
--- an output of a function that writes images is a live image of this description
+-- images are wanted, and the output is given and is a live image of this description
 abbrev pub IsLiveOutput : List NamedObject → Kind → Option Reference → Description → Type 0
 IsLiveOutput objects wanted output d = (wanted ≡ kind.Image) × IsSomeAnd output (λ cell. IsLiveImage objects cell d)
 
--- if there is a plane, it is that of a live output; if there is none, the output isn't live
+-- if there is a plane, the output is a live image with the plane's description; if there is none,
+-- the output isn't a live image
 abbrev pub IsPlaneOf : List NamedObject → Kind → Option Reference → Option PlaneValue → Type 0
 IsPlaneOf objects wanted output plane =
     MatchOption plane ((d : Description) → ¬ IsLiveOutput objects wanted output d) (λ p. IsLiveOutput objects wanted output p.desc)
@@ -69,15 +72,15 @@ pub record ArePlanesOf (objects : List NamedObject) (n : Node) (planes : OutputP
   pub first : IsPlaneOf objects (parameters n.function).output n.out1 planes.first
   pub second : IsPlaneOf objects (parameters n.function).output n.out2 planes.second
 
--- the samples of an output move to the plane, if there is one. With its image back in the table,
--- the objects are as before.
+-- the samples of an output move to the plane, if there is one. Putting its image back in the table
+-- would give the old objects.
 pub record LendsOutput (old new : Context) (output : Option Reference) (plane : Option PlaneValue) : Type 0 where
   pub taken : IsInPlaneIf new.objects output plane
   pub back : old ≡ with_objects new (with_plane new.objects output plane)
   pub lasting : map lasting_named new.objects ≡ map lasting_named old.objects
 
--- the samples of a node's outputs move to the planes, if there are any. With their images back in
--- the table, the objects are as before.
+-- the samples of a node's outputs move to the planes, if there are any. Putting their images back
+-- in the table would give the old objects.
 pub record LendsOutputs (old new : Context) (n : Node) (planes : OutputPlanes) : Type 0 where
   pub taken : AreInPlanes new.objects n planes
   pub back : old ≡ with_objects new (with_planes new.objects n planes)

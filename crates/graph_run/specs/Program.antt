@@ -1,4 +1,5 @@
--- The program of a graph: its tasks over planes, with halos, blocks, tallies, and the tables that its nodes read.
+-- The program of a graph: its tasks over planes, with halos, blocks, tallies, and the tables that
+-- its nodes read.
 use Rattle.std.specs.Prelude.{ℕ, ◌≡◌, ◌<◌, ◌≤◌, ◌⊎◌, true, List, [], ◌∷◌, ◌++◌, length, map, drop, slice_index_or, All, Option, None, unwrap_or}
 use Rattle.std.specs.List.{flat_map, range_with_len}
 use Rattle.std.specs.Option.{option_and_then}
@@ -33,24 +34,24 @@ use Rattle.graph_run.specs.Tasks.{SlotsHold, block_at, graph_cells, graph_tasks}
 
 -- ---- tables
 
--- the second input, if it is a table, a threshold or a matrix; None for an image, which is read
--- from a plane
+-- the second input, if it is a lookup table, a threshold or a matrix; None for an image, which is
+-- read from a plane
 abbrev pub table_by : Kind → Option ObjectValue → Option ObjectValue
 table_by kind.Image object = None
 table_by other object = object
 
--- the table, threshold or matrix that a node reads, if it reads one
+-- the lookup table, threshold or matrix that a node reads, if it reads one
 abbrev pub node_table : List NamedObject → Node → Option ObjectValue
 node_table objects n = table_by (second_kind n) (option_and_then (object_at objects) n.in2)
 
--- the table that the node at an index reads, if it reads one
+-- the lookup table, threshold or matrix that the node at an index reads, if it reads one
 abbrev pub tables_of : List NamedObject → List Node → ℕ → Option ObjectValue
 tables_of objects nodes k = slice_index_or (map (node_table objects) nodes) k None
 
 -- ---- radii
 
--- a node's radius: the number of input rows that it reads above an output row, and as many below;
--- None if it reads all rows
+-- a node's radius: the number of input rows that it reads above an output row, and the same number
+-- below; None if it reads all rows
 abbrev pub node_radius : List NamedObject → Node → Option ℕ
 node_radius objects n = step_radius n.function (matrix_in (option_and_then (object_at objects) n.in2))
 
@@ -64,11 +65,11 @@ AreNear objects high radius nodes = (n : Node) → In n nodes → Covers (node_r
 
 -- ---- planes
 
--- references to the clients' images
+-- references to the client's images
 abbrev pub client_cells : List Node → List VirtualOutput → List Reference
 client_cells steps outs = drop (length outs) (graph_cells steps outs)
 
--- the planes of a graph: first the planes of its virtual images, then the planes of the clients'
+-- the planes of a graph: first the planes of its virtual images, then the planes of the client's
 -- images
 abbrev pub planes_of : List NamedObject → List Node → List VirtualOutput → List PlaneValue → List PlaneValue
 planes_of objects steps outs virtuals = virtuals ++ image_planes objects (client_cells steps outs)
@@ -106,7 +107,8 @@ abbrev pub AddOnce : ℕ → ℕ → List ℕ → List Task → Type 0
 AddOnce high size halos tasks =
     (s : Step) → IsStepOf s tasks → reads_output s.node.function ≡ true → ((halo halos s.output ≡ 0) × (s.takes ≡ None)) ⊎ (high ≤ size)
 
--- a verified graph can run as a program with these radii, halos, band height, planes of virtual images, and sizes of slots
+-- a verified graph can run as a program with these radii, halos, band height, planes of virtual
+-- images, and sizes of slots
 pub record IsBound (objects : List NamedObject) (nodes : List Node) (v : Verified) (p : PlanView) (radius : Node → ℕ) (high size : ℕ) (halos : List ℕ) (virtuals : List PlaneValue) (slot_capacity : ℕ → Format × ℕ) : Type 0 where
   pub objects_are : All (λ o. IsObject o.object) objects
   pub ready : IsReady objects nodes v

@@ -43,13 +43,13 @@ abbrev pub tally_object : Tally → ObjectValue
 tally_object (tally.Histogram d) = DistributionObject d
 tally_object (tally.Extremes e) = ExtremesObject e
 
--- the reference to which a node's tally is written, as a list; empty if the node's output is an
--- image
+-- the reference to the object that a node's tally is written to, as a list; empty if the node's
+-- output is an image
 abbrev pub tally_cell : Kind → Node → List Reference
 tally_cell kind.Image n = []
 tally_cell other n = unwrap_or n.out1 n.in1 ∷ []
 
--- the references to which the tallies of nodes are written, in the order of the nodes
+-- references to the objects that the nodes' tallies are written to, in the order of the nodes
 abbrev pub tally_cells : List Node → List Reference
 tally_cells nodes = flat_map (λ n. tally_cell (parameters n.function).output n) nodes
 
@@ -62,7 +62,8 @@ tally_objects (c ∷ cells) (t ∷ tallies) = (c, tally_object t) ∷ tally_obje
 -- ---- runs
 
 -- the results of a run of tasks, compared with any solution. Each plane that keeps its block has
--- the solution's image. Each tally is the tally of the solution's image.
+-- the solution's image. Each reduction's tally is that of the solution's image for the reduction's
+-- input.
 pub record Leaves (tables : ℕ → Option ObjectValue) (tasks : List Task) (planes : List PlaneValue) (tallies : List Tally) (after : List PlaneValue) (counted : List Tally) : Type 0 where
   pub images : (whole : ℕ → ImageValue) → SolvesSteps tables (length planes) tasks (block_images planes) whole
       → (c : ℕ) → KeepsBlock (length planes) tasks c → block_image (plane after c) ≡ whole c

@@ -6,18 +6,18 @@ use Rattle.vx_base.specs.declared.format.Format.TheVariants.{U8, S16, U32}
 use Rattle.graph_verify.specs.declared.known.VirtualOutput.{VirtualOutput}
 use Rattle.buffer_plan.specs.Plan.{PlanView}
 
--- the index of a format's slot among all slots: the slots of U8 come first, then the slots of S16,
--- then the slots of U32
+-- the index of a format's slot among the slots of all formats: the slots of U8 come first, then the
+-- slots of S16, then the slots of U32
 abbrev pub slot_index : PlanView → Format → ℕ → ℕ
 slot_index p U8 k = k
 slot_index p S16 k = p.slot_count U8 + k
 slot_index p U32 k = p.slot_count U8 + p.slot_count S16 + k
 
--- the index of a virtual image's slot among all slots
+-- the index of a virtual image's slot among the slots of all formats
 abbrev pub slot_index_of : PlanView → VirtualOutput → ℕ
 slot_index_of p o = slot_index p o.desc.format (unwrap_or (p.slot_of o.cell) 0)
 
--- the format and size of each slot of a format
+-- the format and size of each of a plan's slots of one format
 abbrev pub capacities_for : PlanView → Format → List (Format × ℕ)
 capacities_for p format = map (λ k. (format, p.slot_samples format k)) (range_with_len 0 (p.slot_count format))
 

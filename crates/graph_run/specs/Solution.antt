@@ -1,4 +1,5 @@
--- Runs as solutions of equations, without rounds: each output is its node's result on the objects after the run.
+-- Runs as solutions of equations, without rounds: each output is its node's result on the objects
+-- after the run.
 use Rattle.std.specs.Prelude.{ℕ, ◌≡◌, ◌≢◌, Bool, true, false, List, [], map, All, Option, Some}
 use Rattle.std.specs.Option.{option_map}
 use Rattle.vx_base.specs.declared.kind.Kind.{Kind}
@@ -16,7 +17,7 @@ use Rattle.graph_verify.specs.Links.{is_written}
 abbrev pub kind_in : List NamedObject → Reference → Option Kind
 kind_in objects cell = option_map object_kind (object_at objects cell)
 
--- no node writes an object of this kind; the object in a slot of a delay is an image
+-- no node writes an object of this kind; a delay's slot counts as an image
 abbrev pub WritesNo : Kind → List Node → List NamedObject → Type 0
 WritesNo k nodes objects = (cell : Reference) → is_written nodes cell ≡ true → kind_in objects cell ≢ Some k
 

@@ -38,8 +38,8 @@ abbrev pub TwoSlots : Option ℕ → Option ℕ → Type 0
 TwoSlots (Some j) (Some k) = j ≢ k
 TwoSlots j k = ⊥
 
--- one object can be written without the other: the references have different names, or different
--- slots of one delay
+-- one reference's object can be written without changing the other's: the references have different
+-- names, or different slots of one delay
 abbrev pub AreApart : Reference → Reference → Type 0
 AreApart a b = a.name ≡ b.name → TwoSlots a.slot b.slot
 
@@ -52,7 +52,8 @@ pub record RunsTo (objects : List NamedObject) (n : Node) (output : Reference) :
   pub in2_apart : IfSome n.in2 (λ cell. AreApart cell output)
   pub runs : RunsOn n (cell_object objects n.in1) (option_map (cell_object objects) n.in2) (cell_object objects output)
 
--- the node's inputs exist: the first is an image, and the second has the kind that its function reads
+-- the node's inputs exist: the first is an image, and a second input has the kind that the node's
+-- function reads
 pub record HasInputs (objects : List NamedObject) (n : Node) : Type 0 where
   pub first : HoldsImage objects n.in1
   pub image : IsImage (image_held objects n.in1)

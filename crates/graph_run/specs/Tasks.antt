@@ -1,4 +1,5 @@
--- Tasks of a graph over planes. The planes of virtual images come first, in the order in which nodes write them.
+-- Tasks of a graph over planes. The planes of virtual images come first, in the order in which
+-- nodes write them.
 use Rattle.std.specs.Prelude.{⊤, true, ◌≡◌, ◌≢◌, ◌⊎◌, ◌<◌, ◌≤◌, ℕ, Bool, false, ◌+◌, ◌==◌, nat_lt, if◌then◌else◌, List, [], ◌∷◌, ◌++◌, length, map, take, slice_index_or, suc, Option, Some, None}
 use Rattle.std.specs.List.{filter, flat_map, range_with_len}
 use Rattle.std.specs.Option.{option_map, option_or}
@@ -35,9 +36,9 @@ abbrev pub last_in : ℕ → List ℕ → Option ℕ
 last_in slot [] = None
 last_in slot (s ∷ slots) = option_or (option_map suc (last_in slot slots)) (if s == slot then Some 0 else None)
 
--- the image that has a slot's block after the first `count` images of a band are written: the last
--- of these images that is in the slot. If none of these images is in the slot, the slot's last image
--- still has the block, from the band before.
+-- the virtual image that has a slot's block after the first `count` virtual images are written in a
+-- band: the last of these images that is in the slot. If none of these images is in the slot, the
+-- slot's last image has the block, from the previous band or from the start of the run.
 abbrev pub holder : List ℕ → ℕ → ℕ → Option ℕ
 holder slots slot count = option_or (last_in slot (take count slots)) (last_in slot slots)
 
@@ -59,7 +60,7 @@ block_at slots slot_capacity count at =
     (block.0, (if is_at at (holder slots (slice_index_or slots at 0) count) then block.1 else 0))
 
 -- the blocks of all planes after `count` virtual images are written: first the blocks of virtual
--- images, then the blocks of clients' images
+-- images, then the blocks of the client's images
 abbrev pub blocks_at : List ℕ → (ℕ → Format × ℕ) → List (Format × ℕ) → ℕ → List (Format × ℕ)
 blocks_at slots slot_capacity clients count = map (block_at slots slot_capacity count) (range_with_len 0 (length slots)) ++ clients
 
@@ -95,7 +96,7 @@ tasks_by cells slots radius at tally n kind.Image =
     write_given cells slots radius at n First n.out1 ++ write_given cells slots radius at n Second n.out2
 tasks_by cells slots radius at tally n other = Reduce (record { input = index_of cells n.in1; tally = tally }) ∷ []
 
--- the index of the next tally after a node
+-- the index of the next tally after a node's tasks, from the index before
 abbrev pub tally_after : ℕ → Kind → ℕ
 tally_after tally kind.Image = tally
 tally_after tally other = tally + 1
@@ -134,7 +135,7 @@ WriteImages is_virtual nodes =
 
 -- ---- the order of tasks
 
--- no task reads a plane that a later step writes, and no step reads its own output
+-- no task has as input a plane that a later step writes, and no step's output is also its input
 abbrev pub AreReadAfter : List Task → Type 0
 AreReadAfter [] = ⊤
 AreReadAfter (Write s ∷ later) = ((c : ℕ) → ReadsPlane s c → IsUnwritten (Write s ∷ later) c) × AreReadAfter later
@@ -158,8 +159,8 @@ AreUntaken (Reduce r ∷ later) = AreUntaken later
 
 -- ---- graphs that have tasks
 
--- a verified order of nodes, the virtual images that the nodes write, in the order of writing, and a
--- plan with slots for these images
+-- the nodes are in an order in which they can run. `outs` has the virtual images that they write,
+-- in the order of writing, and `p` is a plan for these images.
 pub record HaveTasks (steps : List Node) (outs : List VirtualOutput) (p : PlanView) (is_virtual : Reference → Bool) : Type 0 where
   pub plan : IsPlan steps outs p
   pub order : map (λ o. o.cell) outs ≡ filter is_virtual (flat_map outputs steps)
@@ -169,7 +170,8 @@ pub record HaveTasks (steps : List Node) (outs : List VirtualOutput) (p : PlanVi
   -- a node that accumulates writes a client's image
   pub adds : (n : Node) → In n steps → accumulates n.function ≡ true → (c : Reference) → In c (outputs n) → is_virtual c ≡ false
 
--- references to the images of a graph with these nodes, in order, and these virtual images
+-- references to the images of a graph: first these virtual images, then the other images that these
+-- nodes read or write, each once
 abbrev pub graph_cells : List Node → List VirtualOutput → List Reference
 graph_cells steps outs = with_cells (map (λ o. o.cell) outs) (images_named steps)
 

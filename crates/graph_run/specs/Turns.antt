@@ -1,4 +1,4 @@
--- Nodes that run in turn.
+-- Whether a node can run now, on the objects of a table.
 use Rattle.std.specs.Prelude.{◌≡◌, List, All, Some, None}
 use Rattle.std.specs.Option.{option_map}
 use Rattle.vx_base.specs.declared.kind.Kind.{Kind}

@@ -1,4 +1,4 @@
-//! Moves images from a table of objects to planes while a graph runs, and back.
+//! Moves images from a table of objects to planes before a run, and back after the run.
 ghost use Rattle.std.specs.Prelude.{◌≡◌, ◌+◌, ◌≤◌, ◌++◌, length, vec_capacity};
 ghost use Rattle.vx_base.specs.Image.{description_of};
 ghost use Rattle.vx_base.specs.Object.{ImageObject};

@@ -25,13 +25,14 @@ pub struct Demand<'a> {
     /// The halo of each plane; the planes of the virtual images come first.
     pub halos: &'a [u16],
     pub images: &'a [VirtualOutput],
-    /// The slots of these images, as indices among all slots.
+    /// The slots of these images, as indices among the slots of all formats.
     pub slots: &'a [usize],
 }
 
 // ---- slots
 
-/// Returns the slots of the virtual images that a graph writes, as indices among all slots.
+/// Returns the slots of the virtual images that a graph writes, as indices among the slots of all
+/// formats.
 pub fn slots_of(alloc: Global, plan: &Plan, verified: &Verified) -> Result<Vec<usize>, AllocError>
     requires { IsPlan verified.now.steps verified.now.virtual_outputs
         (plan_view plan.now) }
@@ -46,7 +47,7 @@ pub fn slots_of(alloc: Global, plan: &Plan, verified: &Verified) -> Result<Vec<u
     Ok(slots)
 }
 
-/// Returns the slot of a virtual image, as an index among all slots.
+/// Returns the slot of a virtual image, as an index among the slots of all formats.
 fn slot_of(plan: &Plan, image: &VirtualOutput) -> usize
     requires { slot_index_of (plan_view plan.now) image.now < 2 ^ 64 }
     ensures { result ≡ slot_index_of (plan_view plan.now) image.now }
@@ -57,8 +58,8 @@ fn slot_of(plan: &Plan, image: &VirtualOutput) -> usize
 
 // ---- capacities
 
-/// Returns, for each slot, the format and the number of samples of its block: enough for a band,
-/// with halo, of any image in the slot.
+/// Returns the format and the number of samples of each slot's block. The block is large enough for
+/// a band, with halo, of any image in the slot.
 pub fn capacities_of(
     alloc: Global,
     plan: &Plan,
@@ -134,7 +135,7 @@ fn band_samples(size: u16, halo: u16, desc: Desc) -> usize
     usize::from(desc.height()).min(rows) * usize::from(desc.width())
 }
 
-/// Returns the index of a format's slot among all slots.
+/// Returns the index of a format's slot among the slots of all formats.
 fn slot_index(plan: &Plan, format: Format, slot: usize) -> usize
     requires { slot_index (plan_view plan.now) format slot < 2 ^ 64 }
     ensures { result ≡ slot_index (plan_view plan.now) format slot }

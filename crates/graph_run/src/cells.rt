@@ -1,5 +1,5 @@
 //! References to the images of a graph: first the virtual images that its nodes write, then the
-//! clients' images that the nodes read or write.
+//! client's images that the nodes read or write.
 ghost use Rattle.std.specs.Prelude.{◌≡◌, position, IfOk, OnOk};
 ghost use Rattle.std.specs.List.{list_any};
 ghost use Rattle.vx_base.specs.Reference.{same_reference};
@@ -34,7 +34,7 @@ fn virtual_cells(alloc: Global, verified: &Verified) -> Result<Vec<ObjRef>, Allo
     Ok(cells)
 }
 
-/// Adds references to the images that a node reads and writes, unless they are in the list.
+/// Adds a reference to each image that a node reads or writes, unless the list has it already.
 fn add_images(cells: &mut Vec<ObjRef>, node: &Node) -> Result<(), AllocError>
     ensures { OnOk result (cells.new.items ≡ with_cells cells.old.items (node_images node.now)) }
 {
@@ -46,7 +46,7 @@ fn add_images(cells: &mut Vec<ObjRef>, node: &Node) -> Result<(), AllocError>
     add_given(cells, parameters.output, node.out2)
 }
 
-/// Adds the reference of an operand of this kind, if the operand is given and an image.
+/// Adds the reference of an operand of this kind, if the operand is given and is an image.
 fn add_given(cells: &mut Vec<ObjRef>, kind: Kind, cell: Option<ObjRef>) -> Result<(), AllocError>
     ensures { OnOk result (cells.new.items ≡ with_cells cells.old.items (image_given kind cell)) }
 {

@@ -29,7 +29,7 @@ pub fn once_in_order()
         rounds_of_nodes nodes (length nodes) objects ≡ one_by_one steps objects }
 {}
 
-/// If a graph has no cycle, and no object has two writers, the result of the rounds is the only
+/// If a graph has no cycle and no object has two writers, then the result of the rounds is the only
 /// solution of the nodes' equations.
 pub fn rounds_solve()
     ensures solves { (nodes : List Node) (before : List NamedObject) → two_writers nodes ≡ false →

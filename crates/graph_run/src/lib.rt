@@ -1,14 +1,14 @@
 //! Runs nodes and graphs on a table of objects. OpenVX 1.3, "Graphs".
 //!
 //! - `lend_outputs` moves the output images of a single node to planes. `run_lent` then runs the
-//!   node. `return_outputs` moves the images back without a run.
+//!   node and moves the images back. `return_outputs` moves them back without a run.
 //! - `verify_in` verifies a graph.
 //! - `run` runs a verified graph.
 //! - `schedule_of` makes the schedule of a verified graph. `run_scheduled` runs the graph by its
 //!   schedule, any number of times, with the lists of a `Workspace`.
 //!
-//! The definition of a run has rounds, in each of which all nodes write at the same time. The code
-//! runs a graph as tasks over planes (`graph_steps`).
+//! By definition, a run consists of rounds. In each round all nodes write at the same time. The
+//! code instead runs a graph as tasks over planes (`graph_steps`).
 //!
 //! - `operand`: objects as operands
 //! - `once`: runs a single node
@@ -17,12 +17,12 @@
 //! - `runs`: runs a graph
 //! - `schedule`: the planes, slots, tasks, halos and bands of a run
 //! - `workspace`: lists of planes, blocks and tallies, for any number of runs
-//! - `cells`: references to the images behind the planes, and their indices
+//! - `cells`: references to the planes' images, and the index of each reference
 //! - `task_list`: the tasks of a graph
 //! - `sizes`: the halos of the planes, and the number of rows of a band
 //! - `blocks`: pool blocks that virtual images share
 //! - `virtual_planes`: planes of virtual images, over these blocks
-//! - `bind`: moves clients' images to planes and back
+//! - `bind`: moves the client's images to planes and back
 //! - `tables`: the tables, thresholds and matrices that nodes read
 //! - `tallies`: histograms and extremes
 //! - `laws`: laws of runs

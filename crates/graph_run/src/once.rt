@@ -44,7 +44,7 @@ pub fn run_lent(table: &mut Table, node: &Node, planes: OutputPlanes)
     run_to(table, node, Output::Second, node.out2, planes.second);
 }
 
-/// Writes one of a node's outputs, if the node has it. An image is in a plane.
+/// Writes one of a node's outputs, if the output is given. An output image must be in `plane`.
 fn run_to(
     table: &mut Table,
     node: &Node,
@@ -68,7 +68,7 @@ fn run_to(
 }
 
 /// Writes an output image, whose samples are in a plane, and moves the samples to the table. The
-/// inputs are in the table.
+/// node's inputs must be in the table.
 fn write_to(table: &mut Table, node: &Node, which: Output, output: ObjRef, mut plane: Plane)
     requires taken { IsInPlane table.old.objects output plane }
     requires runs { RunsTo (with_plane table.old.objects (Some output) (Some plane)) node.now
@@ -89,7 +89,7 @@ fn write_to(table: &mut Table, node: &Node, which: Output, output: ObjRef, mut p
     put_image(table, output, &mut plane);
 }
 
-/// Returns a node's second input, as its kernel reads it.
+/// Returns a node's second input, in the form that the node's kernel reads.
 fn second_of<'a>(table: &'a Table, node: &Node) -> SecondInput<'a>
     requires { HasInputs table.now.objects node.now }
     ensures { second_object result ≡ option_map (cell_object table.now.objects) node.now.in2 }

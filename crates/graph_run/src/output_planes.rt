@@ -1,5 +1,6 @@
-//! Planes for the output images of a node that runs by itself: the images' samples move from the
-//! table to the planes before the node is checked, and back after it has run or is refused.
+//! Planes for the output images of a node that runs by itself. The images' samples move from the
+//! table to the planes before the node is checked. They move back after the node has run or is
+//! refused.
 ghost use Rattle.std.specs.Prelude.{◌≡◌, map};
 ghost use Rattle.std.specs.List.Sorted.{IsStrictlyIncreasing};
 ghost use Rattle.std.specs.Option.{option_map};
@@ -40,9 +41,8 @@ impl OutputPlanes {
 }
 
 /// Moves the samples of a node's output images from the table to planes, if the node's function
-/// writes images. An output stays in the table if its name isn't live, or if it names no image or a
-/// virtual one. If both outputs are one image, its samples move to the second plane. Allocates
-/// nothing.
+/// writes images. An output stays in the table unless it is a non-virtual image with a live name.
+/// If both outputs are one image, its samples move to the second plane. Allocates nothing.
 pub fn lend_outputs(table: &mut Table, node: &Node) -> OutputPlanes
     requires { IsStrictlyIncreasing (map (λ o. o.name) table.old.objects) }
     ensures lent { LendsOutputs table.old table.new node.now result }
@@ -54,8 +54,8 @@ pub fn lend_outputs(table: &mut Table, node: &Node) -> OutputPlanes
     OutputPlanes { first, second }
 }
 
-/// Moves the samples of an output from the table to a plane, if images are wanted, and the output
-/// is given, has a live name and is an image that isn't virtual.
+/// Moves the samples of an output from the table to a plane. Nothing moves unless images are wanted
+/// and the output is a non-virtual image with a live name.
 fn lend(table: &mut Table, wanted: Kind, output: Option<ObjRef>) -> Option<Plane>
     requires { IsStrictlyIncreasing (map (λ o. o.name) table.old.objects) }
     ensures lent { LendsOutput table.old table.new output result }

@@ -1,5 +1,6 @@
-//! Runs a verified graph over planes. The samples of its images move from the table of objects to
-//! planes, its tasks run, and images and tallies move back.
+//! Runs a verified graph over planes. The samples of the client's images move from the table of
+//! objects to planes, and the graph's tasks run. Then the samples move back, and the tallies are
+//! written to objects of the table.
 ghost use Rattle.std.specs.Prelude.{◌≡◌, ◌≤◌, ◌<◌, ◌+◌, ℕ, [], List, drop, length, map};
 ghost use Rattle.std.specs.Prelude.{vec_capacity, All, None, OnErr, OnOk, Some};
 ghost use Rattle.std.specs.List.Sorted.{IsStrictlyIncreasing};
@@ -47,7 +48,7 @@ use vx_base::{Node, ObjRef};
 
 /// Runs a verified graph on the objects that its nodes name. OpenVX 1.3, "Graphs", vxProcessGraph.
 ///
-/// The nodes run in an order in which they can run. On large images, each node runs once for each
+/// The nodes run in the order of the verification. On large images, each node runs once for each
 /// band of rows. The virtual images that the nodes write share blocks of the pool, by the slots of
 /// the plan. At the end these blocks are given back, and the virtual images are as before. All
 /// memory is allocated first, so after an error the objects are as before; only the pool may have
@@ -85,8 +86,7 @@ pub fn run(
     run_scheduled(alloc, verified, &schedule, &mut lists, table, pool)
 }
 
-/// Runs a verified graph as `run` does, by a schedule that `schedule_of` made for this graph. The
-/// schedule stays right while the images and matrices that the nodes name keep their sizes.
+/// Runs a verified graph as `run` does, by a schedule that `schedule_of` made for this graph.
 ///
 /// The lists may be from a run of any graph. If the lists are large enough and the pool has free
 /// blocks that fit, the run allocates nothing.
@@ -149,8 +149,9 @@ pub fn run_scheduled(
     Ok(())
 }
 
-/// Proves that the sides of all descriptions are in range. The prover learns the ranges only by
-/// reading each description, so a loop reads them all; the compiler removes the loop.
+/// Proves that the width and height of each description are in range. The prover learns the range
+/// of a number only where the number is read, so a loop reads every description. The compiler
+/// removes the loop.
 fn prove_descriptions(verified: &Verified)
     ensures { All (λ o. IsDescription o.desc) verified.now.virtual_outputs }
 {
@@ -159,8 +160,9 @@ fn prove_descriptions(verified: &Verified)
     }
 }
 
-/// Fills the empty list of planes: adds planes of the graph's virtual images over blocks, and then
-/// planes of the clients' images, whose samples are taken from the table. The tasks can then run.
+/// Fills the empty list of planes. First come the planes of the virtual images, over the blocks of
+/// their slots, and then the planes of the client's images. The samples of the client's images are
+/// taken from the table. The tasks can then run.
 fn fill_planes(
     alloc: Global,
     verified: &Verified,
@@ -192,7 +194,7 @@ fn fill_planes(
     take_out(table, clients_of(&schedule.cells, images.len()), planes);
 }
 
-/// Returns the blocks of the virtual images to their slots. Moves the samples of the clients'
+/// Moves the blocks of the virtual images back to their slots. Moves the samples of the client's
 /// images back to the table, and writes the tallies to objects of the table.
 fn empty_planes(
     verified: &Verified,
@@ -224,7 +226,7 @@ fn empty_planes(
     set_tallies(table, &schedule.tally_cells, tallies);
 }
 
-/// Moves the clients' images back to the table. Their planes come after the planes of the virtual
+/// Moves the client's images back to the table. Their planes come after the planes of the virtual
 /// images.
 fn put_behind(table: &mut Table, virtuals: usize, cells: &[ObjRef], planes: &mut [Plane])
     requires cells { virtuals ≤ length cells.now }

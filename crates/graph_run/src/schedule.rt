@@ -20,13 +20,13 @@ use object_table::Table;
 use std::alloc::{AllocError, Global};
 use vx_base::{Format, ObjRef};
 
-/// The data that each run of a verified graph needs. A schedule is computed once, and stays right
-/// until the graph's nodes change.
+/// The data that each run of a verified graph needs. A schedule is computed once, and stays correct
+/// until the graph's nodes change, because images and matrices keep their sizes.
 #[derive(Drop)]
 pub struct Schedule {
-    /// References to the images of the planes: first the virtual images, then the clients' images.
+    /// References to the images of the planes: first the virtual images, then the client's images.
     pub(crate) cells: Vec<ObjRef>,
-    /// The slots of the virtual images, as indices among all slots.
+    /// The slots of the virtual images, as indices among the slots of all formats.
     pub(crate) slots: Vec<usize>,
     pub(crate) tasks: Vec<Task>,
     /// The halo of each plane.
@@ -81,7 +81,7 @@ pub fn schedule_of(
     })
 }
 
-/// Returns the references to the clients' images, which come after the references to the virtual
+/// Returns the references to the client's images, which come after the references to the virtual
 /// images.
 pub fn clients_of(cells: &[ObjRef], virtuals: usize) -> &[ObjRef]
     requires { virtuals ≤ length cells.now }

@@ -16,15 +16,15 @@ use object_table::Table;
 use std::alloc::{AllocError, Global};
 use vx_base::{Desc, ObjRef};
 
-/// The least number of samples of an image for which bands are used. Smaller images fit the cache,
-/// so bands gain nothing.
+/// The least number of samples of an image for which bands are used. Smaller images fit in the
+/// cache, so bands gain nothing.
 const LEAST_SAMPLES: usize = 131_072;
 
 /// The least number of samples of an image for which bands with halos are used. For smaller images,
 /// computing the halo rows twice costs as much as bands gain.
 const LEAST_SAMPLES_WITH_HALO: usize = 500_000;
 
-/// The wanted number of samples of an image in a band, so that the bands of a few images fit the
+/// The wanted number of samples of an image in a band, so that the bands of a few images fit in the
 /// cache together.
 const BAND_SAMPLES: u32 = 65_536;
 
@@ -34,7 +34,7 @@ const GREATEST_BAND_SAMPLES: u32 = 2_097_152;
 /// The least number of rows of a band. With fewer rows, the calls of the steps cost too much time.
 const LEAST_ROWS: u32 = 16;
 
-/// The greatest number of rows of a band, unless its halo asks for more. Further rows gain nothing.
+/// The greatest number of rows of a band, unless its halo needs more. Larger bands gain nothing.
 const GREATEST_ROWS: u32 = 64;
 
 /// The greatest number of rows of a band, whatever the halo.
@@ -43,7 +43,8 @@ const GREATEST_ROWS_WITH_HALO: u32 = 1_024;
 /// The least number of bands. With fewer bands, a graph gains nothing.
 const LEAST_BANDS: u16 = 4;
 
-/// The wanted number of rows of a band for each row of its halo; halo rows are computed twice.
+/// The wanted number of rows of a band for each row of its halo. Halo rows are computed twice, so a
+/// band needs many more rows than its halo.
 const ROWS_FOR_HALO_ROW: u32 = 16;
 
 /// The least number of rows of a band for each row of its halo. With fewer rows, bands cost more
@@ -52,8 +53,8 @@ const LEAST_FOR_HALO_ROW: u16 = 4;
 
 // ---- heights
 
-/// Returns the height of the tallest image of a graph, and at least 1. The graph's images are these
-/// virtual images and the images that `clients` name.
+/// Returns the height of the tallest image of a graph, but at least 1. The graph's images are the
+/// virtual images in `images` and the images that `clients` refers to.
 pub fn high_of(table: &Table, images: &[VirtualOutput], clients: &[ObjRef]) -> u16
     requires { HoldImages table.now.objects clients.now }
     ensures some { 0 < result }
@@ -67,7 +68,7 @@ pub fn high_of(table: &Table, images: &[VirtualOutput], clients: &[ObjRef]) -> u
     high
 }
 
-/// Returns the height of the tallest virtual image, and at least 1.
+/// Returns the height of the tallest virtual image, but at least 1.
 fn highest_virtual(images: &[VirtualOutput]) -> u16
     ensures some { 0 < result }
     ensures virtuals { All (λ o. o.desc.height ≤ result) images.now }
@@ -81,7 +82,7 @@ fn highest_virtual(images: &[VirtualOutput]) -> u16
 
 // ---- halos
 
-/// Returns the halo of each plane, for images of at most this height.
+/// Returns the halo of each of the `count` planes, for images of at most `high` rows.
 pub fn halos_of(
     alloc: Global,
     high: u16,
@@ -102,8 +103,8 @@ pub fn halos_of(
 
 // ---- bands
 
-/// Returns the number of rows of a band. If bands gain nothing, or if a step would add to a row
-/// twice, the number is `high`: there is then one band, with all rows.
+/// Returns the number of rows of a band. The number is `high` if bands gain nothing, or if
+/// `add_once` returns false. There is then one band, with all rows.
 pub fn band_size(
     high: u16,
     table: &Table,
@@ -125,7 +126,7 @@ pub fn band_size(
     }
 }
 
-/// Returns the description of the image that the first step reads, if it is known.
+/// Returns the description of the first node's first input, if the description is known.
 fn first_desc(table: &Table, verified: &Verified) -> Option<Desc> {
     let node = verified.steps().first()?;
     if let Some(desc) = verified.desc_of(node.in1) {
@@ -146,8 +147,8 @@ fn greatest_halo(halos: &[u16]) -> u16 {
     most
 }
 
-/// Returns the number of rows of a band for images of this description, with this greatest halo.
-/// Returns `None` if bands gain nothing.
+/// Returns the number of rows of a band, for images of this description and halos of at most `halo`
+/// rows. Returns `None` if bands gain nothing.
 fn rows_of(desc: Desc, halo: u16) -> Option<u16>
     ensures { IfSome result (λ rows. 0 < rows) }
 {
@@ -189,7 +190,7 @@ fn add_once(tasks: &[Task], halos: &[u16]) -> bool
     true
 }
 
-/// Returns whether a task that reads its output writes each row once, to a block of all rows.
+/// Returns whether a task doesn't read its output, or writes each row once to a block of all rows.
 fn adds_once(task: &Task, halos: &[u16]) -> bool
     ensures { result ≡ true → (s : StepValue) → task.now ≡ Write s →
         reads_output s.node.function ≡ true →

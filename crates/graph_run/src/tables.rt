@@ -1,4 +1,4 @@
-//! The tables, thresholds and matrices that the nodes of a graph read in a table of objects.
+//! The lookup tables, thresholds and matrices that a graph's nodes read, from a table of objects.
 ghost use Rattle.std.specs.Prelude.{◌≡◌, IfSome, Some};
 ghost use Rattle.std.proofs.Props.{props};
 ghost use Rattle.vx_base.specs.Object.{object_kind};
@@ -11,7 +11,8 @@ use image_core::SecondInput;
 use object_table::{Content, Object, Table};
 use vx_base::{Kind, Node};
 
-/// The tables, thresholds and matrices of a graph's nodes, each at the index of its node.
+/// The lookup tables, thresholds and matrices that a graph's nodes read, each at the index of its
+/// node.
 #[derive(Drop)]
 pub struct NodeTables<'a> {
     pub table: &'a Table,
@@ -30,7 +31,7 @@ impl<'a> Tables for NodeTables<'a> {
     }
 }
 
-/// Returns the table, threshold or matrix that a node reads, if it reads one.
+/// Returns the lookup table, threshold or matrix that a node reads, if it reads one.
 pub fn table_of<'a>(table: &'a Table, node: &Node) -> SecondInput<'a>
     requires { IfSome (node_table table.now.objects node.now)
         (λ object. IsLent (object_kind object)) }

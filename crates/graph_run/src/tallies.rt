@@ -17,7 +17,8 @@ use object_table::{Content, Distribution, Object, Table};
 use std::alloc::{AllocError, Global};
 use vx_base::{Bins, Extremes, Kind, Node, ObjRef};
 
-/// Returns references to the histograms and extremes that nodes write, in the order of the nodes.
+/// Returns references to the distributions and extremes that nodes write, in the order of the
+/// nodes.
 pub fn tally_cells(alloc: Global, steps: &[Node]) -> Result<Vec<ObjRef>, AllocError>
     ensures { IfOk result (λ cells. cells.items ≡ tally_cells steps.now) }
 {
@@ -28,7 +29,7 @@ pub fn tally_cells(alloc: Global, steps: &[Node]) -> Result<Vec<ObjRef>, AllocEr
     Ok(cells)
 }
 
-/// Adds the reference to a node's histogram or extremes, if the node writes either.
+/// Adds the reference to the distribution or extremes that a node writes, if it writes either.
 fn add_tally_cell(cells: &mut Vec<ObjRef>, node: &Node) -> Result<(), AllocError>
     ensures { OnOk result (cells.new.items
         ≡ cells.old.items ++ tally_cell (parameters node.now.function).output node.now) }
@@ -42,7 +43,7 @@ fn add_tally_cell(cells: &mut Vec<ObjRef>, node: &Node) -> Result<(), AllocError
     }
 }
 
-/// Clears the list and adds an empty tally for each node that writes a histogram or extremes.
+/// Clears the list and adds an empty tally for each node that writes a distribution or extremes.
 pub fn begin_tallies(
     tallies: &mut Vec<Tally>,
     table: &Table,
@@ -58,7 +59,7 @@ pub fn begin_tallies(
     Ok(())
 }
 
-/// Adds an empty tally for a node that writes a histogram or extremes.
+/// Adds an empty tally for a node, if the node writes a distribution or extremes.
 fn add_tally(tallies: &mut Vec<Tally>, table: &Table, node: &Node) -> Result<(), AllocError>
     requires { KeepsTally table.now.objects (parameters node.now.function).output
         (unwrap_or node.now.out1 node.now.in1) }
@@ -75,8 +76,8 @@ fn add_tally(tallies: &mut Vec<Tally>, table: &Table, node: &Node) -> Result<(),
     }
 }
 
-/// Returns an empty tally for the object that a reference names: a histogram with the object's
-/// bins if the object is a distribution, else extremes.
+/// Returns an empty tally for the object that a reference names: a histogram with the object's bins
+/// if the object is a distribution, else extremes.
 pub fn tally_for(table: &Table, wanted: Kind, cell: ObjRef) -> Tally
     requires keeps { KeepsTally table.now.objects wanted cell }
     requires other { wanted ≢ kind.Image }
@@ -110,7 +111,7 @@ fn distribution_of(object: &Object) -> &Distribution
     }
 }
 
-/// Returns the extremes of no samples.
+/// Returns empty extremes, to which no sample was added.
 fn no_extremes() -> Extremes
     ensures { result ≡ no_extremes }
 {

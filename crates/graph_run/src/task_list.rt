@@ -50,7 +50,8 @@ pub fn tasks_of(
     Ok(tasks)
 }
 
-/// Adds the tasks of the node at index `at` of the order. `tally` is the index of the next tally.
+/// Adds the tasks of a node, which has index `at` in the order of the nodes. `tally` is the index
+/// of the next tally.
 fn add_tasks(
     tasks: &mut Vec<Task>,
     binding: &Binding<'_>,
@@ -77,7 +78,7 @@ fn add_tasks(
     }
 }
 
-/// Returns the index of the next tally after a node.
+/// Returns the index of the next tally after a node's tasks are added. `tally` is the index before.
 fn tally_after(tally: usize, node: &Node) -> usize
     requires { tally + 1 < 2 ^ 64 }
     ensures { result ≡ tally_after tally (parameters node.now.function).output }
@@ -147,8 +148,8 @@ fn source(cells: &[ObjRef], at: usize, node: &Node) -> SecondSource
 
 // ---- radii
 
-/// Returns a node's radius: the number of input rows that it reads above an output row, and as many
-/// below. The radius is `high` if the node reads all rows.
+/// Returns a node's radius: the number of input rows that it reads above an output row. It reads
+/// the same number of rows below. The radius is `high` if the node reads all rows.
 pub fn radius_of(table: &Table, high: u16, node: &Node) -> u16
     ensures { result ≡ radius_of table.now.objects high node.now }
 {
@@ -184,7 +185,9 @@ fn taken(slots: &[usize], at: usize) -> Option<usize>
     }
 }
 
-/// Returns the index of the image that has a slot's block after `count` images are written.
+/// Returns the index of the virtual image that has a slot's block after the first `count` virtual
+/// images are written in a band. If none of these images is in the slot, the slot's last image has
+/// the block, from the previous band or from the start of the run.
 fn holder(slots: &[usize], slot: usize, count: usize) -> Option<usize>
     requires { count ≤ length slots.now }
     ensures { result ≡ holder slots.now slot count }

@@ -17,10 +17,11 @@ use object_table::Table;
 use std::alloc::{AllocError, Global};
 use vx_base::{Node, Numbered, ObjRef};
 
-/// Verifies a graph of a table: returns its nodes in an order in which they can run. The first
-/// input of each node must be an image.
+/// Verifies a graph whose nodes name objects of a table. Returns the nodes in an order in which
+/// they can run, and the virtual images that they write. The first input of each node must be an
+/// image.
 ///
-/// `work` is the quota in bytes for the virtual images that the graph writes. An error means that
+/// `work` is the limit in bytes for the virtual images that the graph writes. An error means that
 /// there is no memory, or that the graph can't run. If the graph can't run, the error holds the
 /// verdict.
 pub fn verify_in(

@@ -14,8 +14,8 @@ use pixel_pool::Block;
 use std::alloc::Global;
 use vx_base::{Format, Samples};
 
-/// Adds planes for virtual images. The last image in a slot gets the slot's block; each other image
-/// gets an empty block.
+/// Adds planes for virtual images. The last image in a slot gets the slot's block. Every other
+/// image gets an empty block.
 pub fn add_virtual(
     alloc: Global,
     images: &[VirtualOutput],
@@ -42,8 +42,8 @@ pub fn add_virtual(
     }
 }
 
-/// Returns the block of the virtual image at index `k` before a run. The last image in a slot has
-/// the slot's block; each other image has an empty block.
+/// Returns the block that the virtual image at index `k` has before a run. The last image in a slot
+/// has the slot's block. Every other image has an empty block.
 fn first_block(alloc: Global, slots: &[usize], k: usize, blocks: &mut [Block]) -> Samples
     requires there { k < length slots.now }
     requires within { slice_index_or slots.now k 0 < length blocks.old }
@@ -81,7 +81,8 @@ fn empty_block(alloc: Global, format: Format) -> Samples
     }
 }
 
-/// Puts the blocks of virtual planes back into the slots from which they were taken.
+/// Moves each slot's block back from the plane of the slot's last image. After a run, the block is
+/// in that plane.
 pub fn return_blocks(slots: &[usize], blocks: &mut [Block], planes: &mut [Plane])
     requires count { length slots.now ≤ length planes.old }
     requires within { (k : ℕ) → k < length slots.now →

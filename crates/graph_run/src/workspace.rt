@@ -4,8 +4,8 @@ use pixel_pool::Block;
 use std::alloc::Global;
 
 /// The lists of a run: its planes, the blocks of the slots, and its tallies. A run first empties
-/// the lists, but keeps their memory, so a later run allocates none unless it needs longer lists.
-/// Between runs the lists hold no samples, and no block of the pool.
+/// the lists but keeps their memory. A later run allocates memory for a list only if it needs a
+/// longer one. Between runs the lists hold no samples, and no block of the pool.
 #[derive(Drop)]
 pub struct Workspace {
     pub(crate) planes: Vec<Plane>,

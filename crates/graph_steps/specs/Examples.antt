@@ -57,7 +57,8 @@ abbrev pub box_step : ℕ → ℕ → Option ℕ → Step
 box_step input output takes =
     record { node = box_node; which = First; first = input; second = Nothing; output = output; takes = takes; radius = 1 }
 
--- two box filters, from a client's image through a virtual image to a client's image; and the extremes of the virtual image
+-- two box filters in sequence, with a virtual image between them, and a reduction of the virtual
+-- image to its extremes
 abbrev pub boxes : List Task
 boxes = Write (box_step 0 1 (Some 1)) ∷ Write (box_step 1 2 None) ∷ Reduce (record { input = 1; tally = 0 }) ∷ []
 
@@ -65,7 +66,8 @@ boxes = Write (box_step 0 1 (Some 1)) ∷ Write (box_step 1 2 None) ∷ Reduce (
 abbrev pub box_planes : List PlaneValue
 box_planes = client_plane ∷ block_plane ∷ client_plane ∷ []
 
--- the halos of these planes: each filter needs one more row of its input than of its output, above and below
+-- the halos of these planes: each filter needs one more row of its input than of its output, above
+-- and below
 abbrev pub box_halos : List ℕ
 box_halos = 2 ∷ 1 ∷ 0 ∷ []
 
@@ -85,7 +87,7 @@ abbrev pub integral_step : Step
 integral_step =
     record { node = record box_node { function = Integral }; which = First; first = 0; second = Nothing; output = 1; takes = None; radius = 0 }
 
--- the program with the integral image
+-- the program whose only task is this step
 abbrev pub sums : List Task
 sums = Write integral_step ∷ []
 

@@ -1,4 +1,5 @@
--- Planes: images while a graph runs. A plane's block of samples holds some or all rows of the image.
+-- Planes: images while a graph runs. A plane's block of samples holds some or all rows of the
+-- image.
 use Rattle.std.specs.Prelude.{ℕ, ℤ, ◌+◌, ◌-◌, ◌*◌, ◌≤◌, ◌≡◌, min, List, [], ◌++◌, take, drop, length, slice_index_or}
 use Rattle.vx_base.specs.declared.format.Format.{Format}
 use Rattle.vx_base.specs.declared.format.Format.TheVariants.{U8}
@@ -24,7 +25,7 @@ pub record PlaneValue : Type 0 where
 abbrev pub rows_of_block : ℕ → ℕ → Band → List ℤ → List ℤ
 rows_of_block width top rows samples = take (rows.count * width) (drop ((rows.start - top) * width) samples)
 
--- the image that a step reads: 0 outside the plane's rows
+-- the image that a step reads; samples outside the plane's readable rows are 0
 abbrev pub plane_image : PlaneValue → ImageValue
 plane_image p = image_over_rows p.desc p.valid p.rows (rows_of_block p.desc.width p.top p.rows p.samples)
 
@@ -42,8 +43,8 @@ written_among top rows image old =
     take ((rows.start - top) * image.width) old
     ++ (band image.width rows.start rows.count (pixel_at image) ++ drop ((rows.start - top + rows.count) * image.width) old)
 
--- the plane after these rows of an image are written to it; the plane then has these rows, and the
--- image's valid rectangle
+-- the plane after these rows of an image are written to it; only these rows are then readable, and
+-- the plane has the image's valid rectangle
 abbrev pub with_rows : Band → ImageValue → PlaneValue → PlaneValue
 with_rows rows image p =
     record { desc = p.desc; valid = image.valid; top = p.top; rows = rows; format = p.format; samples = written_among p.top rows image p.samples }

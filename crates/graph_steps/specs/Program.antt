@@ -48,8 +48,8 @@ AreInOrder (Reduce r ∷ later) = AreInOrder later
 abbrev pub halo : List ℕ → ℕ → ℕ
 halo halos c = slice_index_or halos c 0
 
--- the halo of each of a step's inputs is at least the output's halo plus the step's radius, limited
--- to the greatest image height
+-- the halo of each of a step's inputs is at least the output's halo plus the step's radius, or at
+-- least `high`
 abbrev pub Suffice : ℕ → List ℕ → List Task → Type 0
 Suffice high halos tasks =
     (s : Step) → IsStepOf s tasks → (c : ℕ) → ReadsPlane s c → min high (halo halos s.output + s.radius) ≤ halo halos c
@@ -88,7 +88,7 @@ IsLive kept [] c = kept c
 IsLive kept (Write s ∷ later) c = ReadsPlane s c ⊎ ((c ≢ s.output) × IsLive kept later c)
 IsLive kept (Reduce r ∷ later) c = (r.input ≡ c) ⊎ IsLive kept later c
 
--- each block is taken from a plane whose rows aren't needed any more
+-- a step takes its own output's block, or the block of a plane whose rows aren't needed any more
 abbrev pub AreFree : (ℕ → Type 0) → List Task → Type 0
 AreFree kept [] = Unit {0}
 AreFree kept (Reduce r ∷ later) = AreFree kept later
@@ -140,7 +140,7 @@ pub record IsProgram (tables : ℕ → Option ObjectValue) (high size : ℕ) (ha
   pub halo_count : length halos ≡ length planes
   pub enough : Suffice high halos tasks
   pub one_writer : HaveOneWriter tasks
-  -- each row that a step reads was written before, or belongs to a client's image that no step writes
+  -- a task's input was written by an earlier step, or is a client's image that no step writes
   pub begins : (c : ℕ) → IsLive (KeepsBlock (length planes) tasks) tasks c → IsUnwritten tasks c × KeepsBlock (length planes) tasks c
   pub clients : (c : ℕ) → KeepsBlock (length planes) tasks c → IsClient (plane planes c)
   pub written : (s : Step) → IsStepOf s tasks → s.takes ≡ None → KeepsBlock (length planes) tasks s.output

@@ -70,11 +70,13 @@ abbrev pub is_integral : Function → Bool
 is_integral Integral = true
 is_integral other = false
 
--- whether a step reads its output: it accumulates, or continues from the row above
+-- whether a step with this function reads its output: whether it accumulates or writes an integral
+-- image
 abbrev pub reads_output : Function → Bool
 reads_output function = accumulates function || is_integral function
 
--- the integral image's row above `start`, in a block that begins with row `top`; 0 if the block has no such row
+-- the integral image's row above `start`, in a block that begins with row `top`; 0 if the block has
+-- no such row
 abbrev pub sums_above : ℕ → ℕ → ℕ → List ℤ → ℕ → ℕ
 sums_above width top start samples x = if start == top then 0 else unsigned_abs (slice_index_or samples ((start - top - 1) * width + x) (pos 0))
 
@@ -95,7 +97,8 @@ step_radius function matrix = if is_integral function then Some 0 else window_ra
 
 -- ---- premises of a step
 
--- the inputs and an output of this description have the kinds, formats and sizes that the function takes
+-- the inputs and an output of this description have the kinds, formats and sizes that the function
+-- takes
 pub record CanMake (s : Step) (first : ImageValue) (second : Option ObjectValue) (out : Description) : Type 0 where
   pub node : IsNode s.node
   pub kind : IfSome second (λ object. (parameters s.node.function).second_input ≡ Some (object_kind object))

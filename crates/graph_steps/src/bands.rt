@@ -76,8 +76,10 @@ fn run_band<T: Tables>(
 
 /// Runs a program in bands of `size` rows, over planes of at most `high` rows.
 ///
-/// The results don't depend on `size`. Each client's image and each tally is the same as in any
-/// solution of the steps' equations over whole images.
+/// The results don't depend on `size`: they are those of any solution of the steps' equations over
+/// whole images. Afterwards the plane of a client's image holds the solution's image. If a
+/// reduction's tally was new, it becomes the tally of the solution's image for the reduction's
+/// input.
 pub fn run<T: Tables>(
     tables: &T,
     tasks: &[Task],

@@ -15,7 +15,8 @@ fn raise(halos: &mut [u16], at: usize, rows: u16)
     halos[at] = halos[at].max(rows);
 }
 
-/// Raises the halos of a step's inputs to its output's halo plus the step's radius.
+/// Raises the halo of each of a step's inputs to at least the output's halo plus the step's radius.
+/// The sum is limited to `high`.
 fn raise_inputs(step: &Step, high: u16, halos: &mut [u16])
     requires reads { (c : ℕ) → ReadsPlane step.now c → c < length halos.old }
     requires output { step.now.output < length halos.old }

@@ -24,7 +24,8 @@ pub struct Kernel<'k, 'f, 's> {
 }
 
 impl<'k, 'f, 's> Kernel<'k, 'f, 's> {
-    /// Writes the output's rows, and its valid rectangle. A step that accumulates adds to the rows.
+    /// Writes the output's rows and sets the output's valid rectangle. A step that accumulates adds
+    /// to the old rows.
     pub fn run(&self, output: &mut ImageMut<'_>)
         requires target { IsTarget output.old }
         requires can { CanMake self.now.step.now self.now.first.now

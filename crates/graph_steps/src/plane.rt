@@ -46,7 +46,7 @@ impl Model for Plane {
 }
 
 impl Plane {
-    /// Returns the plane of a client's image: all samples, row by row.
+    /// Returns the plane of a client's image. `samples` has all samples of the image, row by row.
     pub fn of_image(desc: Desc, valid: Rect, samples: Samples) -> Plane
         ensures { result ≡ whole_plane desc valid samples }
     {
@@ -133,7 +133,7 @@ impl Plane {
         }
     }
 
-    /// Returns the image that a step reads: 0 outside the plane's rows.
+    /// Returns the image that a step reads. Samples outside the plane's readable rows are 0.
     pub fn image(&self) -> Image<'_>
         requires { IsReadable self.now }
         ensures { result ≡ plane_image self.now }

@@ -14,8 +14,8 @@ use image_core::{Band, Image, ImageMut, Sample};
 use stat_kernels::{integral_on, row_above};
 use vx_base::{Desc, Rect};
 
-/// Returns the image with these rows of a block that begins with row `top`, and 0 in all other
-/// rows.
+/// Returns the image that has these rows, read from a block that begins with row `top`. All other
+/// rows are 0.
 pub fn read_rows<T: Sample>(
     desc: Desc,
     valid: Rect,
@@ -38,9 +38,9 @@ pub fn read_rows<T: Sample>(
     Image::of_rows(desc, valid, rows, &samples[start..start + count])
 }
 
-/// Writes the rows that a kernel computes to `$samples`, and returns the output's valid rectangle.
-/// The prover follows an output's samples only at a known type, so each impl of `RowSample` has
-/// this body.
+/// Writes to `$samples` the rows that a kernel computes, and returns the output's valid rectangle.
+/// The prover can reason about an output's samples only if their type is known, so each impl of
+/// `RowSample` has this body.
 macro_rules! make_rows {
     ($desc:expr, $rows:expr, $valid:expr, $samples:expr, $kernel:expr) => {{
         let mut output = ImageMut::of_rows($desc, $rows, $samples);
@@ -52,7 +52,7 @@ macro_rules! make_rows {
 
 /// A sample type in which kernels write rows.
 pub trait RowSample: Sample {
-    /// Writes the rows that a kernel computes to `samples`, and returns the output's valid
+    /// Writes to `samples` the rows that a kernel computes, and returns the output's valid
     /// rectangle. `valid` is the output's previous valid rectangle.
     fn make_rows(
         desc: Desc,

@@ -5,8 +5,8 @@ ghost use Rattle.image_core.specs.Second.{second_object};
 
 use image_core::SecondInput;
 
-/// Gives the table, threshold or matrix at an index. The steps of a program name each of these
-/// objects by its index.
+/// Gives the table, threshold or matrix at an index. The steps of a program refer to these objects
+/// by their indices.
 pub trait Tables {
     /// The table, threshold or matrix at each index. `None` if there is none.
     ghost tables: { Self → ℕ → Option ObjectValue };

@@ -30,7 +30,7 @@ impl Model for Histogram {
 }
 
 impl Histogram {
-    /// Returns a histogram without samples.
+    /// Returns a histogram in which all counts are 0.
     pub fn new(bins: Bins) -> Histogram
         ensures { result ≡ new_distribution bins }
     {
@@ -72,7 +72,7 @@ pub enum Tally {
 }
 
 impl Tally {
-    /// Adds these rows of an image, which are below the rows added before.
+    /// Adds these rows of an image, as rows below all rows that were added before.
     pub fn add(&mut self, image: &Image<'_>, rows: Band)
         requires rows { IsInRows image.now.height rows }
         requires can { CanAdd rows image.now self.old }

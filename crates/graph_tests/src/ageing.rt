@@ -39,7 +39,7 @@ fn age(table: &mut Table, graph: u32) -> Result<(), Fail> {
     Ok(())
 }
 
-/// Returns whether a slot of the delay of this name has the samples `wanted`.
+/// Returns whether the given slot of the delay of this name has the samples `wanted`.
 fn slot_holds(table: &Table, name: u32, slot: u8, wanted: [u8; 2]) -> bool {
     match table.get_held(name) {
         Some(object) => match object.content() {
@@ -53,7 +53,8 @@ fn slot_holds(table: &Table, name: u32, slot: u8, wanted: [u8; 2]) -> bool {
     }
 }
 
-/// Inserts a delay of three images into a new table, under name 1, and writes its newest image.
+/// Inserts a delay of three images into a new table, under name 1. Writes a picture to the delay's
+/// newest image.
 fn hold_written(table: &mut Table, delay: Delay, picture: &Picture) -> Result<(), Fail>
     requires table { table.old ≡ new_context }
     requires delay { IsDelay delay }

@@ -1,4 +1,4 @@
-//! References into a table: images, and slots of delays.
+//! Cells of a table: images, and slots of delays.
 ghost use Rattle.std.specs.Prelude.{◌≡◌, true, IfOk};
 ghost use Rattle.vx_base.specs.declared.format.Format.TheVariants.{U8};
 ghost use Rattle.vx_base.specs.Reference.{reference_to};
@@ -71,8 +71,8 @@ pub fn holds(table: &mut Table, name: u32, wanted: [u8; 2]) -> bool {
     holds
 }
 
-/// Inserts an image into a new table, under name 1, writes a picture to it, and sets its valid
-/// rectangle.
+/// Inserts an image into a new table, under name 1. Writes a picture to the image, and then sets
+/// the image's valid rectangle.
 fn write(table: &mut Table, image: Stored, picture: &Picture, part: Rect) -> Result<(), Fail>
     requires table { table.old ≡ new_context }
     requires image { IsImage image }
@@ -102,7 +102,7 @@ fn an_image_is_written_and_valid_in_a_part(rt: HostRuntime) -> Result<(), Fail> 
 }
 
 /// Inserts a delay of three images into a new table, writes the newest image and ages the delay.
-/// Returns the samples of all three images, newest first.
+/// Returns the samples of the three slots, in order from slot 0.
 fn aged(
     table: &mut Table,
     delay: Delay,

@@ -14,7 +14,7 @@ use vx_base::{
     Border, Desc, Format, Function, Kind, Node, NodeSpec, ObjRef, PartialDesc, Policy, VirtualImage,
 };
 
-/// Returns the node Not, from the image named `input` to the image named `output`.
+/// Returns a Not node that reads the image named `input` and writes the image named `output`.
 pub fn not(input: u32, output: u32) -> Result<NodeSpec, Fail>
     ensures { IfOk result (λ n. n ≡ not_to input output) }
 {
@@ -118,7 +118,7 @@ fn a_verified_graph_has_an_order_and_descriptions(rt: HostRuntime) -> Result<(),
     Ok(())
 }
 
-/// Returns a table of images 1 and 2, of four samples each, and graph 3.
+/// Returns a table and its pool. The table has images 1 and 2, of four samples each, and graph 3.
 fn images_and_a_graph(alloc: Global) -> Result<Holdings, Fail> {
     let desc = Desc::new(2, 2, Format::U8).ok_or("within the limits")?;
     let mut holdings = Holdings::new(alloc);
@@ -140,8 +140,8 @@ pub fn is_graph(table: &Table, name: u32) -> bool
     }
 }
 
-/// Adds the node Not to the graph named `graph`, from the image named `input` to the image named
-/// `output`. Returns the node's number.
+/// Adds a Not node to the graph named `graph`, and returns the node's number. The node reads the
+/// image named `input` and writes the image named `output`.
 fn add_not(holdings: &mut Holdings, graph: u32, input: u32, output: u32) -> Result<u32, Fail> {
     let node = not(input, output)?;
     let table = &mut holdings.table;

@@ -24,8 +24,8 @@ impl Holdings {
         }
     }
 
-    /// Inserts a new image with this description, and returns the image's name. A fault hands the
-    /// image back.
+    /// Inserts a new image with this description, and returns the image's name. If the table
+    /// refuses the image, returns the fault and the image.
     pub fn offer(&mut self, desc: Desc) -> Result<Result<u32, InsertFault>, Fail> {
         let image = Stored::new(&mut self.pool, desc)?;
         Ok(self.table.insert(Object::new(Content::Image(image))))

@@ -58,14 +58,14 @@ fn node(function: Function, in1: u32, in2: Option<u32>, out1: u32, out2: Option<
     }
 }
 
-/// Returns the node Not, from one image to another.
+/// Returns a Not node that reads the image named `in1` and writes the image named `out1`.
 fn not(in1: u32, out1: u32) -> Linked
     ensures { IsTrue (is_image result.operands.in1) }
 {
     node(Function::NotBits, in1, None, out1, None)
 }
 
-/// Returns the node Box, from one image to another.
+/// Returns a Box node that reads the image named `in1` and writes the image named `out1`.
 fn mean(in1: u32, out1: u32) -> Linked
     ensures { IsTrue (is_image result.operands.in1) }
 {

@@ -54,7 +54,7 @@ fn objects_are_operands(rt: HostRuntime) -> Result<(), Fail> {
     Ok(())
 }
 
-/// Returns the result of a node Not on two samples.
+/// Returns the result of a Not node for two samples.
 fn not_of(alloc: Global, samples: [u8; 2]) -> Result<[u8; 2], Fail> {
     let node = not(1, 2)?.node();
     let desc = Desc::new(2, 1, Format::U8).ok_or("within the limits")?;
@@ -105,8 +105,8 @@ fn a_node_runs_by_itself(rt: HostRuntime) -> Result<(), Fail> {
     Ok(())
 }
 
-/// Inserts two images, graph 3 and a virtual image into a new table. Runs the graph from image 1 to
-/// image 2 through the virtual image. Both nodes are Not, and the second node is added first.
+/// Inserts two images, graph 3 and a virtual image into a new table. Runs the graph: two Not nodes
+/// from image 1 through the virtual image to image 2. The node that runs second is added first.
 fn run_two(
     alloc: Global,
     table: &mut Table,
@@ -158,7 +158,7 @@ fn hold_through(table: &mut Table, declared: PartialDesc) -> Result<(), Fail>
     Ok(())
 }
 
-/// Returns the node Box, from the image named `input` to the image named `output`.
+/// Returns a Box node that reads the image named `input` and writes the image named `output`.
 fn mean(input: u32, output: u32) -> Result<NodeSpec, Fail>
     ensures { IfOk result (λ n. n ≡ box_to input output) }
 {
@@ -175,7 +175,8 @@ fn mean(input: u32, output: u32) -> Result<NodeSpec, Fail>
     Ok(NodeSpec::new(node).ok_or("it has what its function has")?)
 }
 
-/// Adds the node Box to graph 3, from the image named `input` to the image named `output`.
+/// Adds a Box node to graph 3. The node reads the image named `input` and writes the image named
+/// `output`.
 fn add_box(table: &mut Table, input: u32, output: u32) -> Result<(), Fail>
     ensures { OnOk result (table.new ≡ with_objects table.old (with_graph table.old.objects 3
         (with_node (graph_under table.old.objects 3) (box_to input output)))) }
@@ -189,7 +190,7 @@ fn add_box(table: &mut Table, input: u32, output: u32) -> Result<(), Fail>
 }
 
 /// Returns a table with two images, a graph and five virtual images. The graph is a chain of six
-/// nodes Box from the first image through the virtual images to the second image.
+/// Box nodes from the first image through the virtual images to the second image.
 fn chain(alloc: Global, input: Stored, output: Stored, declared: PartialDesc) -> Result<Table, Fail>
     requires input { IsImage input }
     requires output { IsImage output }
@@ -239,7 +240,7 @@ fn six_nodes_in_a_row_run_in_two_blocks(rt: HostRuntime) -> Result<(), Fail> {
     assert!(rt; run_chain(alloc, &mut table, &mut pool)? == 2);
     assert!(rt; run_chain(alloc, &mut table, &mut pool)? == 2);
 
-    // No pixel of so narrow an image is valid after Box.
+    // After Box, an image of 2 by 1 samples has no valid pixels.
     assert!(rt; holds(&mut table, 2, [0, 0]));
     Ok(())
 }

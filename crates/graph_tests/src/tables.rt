@@ -75,7 +75,7 @@ fn a_delay_has_its_slots(rt: HostRuntime) -> Result<(), Fail> {
     Ok(())
 }
 
-/// Inserts an object, which isn't a graph with nodes, and returns its name.
+/// Inserts an object that isn't a graph with nodes. Returns the object's name.
 pub fn hold(table: &mut Table, content: Content) -> Result<u32, Fail>
     requires { nodes_in (value_of content) ≡ [] }
     ensures { OnOk result (table.new ≡ with_new table.old (value_of content)) }

@@ -19,7 +19,7 @@ IsCycle feeds (a ∷ as') = Chain feeds a as' a
 abbrev pub HasCycle : {N : Type 0} → (N → N → Bool) → List N → Type 0
 HasCycle {N} feeds g = (ns : List N) × IsCycle feeds ns × AllIn ns g
 
--- the nodes of the list that some node of the list feeds
+-- the nodes of a list that are fed by a node of the same list
 abbrev pub fed_nodes : {N : Type 0} → (N → N → Bool) → List N → List N
 fed_nodes feeds g = filter (λ n. list_any (λ m. feeds m n) g) g
 

@@ -26,7 +26,8 @@ node_to function policy input second output =
       out2 = None;
     }
 
--- Bitwise Not of an image; in this and the next definitions the numbers are the names of the operands
+-- Bitwise Not of an image; in this and the next definitions the numbers are the names of the
+-- operands
 abbrev pub not_to : ℕ → ℕ → Node
 not_to input output = node_to NotBits Wrap input None output
 
@@ -55,7 +56,7 @@ abbrev pub virtual_of : Option Format → Operand
 virtual_of format = Virtual (record { width = None; height = None; format = format })
 
 -- names 1 to 3 are U8 images of one pixel, 4 is an S16 image of one pixel, 5 is a U8 image of two
--- pixels; all other names are virtual images
+-- pixels; the names above 5 are virtual images
 abbrev pub example_operand : Reference → Operand
 example_operand cell =
     if cell.name == 4 then image_operand 1 1 S16

@@ -20,7 +20,7 @@ AreOperands is nodes = All (λ l. l.operands ≡ operands_of is l.node) nodes
 abbrev pub lacks_writer : List Node → Reference → Operand → Bool
 lacks_writer nodes cell operand = is_virtual operand && not (is_written nodes cell)
 
--- whether an operand is given, and is a virtual image that none of the nodes writes
+-- whether an operand is a virtual image that none of the nodes writes; false if no operand is given
 abbrev pub given_unwritten : List Node → Option Reference → Option Operand → Bool
 given_unwritten nodes (Some cell) (Some operand) = lacks_writer nodes cell operand
 given_unwritten nodes cell operand = false
@@ -29,7 +29,7 @@ given_unwritten nodes cell operand = false
 abbrev pub reads_unwritten_virtual : List Node → Linked → Bool
 reads_unwritten_virtual nodes l = lacks_writer nodes l.node.in1 l.operands.in1 || given_unwritten nodes l.node.in2 l.operands.in2
 
--- whether an operand is given, and is a virtual image
+-- whether an operand is a virtual image; false if no operand is given
 abbrev pub is_given_virtual : Option Operand → Bool
 is_given_virtual None = false
 is_given_virtual (Some operand) = is_virtual operand

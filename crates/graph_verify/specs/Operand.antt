@@ -39,8 +39,8 @@ operand_kind Graph = Some kind.Graph
 operand_kind (Virtual declared) = Some kind.VirtualImage
 operand_kind Missing = None
 
--- the format of an image's samples, of a table's entries, of the samples that a threshold tests, or of a convolution's coefficients;
--- None for the other kinds
+-- the format of an image's samples, of a table's entries, of the samples that a threshold tests, or
+-- of a convolution's coefficients; None for the other kinds
 abbrev pub operand_format : Operand → Option Format
 operand_format (Image d) = Some d.format
 operand_format (Lut format) = Some format
@@ -48,7 +48,7 @@ operand_format (Threshold format) = Some format
 operand_format Convolution = Some S16
 operand_format other = None
 
--- whether two operands have the same size; true if one of them isn't an image
+-- whether two operands have the same size; true if one of them is virtual or isn't an image
 abbrev pub are_of_one_size : Operand → Operand → Bool
 are_of_one_size (Image d) (Image e) = same_size d e
 are_of_one_size a b = true
@@ -64,12 +64,13 @@ is_image (Image d) = true
 is_image (Virtual declared) = true
 is_image other = false
 
--- the description of an image that isn't virtual
+-- the description of an image that isn't virtual; None for any other operand
 abbrev pub operand_description : Operand → Option Description
 operand_description (Image d) = Some d
 operand_description other = None
 
--- the size of an image's samples in bytes; 0 for an unresolved virtual image and for any other operand
+-- the size of an image's samples in bytes; 0 for an unresolved virtual image and for any other
+-- operand
 abbrev pub resolved_bytes : Operand → ℕ
 resolved_bytes (Image d) = byte_count d
 resolved_bytes other = 0

@@ -1,5 +1,5 @@
--- Resolution of the open sizes and formats of the images that a graph's nodes write. OpenVX 1.3, "Object: Image",
--- vxCreateVirtualImage.
+-- Resolution of the open sizes and formats of the images that a graph's nodes write. OpenVX 1.3,
+-- "Object: Image", vxCreateVirtualImage.
 use Rattle.std.specs.Prelude.{Option, Some, None, List, length}
 use Rattle.std.specs.Option.{option_map}
 use Rattle.vx_base.specs.declared.function.Function.{Function}

@@ -13,19 +13,19 @@ use Rattle.graph_verify.specs.declared.operand.Operands.{Operands}
 use Rattle.graph_verify.specs.PartialDescriptions.{operand_partial_desc, given_partial_desc, partial_descs, as_known}
 use Rattle.graph_verify.specs.Verdict.{virtual_outputs}
 
--- the resolved description of a virtual image, or None if no node has written the image yet; parts
--- may still be open
+-- the description of a virtual image in `known`, or None if the image isn't in `known`; parts of
+-- the description may still be open
 abbrev pub known_of : List ResolvedOutput → Reference → Option PartialDescription
 known_of known cell = option_map (λ k. k.partial_desc) (find (λ k. same_reference k.cell cell) known)
 
--- an operand's partial description; for a virtual image the resolved description, or the declared
--- one if no node has written the image yet
+-- an operand's partial description; for a virtual image, the description in `known`, or the
+-- declared one if the image isn't in `known`
 abbrev pub known_partial_desc : List ResolvedOutput → Reference → Operand → PartialDescription
 known_partial_desc known cell (Virtual declared) = unwrap_or (known_of known cell) declared
 known_partial_desc known cell operand = operand_partial_desc operand
 
--- a list of one output, with open parts filled in from `given`; empty unless the output is a
--- virtual image
+-- the output as a list, with open parts filled in from `given`; the list is empty unless the output
+-- is a virtual image
 abbrev pub resolved_output : Option Reference → Option Operand → PartialDescription → List ResolvedOutput
 resolved_output (Some cell) (Some (Virtual declared)) given = record { cell = cell; partial_desc = with_defaults declared given } ∷ []
 resolved_output cell operand given = []
@@ -59,7 +59,8 @@ known_operands known l =
 abbrev pub described_output : ResolvedOutput → Option VirtualOutput
 described_output k = option_map (λ d. record { cell = k.cell; desc = d }) (full_description k.partial_desc)
 
--- the virtual images that nodes write, in the order of writing, each with its description after all rounds of resolution
+-- the virtual images that nodes write, in the order of writing, each with its description after all
+-- rounds of resolution
 pub record AreResolved (is : Reference → Operand) (nodes : List Node) (known : List ResolvedOutput) : Type 0 where
   pub cells : map (λ k. k.cell) known ≡ virtual_outputs is nodes
   pub each : All (λ k. k.partial_desc ≡ partial_descs is nodes k.cell) known

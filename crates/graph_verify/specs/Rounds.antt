@@ -1,4 +1,5 @@
--- Values of a graph's objects, computed in rounds in which all nodes act simultaneously. Nodes, references and values may be of any type.
+-- Values of a graph's objects, computed in rounds in which all nodes act simultaneously. Nodes,
+-- references and values may be of any type.
 use Rattle.std.specs.Prelude.{◌≡◌, ℕ, zero, suc, Bool, true, false, if◌then◌else◌, List, [], ◌∷◌}
 use Rattle.graph_verify.specs.Members.{In}
 
@@ -26,7 +27,7 @@ one_pass writes value (n ∷ ns) held = one_pass writes value ns (step writes va
 abbrev pub OneWriter : {N C : Type 0} → (N → C → Bool) → List N → Type 0
 OneWriter {N} {C} writes nodes = (m n : N) (c : C) → In m nodes → In n nodes → writes m c ≡ true → writes n c ≡ true → m ≡ n
 
--- `after` is consistent: each written object has the value that its writer computes from `after`
+-- `after` is a solution: each written object has the value that its writer computes from `after`
 -- itself, and every other object is as in `held`
 pub record IsSolution {N C V : Type 0} (writes : N → C → Bool) (value : N → (C → V) → C → V) (nodes : List N) (held after : C → V) : Type 0 where
   pub written : (n : N) (c : C) → In n nodes → writes n c ≡ true → after c ≡ value n after c

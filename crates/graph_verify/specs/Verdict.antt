@@ -46,7 +46,8 @@ takes_first function (Some first) second written = list_all (λ out. takes_forma
 abbrev pub takes_operands : Function → Operands → Bool
 takes_operands function o = takes_first function (operand_format o.in1) (option_and_then operand_format o.in2) (written_operands o)
 
--- a node's fault: its function doesn't take the formats, or an image doesn't have the size of the first input
+-- a node's fault: its function doesn't take the formats, or an image doesn't have the size of the
+-- first input
 abbrev pub node_fault : Function → Operands → Option Verdict
 node_fault function o =
     if not (takes_operands function o) then Some InvalidFormat
@@ -77,7 +78,7 @@ reads_unwritten is nodes n = list_any (is_unwritten_image is nodes) (inputs n)
 abbrev pub adds_to_virtual : (Reference → Operand) → Node → Bool
 adds_to_virtual is n = accumulates n.function && list_any (λ cell. is_virtual (is cell)) (outputs n)
 
--- whether a node needs the content of a virtual image that nothing has written
+-- whether a node reads a virtual image that no node writes, or accumulates into a virtual image
 abbrev pub has_unwritten_input : (Reference → Operand) → List Node → Bool
 has_unwritten_input is nodes = list_any (λ n. reads_unwritten is nodes n || adds_to_virtual is n) nodes
 

@@ -26,7 +26,8 @@ pub record VerifiedValue : Type 0 where
   pub virtual_outputs : List VirtualOutput
   pub order : List ℕ
 
--- the nodes in an order in which they can run, and the virtual images that they write, with their resolved descriptions
+-- `v` has the nodes in an order in which they can run, and the virtual images that they write, with
+-- their resolved descriptions
 pub record IsVerified (is : Reference → Operand) (nodes : List Node) (v : VerifiedValue) : Type 0 where
   pub order : IsOrder feeds nodes v.steps
   pub cells : map (λ o. o.cell) v.virtual_outputs ≡ virtual_outputs is v.steps
@@ -53,8 +54,8 @@ IfRefused (Refused v) P = P v
 abbrev pub RefusesNodes : ℕ → List Linked → VerifyFault → Type 0
 RefusesNodes work nodes fault = (is : Reference → Operand) → AreOperands is nodes → IfRefused fault (λ v. verdict work is (linked_nodes nodes) ≡ Some v)
 
--- the verification of some graph with some operands; no object has two writers, and each step has a
--- number
+-- `v` is the verification of some graph with some operands; no object has two writers, and each
+-- step has a number
 pub record IsVerifiedGraph (v : VerifiedValue) : Type 0 where
   pub is : Reference → Operand
   pub nodes : List Node

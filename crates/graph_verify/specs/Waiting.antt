@@ -6,8 +6,8 @@ use Rattle.vx_base.specs.Node.{optional_cells}
 use Rattle.graph_verify.specs.declared.linked.Linked.{Linked}
 use Rattle.graph_verify.specs.Links.{writes, is_written}
 
--- a node that isn't ordered yet; the flags tell for which inputs the node waits: those that an
--- unordered node writes
+-- a node that isn't ordered yet, and whether it waits for its first and for its second input. The
+-- node waits for each of its inputs that an unordered node writes.
 pub record WaitingNode : Type 0 where
   pub linked : Linked
   pub for_in1 : Bool

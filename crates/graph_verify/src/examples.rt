@@ -113,8 +113,9 @@ pub fn operands()
         }) ≡ None }
 {}
 
-/// One graph for each verdict on links, formats and sizes. A graph with the nodes of all these
-/// graphs is refused because an object has two writers. A graph without nodes can run.
+/// Graphs that are refused for their links, formats or sizes, at least one for each verdict. A
+/// graph with the nodes of all these graphs is refused because an object has two writers. A graph
+/// without nodes can run.
 pub fn graphs()
     ensures writers { verdict 9 example_operand (not_to 1 2 ∷ not_to 3 2 ∷ [])
         ≡ Some MultipleWriters }
@@ -142,7 +143,8 @@ pub fn sums()
     ensures to_bytes { verdict 9 example_operand (accumulate_to 1 2 ∷ []) ≡ Some InvalidFormat }
 {}
 
-/// Of two faulty nodes, the verdict is on the one that was added first, even if it runs last.
+/// If two nodes are faulty, the verdict is the fault of the node that was added first, even if that
+/// node runs last.
 pub fn earliest_added()
     ensures { verdict 9 example_operand (and_to 6 5 2 ∷ not_to 4 3 ∷ not_to 1 6 ∷ [])
         ≡ Some InvalidDimension }
@@ -156,8 +158,8 @@ pub fn work()
         (not_to 1 2 ∷ not_to 2 3 ∷ []) ≡ None }
 {}
 
-/// The output of Add, a virtual image with an open format, is resolved to S16. A declared format U8
-/// stays, and Convert Bit Depth then can't take the image.
+/// The output of Add, a virtual image with an open format, is resolved to S16. If its format is
+/// declared as U8 instead, it stays U8, and Convert Bit Depth can't take the image.
 pub fn open_formats()
     ensures found { resolved_operand (operand_except (virtual_of None) 1 1)
         (adds 1 3 2 ∷ convert_to 2 4 ∷ []) (reference_to 2) ≡ image_operand 1 1 S16 }

@@ -8,7 +8,7 @@ pub enum GraphFault {
     #[error("no memory")]
     NoMemory,
     /// The graph has 256 nodes, or all numbers have been used.
-    #[error("no node more can be added")]
+    #[error("no more nodes can be added")]
     NoResources,
     /// No node of the graph has this number.
     #[error("the graph has no such node")]

@@ -18,9 +18,9 @@ use vx_base::{GREATEST_NODES, NodeSpec, Numbered};
 /// The limit of node numbers, 2^32: each number is below it.
 const END_OF_NUMBERS: u64 = 4_294_967_296;
 
-/// A graph (OpenVX 1.3, "Object: Graph"): its nodes in the order in which they were added, the next
-/// number, and the names of the delays that are registered for auto-aging. Numbers count up from 1
-/// and are never reused.
+/// A graph (OpenVX 1.3, "Object: Graph"): its nodes in the order in which they were added, the
+/// number of the next node, and the names of the delays that are registered for auto-aging. Node
+/// numbers count up from 1 and are never reused.
 #[derive(Drop)]
 pub struct Graph {
     next: u64,
@@ -133,7 +133,7 @@ impl Graph {
         self.delays.iter().any(|delay| *delay == name)
     }
 
-    /// Replaces the list of delays registered for auto-aging. Each name occurs once.
+    /// Replaces the list of delays registered for auto-aging. No name may occur twice in `delays`.
     pub fn set_delays(&mut self, delays: Vec<u32>)
         requires { AllPairs (λ a b. a ≢ b) delays.items }
         ensures { self.new ≡ with_delays self.old delays.items }

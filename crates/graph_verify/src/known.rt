@@ -25,8 +25,8 @@ use crate::operand::{Operand, Operands};
 use std::alloc::{AllocError, Global};
 use vx_base::{Desc, Function, ObjRef, PartialDesc};
 
-/// A virtual image that a node writes, with its resolved description. Parts of the description may
-/// still be open.
+/// A virtual image that a node writes, with its description after resolving. A part is still open
+/// if it is open both in the declaration and in the node's first input.
 #[derive(Clone, Copy)]
 pub struct ResolvedOutput {
     pub cell: ObjRef,
@@ -54,8 +54,8 @@ impl ResolvedOutput {
     }
 }
 
-/// Returns the resolved description of a virtual image, or `None` if no node has written the image
-/// yet. Parts may still be open.
+/// Returns the description of a virtual image in `known`, or `None` if the image isn't in `known`.
+/// Parts of the description may still be open.
 fn known_of(known: &[ResolvedOutput], cell: ObjRef) -> Option<PartialDesc>
     ensures { result ≡ known_of known.now cell }
 {
@@ -65,8 +65,8 @@ fn known_of(known: &[ResolvedOutput], cell: ObjRef) -> Option<PartialDesc>
         .map(|known| known.partial_desc)
 }
 
-/// Returns an operand's partial description. For a virtual image this is the resolved description,
-/// or the declared one if no node has written the image yet.
+/// Returns an operand's partial description. For a virtual image this is the description in
+/// `known`, or the declared one if the image isn't in `known`.
 fn known_partial_desc(known: &[ResolvedOutput], cell: ObjRef, operand: Operand) -> PartialDesc
     ensures { result ≡ known_partial_desc known.now cell operand }
 {
@@ -194,8 +194,8 @@ pub fn known_operands(known: &[ResolvedOutput], linked: &Linked) -> Operands
 }
 
 /// Returns the virtual images that the nodes write, resolved along `steps`, an order of the nodes.
-/// The first input of each node is an image, and no object has two writers. An error means that
-/// there is no memory for the result.
+/// The first input of each node must be an image, and no object may have two writers. An error
+/// means that there is no memory for the result.
 pub fn known_after(alloc: Global, steps: &[Linked]) -> Result<Vec<ResolvedOutput>, AllocError>
     requires one_writer { two_writers (linked_nodes steps.now) ≡ false }
     requires in_turn { InTurn feeds (linked_nodes steps.now) }

@@ -1,4 +1,4 @@
-//! Facts about the definitions: each function does nothing, and its contract states the fact.
+//! Facts about the definitions. Each `fn` has an empty body, and its contract states the fact.
 
 pub mod cycles;
 pub mod rounds;

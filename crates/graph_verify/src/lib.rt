@@ -25,7 +25,7 @@
 //!   along an order
 //! - `verdict`: verdicts, and the verdict on one node
 //! - `verified`: the verdict on a graph, and an order of its nodes
-//! - `laws`: facts about cycles, orders and rounds
+//! - `laws`: facts about cycles, orders, rounds and verdicts
 //! - `examples`: verdicts on small graphs
 #![tactic(auto)]
 

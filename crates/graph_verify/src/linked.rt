@@ -28,7 +28,7 @@ pub fn writes(node: &Node, cell: ObjRef) -> bool
     node.out1 == Some(cell) || node.out2 == Some(cell)
 }
 
-/// Checks whether an object is given, and a node writes it.
+/// Checks whether a node writes an object; false if no object is given.
 pub fn writes_given(node: &Node, cell: Option<ObjRef>) -> bool
     ensures { result ≡ list_any (writes node.now) (optional_cells cell) }
 {
@@ -52,7 +52,7 @@ pub fn is_written(nodes: &[Linked], cell: ObjRef) -> bool
     nodes.iter().any(|linked| writes(&linked.node, cell))
 }
 
-/// Checks whether an object is given, and one of the nodes writes it.
+/// Checks whether one of the nodes writes an object; false if no object is given.
 pub fn is_given_written(nodes: &[Linked], cell: Option<ObjRef>) -> bool
     ensures { result ≡ list_any (is_written (linked_nodes nodes.now)) (optional_cells cell) }
 {
@@ -89,7 +89,8 @@ fn lacks_writer(nodes: &[Linked], cell: ObjRef, operand: Operand) -> bool
     operand.is_virtual() && !is_written(nodes, cell)
 }
 
-/// Returns whether an operand is given, and is a virtual image that none of the nodes writes.
+/// Returns whether an operand is a virtual image that none of the nodes writes; false if no operand
+/// is given.
 fn given_unwritten(nodes: &[Linked], cell: Option<ObjRef>, operand: Option<Operand>) -> bool
     ensures { result ≡ given_unwritten (linked_nodes nodes.now) cell operand }
 {
@@ -107,7 +108,7 @@ fn reads_unwritten_virtual(nodes: &[Linked], linked: &Linked) -> bool
     lacks_writer(nodes, node.in1, operands.in1) || given_unwritten(nodes, node.in2, operands.in2)
 }
 
-/// Returns whether an operand is given, and is a virtual image.
+/// Returns whether an operand is a virtual image; false if no operand is given.
 fn is_given_virtual(operand: Option<Operand>) -> bool
     ensures { result ≡ is_given_virtual operand }
 {
@@ -123,7 +124,8 @@ fn has_virtual_sum(linked: &Linked) -> bool
         && (is_given_virtual(operands.out1) || is_given_virtual(operands.out2))
 }
 
-/// Checks whether a node needs the content of a virtual image that nothing has written.
+/// Checks whether a node reads a virtual image that no node writes, or accumulates into a virtual
+/// image.
 pub fn has_unwritten_input(nodes: &[Linked]) -> bool
     ensures { (is : Reference → Operand) → AreOperands is nodes.now →
         result ≡ has_unwritten_input is (linked_nodes nodes.now) }

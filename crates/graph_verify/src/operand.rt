@@ -24,7 +24,7 @@ pub enum Operand {
     Graph,
     /// A virtual image, as it is declared.
     Virtual(PartialDesc),
-    /// A reference that names no object, which no function takes.
+    /// A reference that names no object. No function takes such an operand.
     Missing,
 }
 

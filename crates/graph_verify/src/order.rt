@@ -14,8 +14,8 @@ use std::alloc::{AllocError, Global};
 use std::marker::Model;
 use vx_base::Node;
 
-/// A node that isn't ordered yet. The flags tell for which inputs the node waits: those that an
-/// unordered node writes.
+/// A node that isn't ordered yet. The node waits for each of its inputs that an unordered node
+/// writes. `for_in1` and `for_in2` tell whether it waits for its first and for its second input.
 #[derive(Drop)]
 struct Waiting<'a> {
     linked: &'a Linked,

@@ -108,7 +108,8 @@ fn takes_operands(function: Function, operands: &Operands) -> bool
     }
 }
 
-/// Returns whether two operands have the same size; true if one of them isn't an image.
+/// Returns whether two operands have the same size; true if one of them is virtual or isn't an
+/// image.
 fn are_of_one_size(operand: Operand, other: Operand) -> bool
     ensures { result ≡ are_of_one_size operand other }
 {
@@ -118,7 +119,7 @@ fn are_of_one_size(operand: Operand, other: Operand) -> bool
     }
 }
 
-/// Returns whether an operand has this size; true if the operand isn't an image.
+/// Returns whether an operand has this size; true if the operand is virtual or isn't an image.
 fn has_size_of(operand: Operand, size: Desc) -> bool
     ensures { result ≡ are_of_one_size (Image size) operand }
 {
@@ -128,15 +129,17 @@ fn has_size_of(operand: Operand, size: Desc) -> bool
     }
 }
 
-/// Returns whether an operand has the size of the first input. An absent operand is accepted.
+/// Returns whether an operand has the size of the first input. An operand that is absent, virtual
+/// or not an image is accepted.
 fn fits(first: Operand, other: Option<Operand>) -> bool
     ensures { result ≡ list_all (are_of_one_size first) (option_to_list other) }
 {
     other.is_none_or(|other| are_of_one_size(first, other))
 }
 
-/// Returns a node's fault. `InvalidFormat`: the function doesn't take the formats of the operands.
-/// Otherwise `InvalidDimension`: an image doesn't have the size of the first input.
+/// Returns a node's fault, or `None` if it has none. The fault is `InvalidFormat` if the function
+/// doesn't take the formats of the operands. Otherwise it is `InvalidDimension` if an image doesn't
+/// have the size of the first input.
 pub fn node_fault(function: Function, operands: &Operands) -> Option<Verdict>
     ensures { result ≡ node_fault function operands.now }
 {

@@ -194,7 +194,7 @@ fn verify_ordered(
 }
 
 /// Verifies a graph of at most 256 nodes. `nodes` has the nodes with their operands, in the order
-/// in which they were added. The first input of each node is an image. `work` is the greatest
+/// in which they were added. The first input of each node must be an image. `work` is the greatest
 /// number of bytes that the virtual images may take. `Refused` if the graph can't run, `NoMemory`
 /// if there is no memory for the result.
 pub fn verify(alloc: Global, nodes: &[Linked], work: u64) -> Result<Verified, VerifyFault>

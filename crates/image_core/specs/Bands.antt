@@ -21,7 +21,8 @@ has_row rows y = nat_le rows.start y && nat_lt (y - rows.start) rows.count
 abbrev pub zero_rows : ℕ → ℕ → List ℤ
 zero_rows width count = replicate (count * width) (pos 0)
 
--- the image with this description and valid rectangle, and with these samples in the band's rows; all other samples are 0
+-- the image with this description and valid rectangle, and with these samples in the band's rows;
+-- all other samples are 0
 abbrev pub image_over_rows : Description → Rectangle → Band → List ℤ → ImageValue
 image_over_rows d valid rows samples =
     image_over d valid (zero_rows d.width rows.start ++ (samples ++ zero_rows d.width (d.height - (rows.start + rows.count))))

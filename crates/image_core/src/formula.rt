@@ -51,7 +51,8 @@ pub trait RowFormula<T: Number, S> {
         ensures value { result ≡ most self.now }
         ensures some { 1 ≤ result };
 
-    /// Writes the samples of row `y`, at least one, from column `x` on.
+    /// Writes the samples of row `y` from column `x` on. `out` must have at least one item, and at
+    /// most `most` items.
     fn fill(&self, x: u16, y: u16, scratch: &mut [S], out: &mut [T])
         requires in_rows { ((area self.now).y0 ≤ y) × (y < (area self.now).y1) }
         requires in_columns { ((area self.now).x0 ≤ x) ×
@@ -62,7 +63,7 @@ pub trait RowFormula<T: Number, S> {
         ensures { map T.value out.new ≡ run x (length out.old) (λ k. at self.now k y) };
 }
 
-/// A formula without scratch memory; a piece of it can be a whole row.
+/// A `Formula` as a `RowFormula` that needs no scratch memory. A piece can be a whole row.
 #[derive(Drop)]
 pub struct Unaided<'a, F> {
     pub formula: &'a F,

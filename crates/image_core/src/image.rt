@@ -39,8 +39,8 @@ impl<'a> Model for Image<'a> {
 }
 
 impl<'a> Image<'a> {
-    /// Returns the image over these samples, in row-major order, one for each pixel. Samples
-    /// outside the valid rectangle are 0.
+    /// Returns the image over these samples, in row-major order, one for each pixel. The samples
+    /// outside the valid rectangle must be 0.
     pub fn new<T: Sample>(desc: Desc, valid: Rect, samples: &'a [T]) -> Image<'a>
         requires format { desc.format ≡ T.format }
         requires image { IsImage (image_over desc valid (map T.value samples.now)) }

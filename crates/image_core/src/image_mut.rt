@@ -29,9 +29,9 @@ pub struct ImageMut<'a> {
 impl<'a> ImageMut<'a> {
     ghost use Rattle.image_core.specs.Target.{target_image, IsTarget, SameSlices, Writes};
 
-    /// Returns an output over these samples, one for each pixel, with an empty valid rectangle.
-    /// `same_slice` ties the output's slice to the caller's, so the caller learns the samples when
-    /// the borrow ends.
+    /// Returns an output over these samples, one for each pixel, with an empty valid rectangle. The
+    /// clause `same_slice` ties the output's slice to the caller's. So the caller learns the
+    /// samples when the borrow ends.
     pub fn new<T: Sample>(desc: Desc, samples: &'a mut [T]) -> ImageMut<'a>
         requires format { desc.format ≡ T.format }
         requires size { length samples.old ≡ sample_count desc }
@@ -45,7 +45,8 @@ impl<'a> ImageMut<'a> {
     }
 
     /// Returns an output over the samples of a band, one for each of the band's pixels, with an
-    /// empty valid rectangle. `desc` is of the whole image. A kernel writes only the band's rows.
+    /// empty valid rectangle. `desc` describes the whole image. A kernel writes only the band's
+    /// rows.
     pub fn of_rows<T: Sample>(desc: Desc, rows: Band, samples: &'a mut [T]) -> ImageMut<'a>
         requires format { desc.format ≡ T.format }
         requires rows { IsInRows desc.height rows }
@@ -80,7 +81,7 @@ impl<'a> ImageMut<'a> {
         self.rows
     }
 
-    /// Sets the valid rectangle, which lies within the image; the samples stay as they are.
+    /// Sets the valid rectangle, which has to lie within the image. The samples stay as they are.
     pub fn set_valid(&mut self, valid: Rect)
         requires target { IsTarget self.old }
         requires room { IsWithin valid (target_image self.old).width
@@ -127,8 +128,8 @@ impl<'a> ImageMut<'a> {
         T::apply(self, &Updated { update }, &mut []);
     }
 
-    /// Writes the whole image: the formula's samples inside the formula's area, 0 elsewhere. The
-    /// area becomes the valid rectangle.
+    /// Writes the formula's samples inside the formula's area, and 0 elsewhere. Only the rows of
+    /// the output's band are written. The area becomes the valid rectangle.
     pub fn write<T: Sample, F: Formula<T>>(&mut self, formula: &F)
         requires target { IsTarget self.old }
         requires format { (target_image self.old).format ≡ T.format }
@@ -140,8 +141,8 @@ impl<'a> ImageMut<'a> {
         self.write_by_rows::<T, u8, _>(&Unaided { formula }, &mut []);
     }
 
-    /// Writes a whole image from a formula that needs scratch memory: the formula's samples inside
-    /// its area, 0 elsewhere. The area becomes the valid rectangle.
+    /// Writes the samples of a formula that needs scratch memory, and 0 outside the formula's area.
+    /// Only the rows of the output's band are written. The area becomes the valid rectangle.
     pub fn write_by_rows<T: Sample, S, F: RowFormula<T, S>>(
         &mut self,
         formula: &F,
@@ -159,7 +160,8 @@ impl<'a> ImageMut<'a> {
         T::apply(self, &Written { formula }, scratch);
     }
 
-    /// Writes a whole U32 image, row after row. The area of `whole` becomes the valid rectangle.
+    /// Writes a U32 output, row after row. Only the rows of the output's band are written. The area
+    /// of `whole` becomes the valid rectangle.
     pub fn write_whole<W: Whole>(&mut self, whole: &W)
         requires target { IsTarget self.old }
         requires format { (target_image self.old).format ≡ U32 }

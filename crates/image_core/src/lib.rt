@@ -7,13 +7,13 @@
 //!   describes the whole image, and only the band's rows are written. So every kernel can also
 //!   compute bands.
 //! - A `Sample` is the number type of a format's samples. Images are read and written in this type.
-//! - A `Formula` gives the sample at each pixel of an image; `ImageMut::write` writes an image from
-//!   a `Formula`. A `RowFormula` gives the samples of one piece of a row at a time, with scratch
-//!   memory; `ImageMut::write_by_rows` writes an image from a `RowFormula`. Samples outside the
-//!   valid rectangle become 0.
+//! - A `Formula` gives the sample at each pixel of a rectangle; `ImageMut::write` writes an image
+//!   from a `Formula`. A `RowFormula` gives the samples of one piece of a row at a time, with
+//!   scratch memory; `ImageMut::write_by_rows` writes an image from a `RowFormula`. Samples outside
+//!   the valid rectangle become 0.
 //! - A `RowUpdate` gives each sample's new value from its old one; `ImageMut::update` applies it in
 //!   place.
-//! - A `SecondInput` is a kernel's second operand.
+//! - A `SecondInput` is a node's second operand.
 #![tactic(auto)]
 
 mod band;

@@ -1,5 +1,5 @@
-//! Samples that are updated in place, and the common form of formulas and updates, so that one
-//! implementation goes over the rows.
+//! Updates of samples in place, and `RowChange`, the common form of formulas and updates. One
+//! function, `change_rows`, applies any `RowChange` to the rows of a band.
 ghost use Rattle.std.specs.Prelude.{◌≡◌, ◌+◌, ◌<◌, ◌≤◌, ℕ, ℤ, length, map};
 ghost use Rattle.vx_base.specs.Rectangle.{Rectangle};
 ghost use Rattle.vx_base.specs.Image.{run};

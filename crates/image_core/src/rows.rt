@@ -1,4 +1,4 @@
-//! Samples that are changed and cleared row by row.
+//! Changes and clears samples row by row.
 ghost use Rattle.std.specs.Prelude.{◌≡◌, ◌*◌, ◌+◌, ◌^◌, ◌<◌, ◌≤◌, ℕ, ℤ, length, map, replicate};
 ghost use Rattle.vx_base.specs.Image.{run, band, zero_outside};
 ghost use Rattle.image_core.specs.Rows.{sample_from};

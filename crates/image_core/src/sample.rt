@@ -40,7 +40,8 @@ pub trait Sample: Number {
         requires { count ≤ GREATEST_SIDE }
         ensures { map Self.value result.now ≡ replicate count (pos 0) };
 
-    /// The name of the slice for this sample type, among the three slices of an output image.
+    /// An output image has a slice for each sample type. This is the ghost name of the slice for
+    /// this type.
     ghost slice_name: { ImageMut → ℕ };
 
     /// Returns the output over the samples of a band, as `ImageMut::of_rows` does.

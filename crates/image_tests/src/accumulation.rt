@@ -59,7 +59,7 @@ fn sums_where_both_are_valid(rt: HostRuntime) -> Result<(), Fail> {
     Ok(())
 }
 
-/// Adds the squares of four samples, divided by 2^amount, to `sums`, and returns the new sums. All
+/// Adds to `sums` the squares of four samples, each divided by 2^amount. Returns the new sums. All
 /// samples and sums are valid.
 fn add_squares(amount: u8, mut sums: [i16; 4]) -> Option<[i16; 4]>
     requires { amount ≤ 15 }

@@ -1,6 +1,6 @@
-//! Tests of the public functions on images, for cases that no stream of requests reaches. The cases
-//! are images that are only partly valid, bands of rows, and kernels at lengths around that of a
-//! block of SIMD lanes. `tools/check_functions` tests all other cases on the program.
+//! Tests of the public functions on images. They cover images that are only partly valid, bands of
+//! rows, and kernels at lengths around that of a block of SIMD lanes. `tools/check_functions` tests
+//! the vision functions on the program.
 //!
 //! - `values`: rectangles, codes and tables
 //! - `images`: images that are only partly valid

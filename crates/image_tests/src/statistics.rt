@@ -1,5 +1,5 @@
-//! Statistics of rows, at lengths around that of a block, and of small images: the extremes and
-//! their first pixels, counts and running sums.
+//! Statistics of rows and of small images: extremes with their first pixels, counts, and running
+//! sums. Most rows have lengths around that of a block.
 use crate::images::lend;
 use image_core::ImageMut;
 use lane_rows::{extremes_s16, extremes_u8, running_sums};

@@ -1,4 +1,4 @@
-//! PGM texts: pictures, and texts that encode none.
+//! PGM texts: texts that encode pictures, and texts that don't.
 use pgm_images::{PgmFault, read};
 use std::test::Fail;
 use vx_base::{Desc, Format, Samples};

@@ -1,4 +1,4 @@
-//! Rectangles, codes and tables: cases that no request reaches.
+//! Rectangles and their intersections, the numbers and names of codes, and lookup tables.
 use std::test::Fail;
 use vx_base::{Code, Format, Lut, Rect, Samples};
 

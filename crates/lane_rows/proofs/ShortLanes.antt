@@ -5,7 +5,7 @@ use Rattle.lane_rows.proofs.Common.{zip2, Each1, ints, clamps, to_z-of_z, int_wr
 use Rattle.std.proofs.lemmas.Int.{wrapping_add_is, wrapping_sub_is}
 use Rattle.vx_base.specs.Sample.{distance}
 use Rattle.vx_base.specs.Pixelwise.{sum, difference, absolute_difference, smaller, greater}
-use Rattle.lane_rows.proofs.ShortLaws.{of_bits, told, wider, widened}
+use Rattle.lane_rows.proofs.ShortLaws.{of_bits, wider, widened}
 use Rattle.lane_rows.proofs.Lanewise.{Lanewise, one, other, each, both, chosen, pairs_are, map-zip2, each_of}
 
 -- the bits of the lanes of the one vector and of the other
@@ -91,10 +91,6 @@ pub distance_fits : (x y : ℤ) → FitsSigned w16 x → FitsSigned w16 y → Fi
 distance_fits x y p q = subst (FitsSigned w32) (spread (int_lt x y) x y refl) (difference_fits (int_max x y) (int_min x y) (max_fits x y p q) (min_fits x y p q))
 
 -- ---- the results for two vectors, in 32 bits and narrowed
-
-pub read_both : (g : ℤ → ℤ → ℤ) (us vs : List ℤ) → Each1 (FitsSigned w16) us → Each1 (FitsSigned w16) vs
-    → zip2 g (map (to_z w16) (map (of_z w16) us)) (map (to_z w16) (map (of_z w16) vs)) ≡ zip2 g us vs
-read_both g us vs f h = ap (λ (l : List ℤ). zip2 g l (map (to_z w16) (map (of_z w16) vs))) (of_bits w16 us f) ∙ ap (zip2 g us) (of_bits w16 vs h)
 
 module _ (us vs : List ℤ) (p : length us ≡ 16) (q : length vs ≡ 16) (f : Each1 (FitsSigned w16) us) (h : Each1 (FitsSigned w16) vs) where
   module _ (e : Lanewise ℤ ℤ ℕ) (w : Width) (g : ℤ → ℤ → ℤ) (fit : (x y : ℤ) → FitsSigned w16 x → FitsSigned w16 y → FitsSigned w (g x y))

@@ -1,7 +1,7 @@
 -- Sums to which bytes times a coefficient are added.
 use Rattle.std.specs.Prelude.{ℤ, ◌≤◌, ◌+ℤ◌, ◌*ℤ◌, unsigned_abs}
 
--- a sum to which any byte times any S16 number can be added in 32 bits. Each of these products is
+-- a sum that stays within 32 bits when any byte times any S16 number is added. Each such product is
 -- between -8,355,840 and 8,355,840
 abbrev pub FitsProduct : ℤ → Type 0
 FitsProduct sum = unsigned_abs sum ≤ 2139127807

@@ -1,4 +1,4 @@
--- The value that a threshold gives a number.
+-- The value that a threshold gives for a number.
 use Rattle.std.specs.Prelude.{ℕ, ℤ, pos, if◌then◌else◌}
 use Rattle.vx_base.specs.declared.threshold.ThresholdKind.{ThresholdKind}
 use Rattle.vx_base.specs.Threshold.{passes}

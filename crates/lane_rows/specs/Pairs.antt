@@ -5,8 +5,8 @@ use Rattle.std.specs.Simd.Lanes.{chunk}
 use Rattle.vx_base.specs.Image.{run}
 
 -- the absolute value is at most the limit. The limit is 8355840 (255 * 32768) for a U8 sample times
--- an S16 coefficient, and twice that for a pair of products. The sum of 45 pairs, as many as the
--- nine rows of a matrix can have, has the limit 752025600, which is below 2^31.
+-- an S16 coefficient, and twice that for a pair of products. The nine rows of a matrix have at most
+-- 45 pairs. The limit of their sum is 752025600, which is below 2^31.
 abbrev pub IsNear : ℕ → ℤ → Type 0
 IsNear limit z = unsigned_abs z ≤ limit
 
@@ -41,7 +41,7 @@ IsPairTable n table = (j : ℕ) → j < n → chunk (16 * j) 16 table ≡ altern
 abbrev pub row_sum : List ℤ → List ℤ → ℕ → ℕ → ℤ
 row_sum row table n p = sum_of_first n (λ j. pair_at row (first_of_pair table j) (second_of_pair table j) (p + 2 * j))
 
--- at 16 indices the values of g are added to sums, modulo 2 ^ 32
+-- `after` is `before` with the values of g added at 16 indices, modulo 2 ^ 32
 abbrev pub AreAdded : (ℕ → ℤ) → List ℤ → List ℤ → Type 0
 AreAdded g before after = (f : ℕ → ℤ) → before ≡ run 0 16 (λ i. int_wrap w32 (f i)) → after ≡ run 0 16 (λ i. int_wrap w32 (f i +ℤ g i))
 

@@ -2,7 +2,7 @@
 use Rattle.std.specs.Prelude.{ℕ, ◌+◌, ◌%◌, ◌^◌, List, length, map, slice_index, take}
 use Rattle.std.specs.List.{sum, range_with_len}
 
--- the sum above index k plus the row's items up to k, modulo 2 ^ 32
+-- the item of `above` at index k plus the row's items up to and including index k, modulo 2 ^ 32
 abbrev pub sum_below : (above row : List ℕ) → ℕ → ℕ
 sum_below above row k = (slice_index above k + sum (take (k + 1) row)) % 2 ^ 32
 

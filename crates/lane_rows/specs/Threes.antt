@@ -1,4 +1,4 @@
--- Rows of numbers from 0 to a limit, which are summed by threes.
+-- Rows of numbers from 0 to a limit, which are summed in threes.
 use Rattle.std.specs.Prelude.{ℕ, ℤ, pos, ◌≤ℤ◌, List, [], ◌∷◌, map, slice_index_or}
 use Rattle.lane_rows.specs.declared.nine_rows.Three.{Three}
 

@@ -32,7 +32,7 @@ window_count nine = length nine.above.left.now
 abbrev pub three_from : List ℕ → ℕ → ℕ × ℕ × ℕ
 three_from row i = (slice_index row i, slice_index row (i + 1), slice_index row (i + 2))
 
--- the window of three rows whose left column is column i
+-- the window of three rows, with column i as its left column
 abbrev pub nine_from : List ℕ → List ℕ → List ℕ → ℕ → List ℤ
 nine_from above here below i = nine_of (three_from above i) (three_from here i) (three_from below i)
 

@@ -14,8 +14,8 @@ use std::simd::prelude::*;
 
 /// Adds each of 16 numbers to the sum in its lane. A sum above 32,767 becomes 32,767.
 ///
-/// Each number is first limited to 32,767 minus the old sum. That difference fits 16 bits without a
-/// sign.
+/// Each number is first limited to 32,767 minus the old sum. That difference fits in an unsigned
+/// number of 16 bits.
 fn add_lanes(numbers: u16x16, sums: &mut [i16])
     requires { length sums.old ≡ 16 }
     ensures { sums.new ≡ zip2 (accumulated_sum S16) (map pos numbers) sums.old }
@@ -41,7 +41,7 @@ impl OfSum<u8, i16> for Accumulated {
     }
 }
 
-/// Returns the square of a byte over 2^amount, rounded down.
+/// Returns the square of a byte, divided by 2^amount and rounded down.
 fn scaled_square(a: u8, amount: u8) -> u16
     requires { amount ≤ 15 }
     ensures { result ≡ a * a / 2 ^ amount }
@@ -49,7 +49,8 @@ fn scaled_square(a: u8, amount: u8) -> u16
     (u16::from(a) * u16::from(a)) >> amount
 }
 
-/// The sum plus the byte's square over 2^amount, rounded down; at most 32,767.
+/// The sum plus the byte's square, at most 32,767. The square is divided by 2^amount and rounded
+/// down.
 #[derive(Drop)]
 pub struct Squared {
     pub amount: u8,
@@ -78,8 +79,8 @@ pub fn accumulate(row: &[u8], sums: &mut [i16])
     update_row(&Accumulated, row, sums);
 }
 
-/// Adds each item's square over 2^amount, rounded down, to the sum at its index. A sum above 32,767
-/// becomes 32,767.
+/// Adds each item's square, divided by 2^amount and rounded down, to the sum at its index. A sum
+/// above 32,767 becomes 32,767.
 pub fn accumulate_square(row: &[u8], amount: u8, sums: &mut [i16])
     requires length { length row.now ≡ length sums.old }
     requires amount { amount ≤ 15 }

@@ -39,8 +39,8 @@ pub trait Arithmetic {
         ensures fits { Each1 (FitsSigned w16) result };
 }
 
-/// The kernel of an arithmetic function. It maps two U8 rows to a U8 row, or two rows, each U8 or
-/// S16, to an S16 row.
+/// The kernel of an arithmetic function. It maps two U8 rows to a U8 row. It also maps two rows to
+/// an S16 row, where each input row is U8 or S16.
 #[derive(Drop)]
 pub struct OfSamples<'a, K>(pub &'a K);
 

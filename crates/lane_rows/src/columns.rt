@@ -57,7 +57,7 @@ pub trait OfColumn<A: Item, T: Item> {
         requires { takes (A.value first) × takes (A.value second) × takes (A.value third) }
         ensures { T.value result ≡ formula (A.value first) (A.value second) (A.value third) };
 
-    /// Writes the result for each index of three rows, item by item.
+    /// Writes the result for each index of three rows. The default body works item by item.
     fn write(first: &[A], second: &[A], third: &[A], out: &mut [T])
         requires first_len { length first.now ≡ length out.old }
         requires second_len { length second.now ≡ length out.old }

@@ -35,7 +35,7 @@ impl LanesOfItem<u8, i16> for ShiftedUp {
     }
 }
 
-/// The item over 2^amount, rounded down and narrowed by the policy.
+/// The item divided by 2^amount, rounded down and narrowed by the policy.
 #[derive(Drop)]
 pub struct Narrowed<P> {
     pub overflow: P,

@@ -23,8 +23,8 @@ fn change(from: ThreeItems, to: ThreeItems) -> i16
     weighted_sum(to) as i16 - weighted_sum(from) as i16
 }
 
-/// Writes, for each of 32 indices, the weighted sum in `to` minus the weighted sum in `from`, with
-/// weights 1, 2, 1.
+/// Writes the weighted sum of `to` minus the weighted sum of `from`, for each of the 32 indices
+/// from `index` on. The weights are 1, 2, 1.
 fn write_changes(from: &Three<'_>, to: &Three<'_>, index: usize, out: &mut [i16])
     requires from_room { index + 32 ≤ length from.now.left.now }
     requires to_room { index + 32 ≤ length to.now.left.now }

@@ -25,8 +25,8 @@ pub trait Indexed<T: Item> {
         ensures { map T.value out.new ≡ run index 32 (at self.now) };
 }
 
-/// Writes the last 32 items. The items before them have already been written, and some of the 32
-/// may have been, too.
+/// Writes the last 32 items. Ensures that the whole row is written if the items before them were
+/// already written. Some of the 32 items may be written a second time.
 fn write_last<T: Item, R: Indexed<T>>(row: &R, out: &mut [T])
     requires count { R.count row.now ≡ length out.old }
     requires room { 32 ≤ length out.old }

@@ -1,16 +1,17 @@
-//! Kernels over rows: functions of slices. The input rows and the output row of a call have the
-//! same length, and any length is allowed. The inputs come first, then the parameters, then the
-//! output.
+//! Kernels over rows: functions of slices. The input rows of a call are as long as the output row.
+//! Only `MatrixRows` needs longer input rows. The length need not be a multiple of a block's
+//! length. The inputs come first, then the parameters, then the output.
 //!
-//! Each output item is computed from the input items at its index. A kernel that updates a row also
-//! reads the output item that it replaces. A kernel is a small type that computes one item, and a
-//! block of items in lanes (`std::simd`). One proof covers all kernels: every item of a row is
-//! written, first block by block, and then the remaining items one by one.
+//! Most kernels compute each output item from the input items at its index. A kernel that updates a
+//! row also reads the output item that it replaces. Most kernels are small types that compute one
+//! item, and a block of items in lanes (`std::simd`). The functions in `rows` are proved once, for
+//! all kernels of a trait in `kernel`. These functions write every item of a row: first block by
+//! block, and then the remaining items one by one.
 //!
 //! - `item`: the number types of items
 //! - `kernel`: the traits of kernels, for one row, for two rows, and for updates
-//! - `rows`: writes whole rows: blocks in lanes, then the remaining `items`
-//! - `stores`: stores of lanes, and kernels without vector instructions
+//! - `rows`, `items`: write whole rows: blocks in lanes, then the remaining items one by one
+//! - `stores`: stores of lanes, and stores for kernels without vector instructions
 //! - `overflow`: policies as types, so that no loop tests the policy
 //! - `arithmetic`: kernels of two U8 or S16 items
 //! - `bits`, `sums`, `products`, `distances`, `extremes`, `thresholds`, `depths`, `accumulation`:
@@ -21,22 +22,23 @@
 //! - `running`: running sums of a row, added to the sums of the row above
 //! - `indexed`: rows that are written in blocks of 32 items; the last block may overlap the block
 //!   before
-//! - `nine_rows`, `nine`: windows of 3 x 3 samples as nine rows, and kernels of such windows
+//! - `nine_rows`, `nine`: windows of 3 x 3 samples as nine rows, and the trait of their kernels
 //! - `ranks`, `gradients`: the kernels of 3 x 3 windows, and minima and maxima of three rows
 //! - `threes`: sums and means of three rows of non-negative numbers
 //! - `columns`: kernels of three rows, with weighted sums and differences for gradients
 //! - `axpy`: adds a coefficient times a row of bytes to a row of sums
-//! - `matrix_rows`: sums of samples times the coefficients of a matrix, computed by `pairs` of
-//!   coefficients
+//! - `matrix_rows`, `pairs`: sums of samples times the coefficients of a matrix, computed for pairs
+//!   of coefficients
 //! - `scales`: numbers divided by a power of two, rounded toward zero and clamped
 //! - `shorts`: S16 numbers in lanes
 //!
-//! The table lists the kernels and their formulas: a and b are the input items, c is the old output
-//! item, and p narrows to the output's format by the policy. The items of three rows are x, y and
-//! z. A window has 3 x 3 samples. Times are in picoseconds per item, for rows of 1920 items in the
-//! cache, on x86-64-v2 (registers of 16 bytes) and x86-64-v3 (32 bytes). A block of 32 items takes
-//! two registers of bytes or four of S16 items on v2, and half as many on v3. A kernel that updates
-//! a row has blocks of 16 items. Kernels without a time were not measured on their own.
+//! The table lists the kernels and their formulas. The input items are a and b, and c is the old
+//! output item. The function p narrows a number to the output's format by the policy. The items of
+//! three rows are x, y and z. A window has 3 x 3 samples. Times are in picoseconds per item, for
+//! rows of 1920 items in the cache, on x86-64-v2 (registers of 16 bytes) and x86-64-v3 (32 bytes).
+//! A block of 32 items takes two registers of bytes or four of S16 items on v2, and half as many on
+//! v3. A kernel that updates a row has blocks of 16 items. Kernels without a time were not measured
+//! on their own.
 //!
 //! | Kernel | Formula | Conditions | v2 | v3 |
 //! |---|---|---|---|---|
@@ -72,7 +74,7 @@
 //! | `min9`, `max9`, `median9` | least, greatest, median sample of a window | U8 rows | | |
 //! | `sobel_x` | right column minus left column, with weights 1, 2, 1 | U8 windows | | |
 //! | `sobel_y` | lower row minus upper row, with weights 1, 2, 1 | U8 windows | | |
-//! | `MatrixRows` | s / 2^n, rounded toward zero, clamped | s: matrix times samples, n to 31 | | |
+//! | `MatrixRows` | s / 2^n, rounded toward zero, clamped | s: sum of products, n up to 31 | | |
 #![tactic(auto)]
 
 mod accumulation;

@@ -1,7 +1,8 @@
 //! 3 x 3 windows as nine rows of bytes, with the samples of one window at each index.
 ghost use Rattle.std.specs.Prelude.{◌≡◌, length};
 
-/// Three rows of equal length, with three neighbours, from left to right, at each index.
+/// Three rows of equal length. The three items at an index are neighbours in an image, from left to
+/// right or from top to bottom.
 #[derive(Clone, Copy)]
 pub struct Three<'a> {
     pub left: &'a [u8],
@@ -11,9 +12,9 @@ pub struct Three<'a> {
     ghost right_len: { length right.now ≡ length left.now },
 }
 
-/// Nine rows of equal length, with the samples of a window at each index: by rows from top to
-/// bottom, and from left to right. The nine rows may be slices of three rows: three slices of each
-/// row, one column apart.
+/// Nine rows of equal length. The nine items at an index are the samples of one window, in
+/// row-major order. The nine rows may be slices of three rows: three slices of each row, one column
+/// apart.
 #[derive(Clone, Copy)]
 pub struct Nine<'a> {
     pub above: Three<'a>,

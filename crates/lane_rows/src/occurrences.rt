@@ -1,4 +1,4 @@
-//! The number of times that an item occurs in a row, and its first index. `Compared::count_in`
+//! How often an item occurs in a row, and the index of its first occurrence. `Compared::count_in`
 //! compares blocks in lanes (`std::simd`).
 #![tactic(auto, using(crate::proofs::CountLaws::counts))]
 
@@ -41,7 +41,8 @@ fn without<T: Compared>(row: &[T], item: T) -> usize
     32 * blocks
 }
 
-/// Returns the first index of an item that occurs in the row.
+/// Returns the index of the first occurrence of `item`. The caller has to pass an item that occurs
+/// in the row.
 pub fn first_of<T: Compared>(row: &[T], item: T) -> usize
     requires { 0 < count_of (T.value item) (map T.value row.now) }
     ensures below { result < length row.now }

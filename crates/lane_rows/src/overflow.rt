@@ -5,8 +5,8 @@ ghost use Rattle.vx_base.specs.declared.policy.Policy.TheVariants.{Wrap, Saturat
 
 use vx_base::Policy;
 
-/// An overflow policy as a type, known when a kernel is compiled, so that the kernel's loop doesn't
-/// test the policy.
+/// An overflow policy as a type. The policy is known when a kernel is compiled, so the kernel's
+/// loop doesn't test it.
 pub trait Overflow {
     ghost policy: { Self → Value };
 
@@ -38,8 +38,9 @@ impl Overflow for Saturated {
     }
 }
 
-/// Makes a call with the type of the policy: `with_overflow!(policy, overflow => call)`. The code
-/// of the call is compiled once for each policy.
+/// Makes the call in `with_overflow!(policy, overflow => call)`. In the call, `overflow` is
+/// `Wrapped` or `Saturated`, according to the policy. The code of the call is compiled once for
+/// each policy.
 macro_rules! with_overflow {
     ($policy:expr, $overflow:ident => $call:expr) => {
         match $policy {

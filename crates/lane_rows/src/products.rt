@@ -16,7 +16,7 @@ use crate::shorts::{narrowed, products, quarters_exchanged};
 use std::simd::prelude::*;
 use vx_base::{Policy, narrow_s16, narrow_u8};
 
-/// Returns the product of two S16 samples over 2^amount, rounded toward zero.
+/// Returns the product of two S16 samples, divided by 2^amount and rounded toward zero.
 fn scaled_product(a: i16, b: i16, amount: u8) -> i32
     requires { amount ≤ 15 }
     ensures { result ≡ int_div (a *ℤ b) (pos (2 ^ amount)) }
@@ -35,7 +35,7 @@ fn narrowed_bytes(numbers: u16x32, policy: Policy) -> u8x32
     }
 }
 
-/// The product over 2^amount, rounded toward zero and narrowed by the policy.
+/// The product divided by 2^amount, rounded toward zero and narrowed by the policy.
 #[derive(Drop)]
 pub struct Product<P> {
     pub overflow: P,
@@ -67,8 +67,8 @@ impl<P: Overflow> Arithmetic for Product<P> {
     }
 }
 
-/// Writes the products of the items divided by 2^amount, rounded toward zero and narrowed by the
-/// policy.
+/// Writes the product of each pair of items, divided by 2^amount, rounded toward zero and narrowed
+/// by the policy.
 pub fn mul_u8(first: &[u8], second: &[u8], amount: u8, policy: Policy, out: &mut [u8])
     requires first_len { length first.now ≡ length out.old }
     requires second_len { length second.now ≡ length out.old }
@@ -81,8 +81,8 @@ pub fn mul_u8(first: &[u8], second: &[u8], amount: u8, policy: Policy, out: &mut
     })
 }
 
-/// Writes the products of the items divided by 2^amount, rounded toward zero and narrowed by the
-/// policy. Each row is U8 or S16.
+/// Writes the product of each pair of items, divided by 2^amount, rounded toward zero and narrowed
+/// by the policy. Each row is U8 or S16.
 pub fn mul_s16<A: Short, B: Short>(
     first: &[A],
     second: &[B],

@@ -7,11 +7,11 @@ use std::simd::prelude::*;
 
 /// Returns the running sums of 16 items.
 ///
-/// Each lane starts as the sum of a pair of neighbours. Within each half of the lanes, the first
-/// step adds to each lane the lane before it, and the second step the lane two before it.
-/// The third step adds the last lane of the first half to each lane of the second half. Now each
-/// lane is the sum up to the end of a pair. The sum up to the middle of a pair is the sum up to the
-/// pair's end minus the pair's second item.
+/// Each lane starts as the sum of a pair of neighbours. The first two steps work within each half
+/// of the lanes. The first step adds to each lane the lane before it, and the second step adds the
+/// lane two before it. The third step adds the last lane of the first half to each lane of the
+/// second half. Now each lane is the sum up to the end of a pair. The sum up to the middle of a
+/// pair is the sum up to the pair's end minus the pair's second item.
 fn running(items: u8x16) -> u32x16
     ensures { result ≡ map (λ k. sum (take k items)) (range_with_len 1 16) }
 {
@@ -31,11 +31,12 @@ fn running(items: u8x16) -> u32x16
         .cast::<u32>()
 }
 
-/// Indices that repeat eight lanes in both halves of sixteen. A swizzle by these indices takes no
-/// instruction.
+/// Indices that repeat eight lanes in both halves of 16 lanes. A swizzle with these indices takes
+/// no instruction.
 const TWICE: [usize; 16] = [0, 1, 2, 3, 4, 5, 6, 7, 0, 1, 2, 3, 4, 5, 6, 7];
 
-/// Writes the sums of the first blocks, and returns the total of the row's items in these blocks.
+/// Writes the sums that `running_sums` writes, but only in the first `blocks` blocks. Returns the
+/// total of the row's items in these blocks, modulo 2^32.
 ///
 /// The total stays in lanes, so that the next block doesn't wait for the sums to be stored.
 fn write_block_sums(row: &[u8], above: &[u32], blocks: usize, out: &mut [u32]) -> u32
@@ -57,7 +58,8 @@ fn write_block_sums(row: &[u8], above: &[u32], blocks: usize, out: &mut [u32]) -
     total.to_array()[0]
 }
 
-/// Writes, for each index, the item of `above` plus the row's items up to that index, modulo 2^32.
+/// Writes, for each index, the item of `above` plus the row's items up to and including that index,
+/// modulo 2^32.
 pub fn running_sums(row: &[u8], above: &[u32], out: &mut [u32])
     requires above_len { length above.now ≡ length row.now }
     requires out_len { length out.old ≡ length row.now }

@@ -49,7 +49,8 @@ pub fn sixteen(row: &[i32]) -> i32x16
     ensures value { result ≡ row.now }
     ensures fits { Each1 (FitsSigned w32) result }
 {
-    // The prover learns the range of a signed number by reading it; the compiler removes the loop.
+    // Each read of a signed number tells the prover the number's range. The compiler removes the
+    // loop.
     for number in row {
         let _number = *number;
     }

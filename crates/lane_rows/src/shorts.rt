@@ -70,7 +70,7 @@ pub fn narrowed(numbers: i32x16, policy: Policy) -> i16x16
 ///
 /// A processor with registers of 32 bytes exchanges the quarters itself when it narrows two
 /// registers. This function exchanges lanes of 64 bits. The compiler would move an exchange of
-/// 16-bit lanes before the narrowing, which takes longer.
+/// 16-bit lanes before the narrowing, and the code would be slower.
 pub fn quarters_exchanged(numbers: i16x16) -> i16x16
     requires len { length numbers ≡ 16 }
     requires fits { Each1 (FitsSigned w16) numbers }

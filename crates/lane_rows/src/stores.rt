@@ -3,7 +3,7 @@
 //!
 //! On processors with registers of 16 bytes, the compiler would otherwise store the second half of
 //! 32 bytes before the first. If a row doesn't begin at a cache line, stores in that order
-//! alternate between two lines, which is slower when the row isn't in the first-level cache.
+//! alternate between two lines. This is slower when the row isn't in the first-level cache.
 ghost use Rattle.std.specs.Prelude.{◌≡◌, pos, map, length};
 
 use crate::items::map_items;
@@ -22,8 +22,8 @@ fn store_sixteen<K: OfItem<u8, u8>>(kernel: &K, row: &[u8], out: &mut [u8])
     u8x16::from_array(items).copy_to_slice(out);
 }
 
-/// Writes the kernel's results for a block of 32 bytes. The processor has no vector instruction for
-/// the kernel, but storing 16 bytes together is faster than storing them one by one.
+/// Writes the kernel's results for a block of 32 bytes. This function is for kernels without vector
+/// instructions. It stores 16 bytes together, which is faster than storing them one by one.
 #[tactic(auto, using(crate::proofs::BlockLaws::parts))]
 pub fn store_bytes<K: OfItem<u8, u8>>(kernel: &K, row: &[u8], out: &mut [u8])
     requires row_len { length row.now ≡ 32 }

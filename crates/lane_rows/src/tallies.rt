@@ -1,4 +1,5 @@
-//! Histograms of rows of bytes: plain loops, since `std::simd` can't add to counts at 32 indices.
+//! Histograms of rows of bytes. The loops are plain, since `std::simd` can't add to counts at 32
+//! different indices.
 ghost use Rattle.std.specs.Prelude.{◌≡◌, ◌==◌, ◌+◌, ◌<◌, ◌^◌, ℕ, pos, if◌then◌else◌, map, length};
 ghost use Rattle.std.specs.Prelude.{slice_index, unsigned_abs};
 ghost use Rattle.std.specs.List.{All};
@@ -13,9 +14,9 @@ fn count_one(counts: &mut [u32; 256], value: u8)
     counts[usize::from(value)] += 1;
 }
 
-/// Adds the histogram of a row to the counts. The count of a value is the sum of its entries in
-/// four tables. Successive items go to different tables, so that equal neighbours don't wait for
-/// each other.
+/// Adds the histogram of a row to the counts. The count of a value is the sum of its entries in the
+/// four arrays. Successive items are counted in different arrays, so that equal neighbours don't
+/// wait for each other.
 #[tactic(auto, using(crate::proofs::TallyLaws::tallies))]
 pub fn tally_row(
     row: &[u8],

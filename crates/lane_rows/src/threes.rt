@@ -232,7 +232,8 @@ impl OfThree<u8> for Sixteenth {
     ghost small = { refl };
 }
 
-/// Writes the sum of the three numbers at each index. The numbers are from 0 to 8,191.
+/// Writes the sum of the three numbers at each index. The caller has to pass numbers from 0 to
+/// 8,191.
 pub fn sum3<A: Addend>(first: &[A], second: &[A], third: &[A], out: &mut [i16])
     requires first_len { length first.now ≡ length out.old }
     requires second_len { length second.now ≡ length out.old }
@@ -246,8 +247,8 @@ pub fn sum3<A: Addend>(first: &[A], second: &[A], third: &[A], out: &mut [i16])
     SumOfThree::write(first, second, third, out);
 }
 
-/// Writes the sum of the three numbers at each index, with weights 1, 2, 1. The numbers are from 0
-/// to 8,191.
+/// Writes the sum of the three numbers at each index, with weights 1, 2, 1. The caller has to pass
+/// numbers from 0 to 8,191.
 pub fn weighted3<A: Addend>(first: &[A], second: &[A], third: &[A], out: &mut [i16])
     requires first_len { length first.now ≡ length out.old }
     requires second_len { length second.now ≡ length out.old }

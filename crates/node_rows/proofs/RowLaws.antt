@@ -14,13 +14,6 @@ width_alike a b alike = ap (λ (d : Description). d.width) alike.description
 height_alike : (a b : ImageValue) → AreAlike a b → a.height ≡ b.height
 height_alike a b alike = ap (λ (d : Description). d.height) alike.description
 
-made_alike : (a b : ImageValue) (format : Format) (r s : Rectangle) (f g : ℕ → ℕ → ℤ) → AreAlike a b → r ≡ s → AreAlike (image_from a.width a.height format r f) (image_from b.width b.height format s g)
-made_alike a b format r s f g alike same =
-    record {
-      description = ap (λ (d : Description). let e : Description = record { width = d.width; height = d.height; format = format } in e) alike.description;
-      valid = same;
-    }
-
 -- functions that agree at a place, where it is valid
 made_same : (width height : ℕ) (format : Format) (r : Rectangle) (f g : ℕ → ℕ → ℤ) (x y : ℕ) → x < width → y < height → (has_pixel r x y ≡ true → f x y ≡ g x y) → pixel_at (image_from width height format r f) x y ≡ pixel_at (image_from width height format r g) x y
 made_same width height format r f g x y a b same =

@@ -18,8 +18,8 @@ use Rattle.vx_base.specs.Rectangle.{whole_rectangle}
 abbrev pub column : ℕ → ℕ → ℕ → ℕ → ImageValue
 column a b c d = record { width = 1; height = 4; format = U8; valid = whole_rectangle 1 4; samples = pos a ∷ pos b ∷ pos c ∷ pos d ∷ [] }
 
--- a 3x5 matrix whose only non-zero coefficient is in its top row; convolution turns the matrix, so
--- each output sample is the input sample two rows below
+-- a 3x5 matrix whose only non-zero coefficient is in its top row. Convolution turns the matrix by
+-- 180 degrees, so each output sample is the input sample two rows below.
 abbrev pub upper_row : ConvolutionValue
 upper_row =
     record {
@@ -44,6 +44,6 @@ example_node function =
       out2 = None;
     }
 
--- the output samples of a node of the function, from an image and its second operand
+-- the output samples of a node of the function for an image and a second operand, if there is one
 abbrev pub node_samples : Function → Format → ImageValue → Option ObjectValue → List ℤ
 node_samples function format image second = (node_image (example_node function) First format image second).samples

@@ -10,10 +10,11 @@ abbrev pub matrix_in : Option ObjectValue → Option ConvolutionValue
 matrix_in (Some (ConvolutionObject matrix)) = Some matrix
 matrix_in other = None
 
--- a function's vertical radius: the number of rows of its first input that it reads above an output
--- row, and as many below. Half the rows of a matrix, 1 for a 3x3 window, 0 for a pixel-wise
--- function; None if the function reads all rows or writes no image. Of a second image or an
--- accumulator only the output row is read.
+-- a function's vertical radius r: for each output row, the function reads the same row of its first
+-- input, r rows above it and r rows below it. With a matrix, the radius is half the number of
+-- matrix rows, rounded down. Otherwise it is 1 for a 3x3 window, and 0 for a pixel-wise function.
+-- In a second image or an accumulator, the function reads only the same row. The result is None if
+-- the function reads all rows or writes no image.
 abbrev pub window_radius : Function → Option ConvolutionValue → Option ℕ
 window_radius function (Some matrix) = Some (matrix.rows / 2)
 window_radius Box None = Some 1

@@ -5,11 +5,12 @@ ghost use Rattle.node_rows.specs.Radius.{window_radius};
 
 use vx_base::{Convolution, Function};
 
-/// Returns a function's vertical radius: the number of rows of its first input that it reads above
-/// an output row, and as many below (OpenVX 1.3, "Vision Functions"). The radius is half the rows
-/// of the matrix if there is one, 1 for a 3x3 window, and 0 for a pixel-wise function. Of a second
-/// image or an accumulator only the output row is read. `None` if the function reads all rows, as
-/// for an integral image, or writes no image.
+/// Returns a function's vertical radius (OpenVX 1.3, "Vision Functions"). For each output row, a
+/// function of radius r reads the same row of its first input, r rows above it and r rows below it.
+/// With a matrix, the radius is half the number of matrix rows, rounded down. Otherwise the radius
+/// is 1 for a 3x3 window, and 0 for a pixel-wise function. In a second image or an accumulator, the
+/// function reads only the same row. Returns `None` if the function reads all rows, as for an
+/// integral image, or writes no image.
 pub fn window_radius(function: Function, matrix: Option<&Convolution>) -> Option<u16>
     ensures { result ≡ window_radius function (option_copied matrix.entry) }
 {

@@ -1,5 +1,5 @@
-//! Which input rows decide an output row: each function does nothing, and its contract states the
-//! fact.
+//! Laws of the input rows that decide an output row. Each `fn` has an empty body, and its contract
+//! states the fact.
 ghost use Rattle.std.specs.Prelude.{◌≡◌, ◌<◌, ◌≤◌, ◌+◌, ◌-◌, ℕ, Option, Some, IfSome};
 ghost use Rattle.vx_base.specs.declared.format.Format.{Format};
 ghost use Rattle.vx_base.specs.declared.node.Node.{Node};
@@ -19,8 +19,8 @@ pub fn rows_of_images()
         a ≡ b }
 {}
 
-/// A node's output image has the size of its first input. Its valid rectangle depends only on the
-/// valid rectangles of its inputs, not on their samples.
+/// A node's output image has the size of its first input. The output's valid rectangle doesn't
+/// depend on the samples of the input images.
 pub fn results_are_alike()
     ensures size { (n : Node) (output : Output) (format : Format) (a : ImageValue)
         (second : Option ObjectValue) → description_of (node_image n output format a second)
@@ -45,8 +45,8 @@ pub fn rows_in_radius_decide()
 {}
 
 /// A band of the output is decided by the rows of the first input in the same band and its halo. A
-/// second image, or the accumulator, is read in the same band only. The halo has as many rows above
-/// the band as the vertical radius, and as many below.
+/// second image, or the accumulator, is read in the same band only. The halo rows are those within
+/// the vertical radius above and below the band.
 pub fn bands_in_radius_decide()
     ensures { (n : Node) (output : Output) (format : Format) (a b : ImageValue)
         (second other : Option ObjectValue) (rows first last : ℕ) → IsImage a →

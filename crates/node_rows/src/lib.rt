@@ -6,7 +6,7 @@
 //!
 //! - `functions`: the vertical radius of each function
 //! - `laws`: an output row is decided by the input rows within the radius
-//! - `examples`: columns of four pixels, worked out
+//! - `examples`: the results for columns of four pixels
 #![tactic(auto)]
 
 pub mod examples;

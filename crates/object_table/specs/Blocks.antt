@@ -21,10 +21,6 @@ object_blocks (ImageObject image) format = image_blocks image format
 object_blocks (DelayObject images) format = delay_blocks images format
 object_blocks other format = 0
 
--- the number of blocks of a format that a list of objects occupies
-abbrev pub blocks_of_all : List ObjectValue → Format → ℕ
-blocks_of_all objects format = sum_by (λ object. object_blocks object format) objects
-
 -- the number of blocks of a format that a client's objects occupy
 abbrev pub blocks_in : List NamedObject → Format → ℕ
 blocks_in objects format = sum_by (λ o. object_blocks o.object format) objects
@@ -41,8 +37,8 @@ LendsMore old new blocks = (format : Format) → lent_of new format ≡ lent_of 
 abbrev pub LendsLess : Pool → Pool → (Format → ℕ) → Type 0
 LendsLess old new blocks = (format : Format) → lent_of new format + blocks format ≡ lent_of old format
 
--- for each format, the number of lent blocks has changed by as much as the number of blocks that
--- the objects occupy
+-- for each format, the number of lent blocks and the number of blocks that the objects occupy have
+-- changed by the same amount
 abbrev pub Balances : Pool → Pool → List NamedObject → List NamedObject → Type 0
 Balances pool changed before after =
     (format : Format) → lent_of changed format + blocks_in before format ≡ lent_of pool format + blocks_in after format

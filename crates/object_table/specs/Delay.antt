@@ -17,30 +17,32 @@ new_delay d slots = replicate slots (new_image d.width d.height d.format)
 abbrev pub aged_images : List ImageValue → List ImageValue
 aged_images images = drop (length images - 1) images ++ take (length images - 1) images
 
--- the image in a slot that exists
+-- the image in a slot; an image without pixels if the slot doesn't exist
 abbrev pub image_in : List ImageValue → ℕ → ImageValue
 image_in images k = slice_index_or images k (new_image 0 0 U8)
 
--- the image in a slot of a delay, or without a slot the object itself; None if the slot doesn't
--- exist or the object isn't a delay
+-- the image in a slot of a delay, or None if the slot doesn't exist or the object isn't a delay;
+-- without a slot, the object itself
 abbrev pub in_slot : Option ℕ → ObjectValue → Option ObjectValue
 in_slot None object = Some object
 in_slot (Some k) (DelayObject images) = option_map ImageObject (slice_get images k)
 in_slot (Some k) other = None
 
--- the object with a new image in a slot; without a slot, the new object
+-- the object with the image in a slot replaced by `new`; without a slot, `new` itself
 abbrev pub with_slot : Option ℕ → ObjectValue → ObjectValue → ObjectValue
 with_slot None new object = new
 with_slot (Some k) (ImageObject image) (DelayObject images) = DelayObject (slice_set images k image)
 with_slot slot new object = object
 
--- the kind of the object in a slot, whether the slot exists or not; without a slot, the kind of the object itself
+-- the kind of the object in a slot, whether the slot exists or not; without a slot, the kind of the
+-- object itself
 abbrev pub slot_kind : Option ℕ → ObjectValue → Option Kind
 slot_kind None object = Some (object_kind object)
 slot_kind (Some k) (DelayObject images) = Some kind.Image
 slot_kind (Some k) other = None
 
--- the object in a slot that exists; without a slot, the object itself
+-- the object in a slot, or an image without pixels if there is no such slot; without a slot, the
+-- object itself
 abbrev pub object_in : Option ℕ → ObjectValue → ObjectValue
 object_in slot object = unwrap_or (in_slot slot object) (ImageObject (new_image 0 0 U8))
 

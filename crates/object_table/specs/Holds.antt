@@ -1,4 +1,5 @@
--- Which objects are held. OpenVX 1.3, "Object: Reference": a released object lives on while a graph uses it.
+-- Which objects are held. OpenVX 1.3, "Object: Reference": a released object lives on while a graph
+-- uses it.
 use Rattle.std.specs.Prelude.{ℕ, ◌==◌, Bool, false, ◌&&◌, ◌||◌, if◌then◌else◌, List, map, filter}
 use Rattle.std.specs.List.{list_any}
 use Rattle.vx_base.specs.declared.numbered.Numbered.{Numbered}
@@ -27,6 +28,6 @@ is_held objects o = o.live || is_used objects o.name
 abbrev pub still_held : List NamedObject → List NamedObject
 still_held objects = filter (is_held objects) objects
 
--- the objects after this name is no longer live
+-- the objects, with this name no longer live
 abbrev pub without_name : List NamedObject → ℕ → List NamedObject
 without_name objects name = map {A = NamedObject} {B = NamedObject} (λ o. if o.name == name then record o { live = false } else o) objects

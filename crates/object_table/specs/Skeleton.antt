@@ -10,8 +10,9 @@ use Rattle.vx_base.specs.Rectangle.{empty_rectangle}
 abbrev pub image_skeleton : ImageValue → ImageValue
 image_skeleton image = image_over (description_of image) empty_rectangle []
 
--- the skeleton of an object. Of an image, or of each image in a delay: the size and format. Of a
--- distribution: the bins. Of extremes or a graph: only the kind. Of any other object: everything.
+-- the skeleton of an object. For an image: its size and format. For a delay: the size and format of
+-- each image. For a distribution: its bins. For extremes or a graph: only the kind. For any other
+-- object: everything.
 abbrev pub skeleton : ObjectValue → ObjectValue
 skeleton (ImageObject image) = ImageObject (image_skeleton image)
 skeleton (DelayObject images) = DelayObject (map image_skeleton images)

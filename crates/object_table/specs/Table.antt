@@ -57,8 +57,8 @@ HoldsImage objects cell = option_map object_kind (object_at objects cell) ≡ So
 abbrev pub HoldsLiveImage : List NamedObject → Reference → Type 0
 HoldsLiveImage objects cell = IsTrue (is_some (object_named objects cell.name)) × HoldsImage objects cell
 
--- the size and format of the image that a reference names, its valid rectangle and its samples, which
--- are taken out of the image
+-- the samples are taken out of the image that a reference names; `image` is the image's size and
+-- format, its valid rectangle and these samples
 pub record TakesImage (old new : Context) (cell : Reference) (image : Description × Rectangle × Samples) : Type 0 where
   pub desc : image.0 ≡ description_of (image_held old.objects cell)
   pub valid : image.1 ≡ (image_held old.objects cell).valid
@@ -84,7 +84,7 @@ used_more names entries = map {A = ℕ × Entry} {B = ℕ × Entry} (λ e. let n
 abbrev pub used_less : List ℕ → List (ℕ × Entry) → List (ℕ × Entry)
 used_less names entries = map {A = ℕ × Entry} {B = ℕ × Entry} (λ e. let n : Entry = e.1 in (e.0, record n { uses = n.uses - name_count e.0 names })) entries
 
--- the entries after this name is no longer live
+-- the entries, with this name no longer live
 abbrev pub entries_without_name : ℕ → List (ℕ × Entry) → List (ℕ × Entry)
 entries_without_name name entries = map {A = ℕ × Entry} {B = ℕ × Entry} (λ e. let n : Entry = e.1 in if e.0 == name then (e.0, record n { live = false }) else e) entries
 
@@ -98,9 +98,9 @@ kept_entries entries = filter is_kept entries
 
 -- ---- the invariant of a table
 
--- The invariant of a table. Names are distinct and below the next one. There are at most 1,024
--- objects of bounded size, and each is held. The charge and the use counts are exact. Nodes use
--- only names below the next one.
+-- The invariant of a table. Names are distinct and below `next`, the next name. There are at most
+-- 1,024 objects of bounded size, and each is held. The charge and the use counts are exact. Nodes
+-- use only names below `next`.
 pub record IsTable (next charge : ℕ) (entries : List (ℕ × Entry)) : Type 0 where
   pub names : IsStrictlyIncreasing (map (λ e. e.0) entries)
   pub below : All (λ e. e.0 < next) entries

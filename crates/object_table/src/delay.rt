@@ -21,7 +21,8 @@ use std::alloc::{AllocError, Global};
 use std::marker::Model;
 use vx_base::{Desc, Picture, Rect, Samples, SlotCount};
 
-/// 1 to 16 images of one description, the newest first: slot k is k steps older than slot 0.
+/// 1 to 16 images of one description. Slot 0 has the newest image, slot 1 the image before it, and
+/// so on.
 #[derive(Drop)]
 pub struct Delay {
     desc: Desc,
@@ -96,7 +97,7 @@ impl Delay {
         self.images.rotate_right(1);
     }
 
-    /// Writes a picture to the image in a slot. The picture and the image have the same
+    /// Writes a picture to the image in a slot. The picture and the image must have the same
     /// description.
     pub fn write(&mut self, k: u8, picture: &Picture)
         requires within { k < length self.old }
@@ -150,8 +151,8 @@ impl Delay {
     }
 }
 
-/// Returns `count` new images of a description. On an error the blocks taken so far go back to the
-/// pool.
+/// Returns `count` new images of a description. After an error, the blocks taken so far have gone
+/// back to the pool.
 fn new_images(
     alloc: Global,
     pool: &mut Pool,

@@ -29,7 +29,7 @@ impl Distribution {
         ensures value { IfOk result (λ distribution. distribution ≡ new_distribution bins) }
         ensures distribution { IfOk result IsDistribution }
     {
-        // Reading a field tells the prover its range.
+        // Reading a field tells the prover the limits of the field's value.
         let _limits = (bins.offset(), bins.range());
         let count = usize::from(bins.bins());
         let counts = vec![in alloc; 0; count]?;

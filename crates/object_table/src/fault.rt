@@ -12,7 +12,7 @@ pub enum TableFault {
     #[error("the name isn't live")]
     InvalidReference,
     /// The table holds 1,024 objects, or has used every name.
-    #[error("no object more can be held")]
+    #[error("no more objects can be held")]
     NoResources,
     /// The delay has no such slot.
     #[error("the delay has no such slot")]

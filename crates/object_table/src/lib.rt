@@ -1,10 +1,11 @@
 //! The objects of one client, by name.
 //!
-//! A `Table` gives each object that is inserted the next name: 1, 2, .. A name is never used twice.
-//! A name is live until it is released. An object is held while its name is live or a node uses the
-//! object. A table holds at most 1,024 objects, and counts the bytes that the client is charged for
-//! them. Only `insert`, `add_node` and `register` allocate memory. The samples of an image are a
-//! block of a pool; the block is given back when the image is no longer held.
+//! A `Table` names its objects 1, 2, 3 and so on, in the order of insertion. A name is never used
+//! twice. A name is live until it is released. An object is held while its name is live or a node
+//! uses the object. A table holds at most 1,024 objects, and counts the bytes that the client is
+//! charged for them. Of a table's functions, only `insert`, `add_node` and `register` allocate
+//! memory. The samples of an image are a block of a pool; the block is given back when the image is
+//! no longer held.
 //!
 //! - `stored`: an image whose samples are a block of a pool
 //! - `delay`: images in slots

@@ -63,7 +63,7 @@ impl Model for Object {
 }
 
 impl Object {
-    /// Returns an object of this content.
+    /// Returns an object with this content.
     pub fn new(content: Content) -> Object
         ensures { result ≡ value_of content }
     {
@@ -130,8 +130,8 @@ impl Object {
         }
     }
 
-    /// Returns whether `image(slot)` returns an image: the object is a delay that has the slot, or
-    /// without a slot an image that isn't virtual.
+    /// Returns whether `image(slot)` may be called. With a slot, the object must be a delay that
+    /// has the slot. Without a slot, the object must be an image that isn't virtual.
     pub fn has_image(&self, slot: Option<u8>) -> bool
         ensures { IsTrue result ↔ HasImage slot self.now }
     {
@@ -142,7 +142,8 @@ impl Object {
         }
     }
 
-    /// Returns the bytes that a client is charged for the object: the bytes of its images' samples.
+    /// Returns the number of bytes that a client is charged for the object: the bytes of its
+    /// images' samples.
     pub fn bytes(&self) -> usize
         ensures value { result ≡ object_bytes self.now }
         ensures limit { result ≤ GREATEST_SLOTS * GREATEST_BYTES }
@@ -154,8 +155,8 @@ impl Object {
         }
     }
 
-    /// Returns the image in a slot of the delay; without a slot, the object itself, which is an
-    /// image.
+    /// Returns the image in a slot of the delay; without a slot, the object itself, which must then
+    /// be an image.
     pub fn image(&self, slot: Option<u8>) -> &Stored
         requires { HasImage slot self.now }
         ensures { result.now ≡ image_value (object_in slot self.now) }
@@ -167,8 +168,8 @@ impl Object {
         }
     }
 
-    /// Copies a picture to the image that `image(slot)` returns. The picture and the image have the
-    /// same description.
+    /// Copies a picture to the image that `image(slot)` returns. The picture and the image must
+    /// have the same description.
     pub fn write(&mut self, slot: Option<u8>, picture: &Picture)
         requires there { HasImage slot self.old }
         requires object { IsObject self.old }
@@ -286,7 +287,7 @@ impl Object {
         }
     }
 
-    /// Adds a node to a graph, and returns the node's number. A fault has changed nothing.
+    /// Adds a node to a graph, and returns the node's number. After a fault the graph is unchanged.
     pub fn add_node(&mut self, node: NodeSpec) -> Result<u32, GraphFault>
         requires { object_kind self.old ≡ kind.Graph }
         ensures number { IfOk result (λ number. number ≡ (graph_value self.old).next) }
@@ -324,7 +325,7 @@ impl Object {
         }
     }
 
-    /// Sets the names of the delays that age with a graph. No name occurs twice.
+    /// Sets the names of the delays that age with a graph. No name may occur twice in `delays`.
     pub fn set_delays(&mut self, delays: Vec<u32>)
         requires kind { object_kind self.old ≡ kind.Graph }
         requires distinct { AllPairs (λ a b. a ≢ b) delays.items }

@@ -102,8 +102,8 @@ impl Stored {
         }
     }
 
-    /// Copies the samples of a picture, which has the image's size and format. The whole image is
-    /// then valid.
+    /// Copies the samples of a picture into the image. The picture must have the image's size and
+    /// format. The whole image is then valid.
     pub fn write(&mut self, picture: &Picture)
         requires image { IsImage self.old }
         requires same { description_of self.old ≡ picture.now.description }
@@ -141,7 +141,7 @@ impl Stored {
         (self.desc, self.block.lift())
     }
 
-    /// Puts samples in, and sets the valid rectangle.
+    /// Puts samples into the image, and sets the valid rectangle.
     pub fn put(&mut self, samples: Samples, valid: Rect)
         requires { samples_format samples ≡ self.old.format }
         ensures { self.new ≡ image_over (description_of self.old) valid (values samples) }

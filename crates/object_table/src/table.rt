@@ -107,7 +107,7 @@ impl Table {
         self.entries.len()
     }
 
-    /// Returns the bytes that the client is charged for its objects.
+    /// Returns the number of bytes that the client is charged for its objects.
     pub fn charged_bytes(&self) -> u64
         ensures value { result ≡ charge_of self.now.objects }
         ensures limit { result ≤ GREATEST_OBJECTS * (GREATEST_SLOTS * GREATEST_BYTES) }
@@ -123,9 +123,10 @@ impl Table {
         self.next < END_OF_NAMES && self.entries.len() < GREATEST_OBJECTS
     }
 
-    /// Inserts an object under the next name, and returns the name, which is live. A graph must
-    /// have no nodes yet. A fault hands the object back, and the table is unchanged. `NoResources`:
-    /// no name is left, or 1,024 objects are held. `NoMemory`: the allocation failed.
+    /// Inserts an object under the next name, and returns the name, which is live. If the object is
+    /// a graph, the graph must have no nodes yet. After a fault the table is unchanged, and the
+    /// `InsertFault` has the object. `NoResources`: no name is left, or 1,024 objects are held.
+    /// `NoMemory`: the allocation failed.
     pub fn insert(&mut self, object: Object) -> Result<u32, InsertFault>
         requires { nodes_in object ≡ [] }
         ensures name { IfOk result (λ name. name ≡ self.old.next) }
@@ -196,8 +197,8 @@ impl Table {
         }
     }
 
-    /// Writes a picture to the image that a reference names. The picture and the image have the
-    /// same description.
+    /// Writes a picture to the image that a reference names. The picture and the image must have
+    /// the same description.
     pub fn write(&mut self, cell: ObjRef, picture: &Picture)
         requires there { HoldsImage self.old.objects cell }
         requires object { IsObject (object_under self.old.objects cell.name) }

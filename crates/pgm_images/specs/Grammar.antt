@@ -23,7 +23,7 @@ abbrev pub IsBlank : List ℕ → Type 0
 IsBlank [] = ⊥
 IsBlank (b ∷ text) = ((is_space b ≡ true) × (text ≡ [])) ⊎ ((begins_comment b ≡ true) × IsTail text)
 
--- any number of whitespace bytes and comments, also none
+-- any number of whitespace bytes and comments, possibly none
 pub record IsBlanks (text : List ℕ) : Type 0 where
   pub parts : List (List ℕ)
   pub each : All IsBlank parts
@@ -63,8 +63,8 @@ abbrev pub magic : Encoding → ℕ
 magic Plain = 50
 magic Raw = 53
 
--- how a header ends after its maxval: in a plain text no digit follows, in a raw text one
--- whitespace byte does
+-- How a header ends. In a plain text no digit follows the maxval. In a raw text one whitespace byte
+-- follows the maxval, and `rest` begins after that byte.
 abbrev pub EndsHeader : Encoding → (after rest : List ℕ) → Type 0
 EndsHeader Plain after rest = (after ≡ rest) × (begins_digit rest ≡ false)
 EndsHeader Raw after rest = (space : ℕ) × (is_space space ≡ true) × (after ≡ space ∷ rest)

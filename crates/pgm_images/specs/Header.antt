@@ -32,7 +32,8 @@ past_header Plain text = Some text
 past_header Raw [] = None
 past_header Raw (b ∷ text) = if is_space b then Some text else None
 
--- the width, the height and the maxval, each after a gap
+-- the rest of a header after its `P2` or `P5`: the width, the height and the maxval, each after a
+-- gap, and then the end of the header
 abbrev pub take_numbers : Encoding → List ℕ → BeginsWith HeaderValue
 take_numbers encoding text =
     then_take (take_next text) (λ width rest. then_take (take_next rest) (λ height rest. then_take (take_next rest) (λ maxval rest.

@@ -1,10 +1,12 @@
--- The tokens of a PGM text, taken from its front: whitespace, comments and numbers (Netpbm, pgm(5)).
+-- The tokens of a PGM text, taken from its front: whitespace, comments and numbers (Netpbm,
+-- pgm(5)).
 use Rattle.std.specs.Prelude.{◌≡◌, ℕ, ◌+◌, ◌-◌, ◌*◌, ◌<◌, ◌≤◌, drop, length, slice_index, ◌==◌, ◌||◌, Bool, true, false, not, if◌then◌else◌, nat_lt, min, List, [], ◌∷◌, Option, Some, None}
 use Rattle.std.specs.Option.{option_and_then}
 use Rattle.std.specs.Char.{is_ascii_digit}
 use Rattle.std.specs.Int.{bit_at}
 
--- the value of the token at the front of a text, and the text after the token; None if the token isn't there
+-- the value of the token at the front of a text, and the text after the token; None if the text
+-- doesn't begin with the token
 abbrev pub BeginsWith : Type 0 → Type 0
 BeginsWith A = Option (A × List ℕ)
 
@@ -17,7 +19,7 @@ then_take (Some taken) next = next taken.0 taken.1
 abbrev pub ends_line : ℕ → Bool
 ends_line b = (b == 13) || (b == 10)
 
--- blank, TAB, CR or LF
+-- space, TAB, CR or LF
 abbrev pub is_space : ℕ → Bool
 is_space b = (b == 32) || (b == 9) || ends_line b
 
@@ -54,7 +56,7 @@ abbrev pub begins_gap : List ℕ → Bool
 begins_gap [] = false
 begins_gap (b ∷ text) = begins_comment b || is_space b
 
--- a gap, which is at least one whitespace byte or comment, and then a number
+-- the number after a gap; a gap is at least one whitespace byte or comment
 abbrev pub take_next : List ℕ → BeginsWith ℕ
 take_next text = if begins_gap text then option_and_then take_number (past_blanks false text) else None
 
@@ -80,8 +82,8 @@ begins_space [] = false
 begins_space (b ∷ text) = is_space b
 
 -- The code examined the front of the text, and found whitespace or a digit there. If `bytes` isn't
--- 0, the first `bytes` bytes are one whitespace byte and a number up to the maxval. If `bytes` is 0,
--- the text doesn't begin with a whitespace byte and a digit.
+-- 0, the first `bytes` bytes are one whitespace byte and the digits of `number`, which is at most
+-- the maxval. If `bytes` is 0, the text doesn't begin with a whitespace byte followed by a digit.
 pub record FindsNumber (maxval number bytes : ℕ) (text : List ℕ) : Type 0 where
   pub few : bytes ≤ length text
   pub is : 0 < bytes → TakesNumber (take_next text) number (drop bytes text)
@@ -91,7 +93,7 @@ pub record FindsNumber (maxval number bytes : ℕ) (text : List ℕ) : Type 0 wh
   pub kind : begins_digit text ≡ false → begins_space text ≡ true
   pub none : bytes ≡ 0 → begins_space text ≡ true → begins_digit (drop 1 text) ≡ false
 
--- the code examined each of the first `count` positions of a text, as `FindsNumber` says
+-- `FindsNumber` holds at each of the first `count` positions of a text
 abbrev pub FindNumbers : (maxval count : ℕ) (numbers bytes text : List ℕ) → Type 0
 FindNumbers maxval count numbers bytes text = (place : ℕ) → place < count → FindsNumber maxval (slice_index numbers place) (slice_index bytes place) (drop place text)
 

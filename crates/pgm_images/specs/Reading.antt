@@ -20,8 +20,8 @@ abbrev pub picture_under : HeaderValue → Result Description PgmFault → List 
 picture_under header (Err fault) text = Err fault
 picture_under header (Ok d) text = picture_with d (samples_up_to header.maxval (numbers_in header.encoding header.maxval (sample_count d) text))
 
--- the picture of a text whose header was taken, or the first fault; InvalidFormat if there is no
--- header
+-- the picture with the header that was read from a text, or the first fault; InvalidFormat if the
+-- text has no header
 abbrev pub picture_after : BeginsWith HeaderValue → Result PictureValue PgmFault
 picture_after None = Err InvalidFormat
 picture_after (Some taken) = picture_under taken.0 (header_description taken.0.width taken.0.height taken.0.maxval) taken.1
@@ -44,7 +44,8 @@ abbrev pub description_after : BeginsWith HeaderValue → Result Description Pgm
 description_after None = Err InvalidFormat
 description_after (Some taken) = header_description taken.0.width taken.0.height taken.0.maxval
 
--- the description that a text's header gives, or the header's fault; the rest of the text is not read
+-- the description that a text's header gives, or the header's fault; the rest of the text is not
+-- read
 abbrev pub description_in : List ℕ → Result Description PgmFault
 description_in text = description_after (take_header text)
 

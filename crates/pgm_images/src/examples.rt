@@ -36,7 +36,7 @@ pub fn raw()
         }) }
 {}
 
-/// An S16 sample, and a U8 sample with leading zeros before it and a comment after it.
+/// An S16 sample, and a U8 sample that has leading zeros and is followed by a comment.
 pub fn plain()
     ensures short { read_result (codes "P2 1 1 300 5")
         ≡ Ok (record {
@@ -72,7 +72,8 @@ pub fn headers()
         ≡ Err InvalidFormat }
 {}
 
-/// Widths and maxvals out of range. A header of P2 ends with the last digit of its maxval.
+/// Widths and maxvals out of range. In the first text (P2) the header ends with the last digit of
+/// the maxval, so the `x` isn't a fault of the header.
 pub fn limits()
     ensures no_width { read_result (codes "P2 0 1 255x") ≡ Err InvalidDimension }
     ensures no_maxval_either { read_result (codes "P5 0 1 0\n") ≡ Err InvalidDimension }

@@ -13,15 +13,15 @@ ghost use Rattle.pgm_images.specs.Grammar.{Encodes, IsHeader, HasSamples};
 ghost use Rattle.pgm_images.specs.Reading.{read_result, fault};
 ghost use Rattle.pgm_images.specs.Writing.{pgm_text};
 
-/// `read_result` gives a picture exactly where the grammar says that the text encodes it. A text
-/// encodes at most one picture.
+/// `read_result` gives a picture exactly if the grammar says that the text encodes this picture. A
+/// text encodes at most one picture.
 pub fn reading_by_grammar()
     ensures found { (text : List ℕ) (p : PictureValue) → read_result text ≡ Ok p → Encodes text p }
     ensures only { (text : List ℕ) (p : PictureValue) → Encodes text p → read_result text ≡ Ok p }
     ensures one { (text : List ℕ) (p q : PictureValue) → Encodes text p → Encodes text q → p ≡ q }
 {}
 
-/// A text has no fault exactly where it encodes a picture. `NoMemory` is never the fault of a text.
+/// A text has no fault exactly if it encodes a picture. `NoMemory` is never the fault of a text.
 pub fn faults_by_grammar()
     ensures stands { (text : List ℕ) → fault text ≡ None → (p : PictureValue) × Encodes text p }
     ensures none { (text : List ℕ) (p : PictureValue) → Encodes text p → fault text ≡ None }
@@ -67,7 +67,8 @@ pub fn first_faults()
         all_up_to header.maxval samples ≡ false → fault text ≡ Some InvalidValue }
 {}
 
-/// The text that is written for a U8 picture encodes that picture, and reading the text returns it.
+/// The text that is written for a U8 picture encodes that picture. Reading the text returns the
+/// same picture.
 pub fn text_is_read_back()
     ensures stands { (p : PictureValue) → IsPicture p → p.description.format ≡ U8 →
         Encodes (pgm_text p) p }

@@ -13,7 +13,7 @@ fn ends_line(byte: u8) -> bool
     byte == b'\r' || byte == b'\n'
 }
 
-/// Returns whether a byte is a blank, TAB, CR or LF.
+/// Returns whether a byte is a space, TAB, CR or LF.
 pub fn is_space(byte: u8) -> bool
     ensures { result ≡ is_space byte }
 {
@@ -101,9 +101,9 @@ fn with_digit(number: u8, digit: u8, is_digit: bool) -> u8
 /// values:
 ///
 /// 1. the number
-/// 2. the length of the whitespace byte and the number in bytes, or 0 if no number begins here
-/// 3. whether this function can't read the bytes: the number is longer or above the maxval, or the
-///    first byte is neither whitespace nor a digit
+/// 2. the length in bytes of the whitespace byte and the number, or 0 if no number begins here
+/// 3. whether this function can't read the bytes: the number has more than three digits or is above
+///    the maxval, or the first byte is neither whitespace nor a digit
 ///
 /// The processor can't predict the number of digits, so nothing here branches on it.
 #[inline(always)]
@@ -133,8 +133,9 @@ pub fn short_number(
     (number, bytes, is_other)
 }
 
-/// Returns the number that comes after a gap at the front, and the text after the number. `None`:
-/// the text does not begin with a gap and a number.
+/// Returns the number that comes after a gap at the front, and the text after the number. A gap is
+/// one or more whitespace bytes or comments. `None`: the text does not begin with a gap and a
+/// number.
 pub fn take_next(text: &[u8]) -> Option<(u16, &[u8])>
     ensures some { IfSome result (λ taken. TakesNumber (take_next text.now) taken.0 taken.1.now) }
     ensures none { IfNone result (take_next text.now ≡ None) }

@@ -157,9 +157,10 @@ fn read_pairs<T: TextSample>(maxval: u16, bytes: &[u8], samples: &mut [T]) -> Re
 }
 
 /// Reads one number for each sample from the text after a header, and writes it over the sample.
-/// The samples have the header's format. After a fault the samples may have any value.
-/// `InvalidFormat`: the text has fewer numbers, or more. `InvalidValue`: a number is above the
-/// maxval.
+/// The maxval has to be 1 to 32767. The samples have to be U8 if the maxval is below 256, else S16.
+/// After a fault the samples may have any value. `InvalidFormat`: the text has fewer numbers, or
+/// doesn't end after the last one. `InvalidValue`: otherwise, a number is above the maxval. In a
+/// plain text, whitespace and comments may follow the last number.
 pub fn read_samples(header: Header, text: &[u8], samples: &mut Samples) -> Result<(), PgmFault>
     requires maxval { IsTrue (is_maxval header.maxval) }
     requires format { samples_format samples.old ≡ format_up_to header.maxval }

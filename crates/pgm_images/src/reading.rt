@@ -31,8 +31,8 @@ pub fn read_description(text: &[u8]) -> Result<Desc, PgmFault>
     header.read_description()
 }
 
-/// Writes the samples of a text over existing samples. The existing samples have the format and
-/// number that the text's header states. Allocates nothing.
+/// Writes the samples of a text over existing samples. The caller has to give a text with a valid
+/// header, and samples of the format and number that the header states. Allocates nothing.
 ///
 /// After a fault the samples may have any value. `InvalidFormat`: the header isn't followed by
 /// exactly the number of samples that it states. `InvalidValue`: otherwise, a sample is above the

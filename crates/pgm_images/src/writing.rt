@@ -56,7 +56,7 @@ impl WrittenHeader {
     }
 }
 
-/// Writes bytes so that they end right before `end`, and returns where they begin.
+/// Copies `part` into `bytes` right before index `end`. Returns the index where `part` begins.
 fn put_before(bytes: &mut [u8], end: usize, part: &[u8]) -> usize
     requires fits { length part.now ≤ end }
     requires within { end ≤ length bytes.old }
@@ -69,8 +69,8 @@ fn put_before(bytes: &mut [u8], end: usize, part: &[u8]) -> usize
 }
 
 /// Returns the PGM text of a U8 image (Netpbm, pgm(5)): a raw text (P5) with maxval 255 and all
-/// samples, whether valid or not. `read` returns the same picture from it. An error means that
-/// there is no memory for the text.
+/// samples, whether valid or not. `read` returns the image's picture from this text. An error means
+/// that there is no memory for the text.
 pub fn write(alloc: Global, image: &Image<'_>) -> Result<Vec<u8>, AllocError>
     requires { image.now.format ≡ FormatU8 }
     ensures { IfOk result (λ text. text.items ≡ pgm_text (picture_of image.now)) }

@@ -18,7 +18,7 @@ use lane_rows::{
 };
 use vx_base::{Format, Policy};
 
-/// Writes the results of a lane kernel for two images to a third image of their size. Either all
+/// Writes the results of a lane kernel for two images to a third image of the same size. Either all
 /// images are U8, or the inputs are each U8 or S16 and the output is S16.
 fn write_arithmetic<K: Arithmetic>(
     kernel: &K,
@@ -41,7 +41,7 @@ fn write_arithmetic<K: Arithmetic>(
     }
 }
 
-/// Writes the results of a lane kernel for two U8 or S16 images to an S16 image of their size.
+/// Writes the results of a lane kernel for two U8 or S16 images to an S16 image of the same size.
 fn write_from_shorts<K: Arithmetic>(
     kernel: &OfSamples<'_, K>,
     first: &Image<'_>,
@@ -64,8 +64,8 @@ fn write_from_shorts<K: Arithmetic>(
     }
 }
 
-/// Writes the distances between the samples, at most the format's greatest sample (OpenVX 1.3,
-/// "Absolute Difference"); all images are U8, or all S16.
+/// Writes the absolute differences of the samples (OpenVX 1.3, "Absolute Difference"). Differences
+/// above the format's greatest sample become this sample. All images are U8, or all S16.
 pub fn absolute_difference(first: &Image<'_>, second: &Image<'_>, output: &mut ImageMut<'_>)
     requires { Fits AbsoluteDifference first.now (Some (ImageObject second.now)) output.old }
     ensures { Writes (from_two (target_image output.old).format
@@ -121,7 +121,7 @@ pub fn subtract(first: &Image<'_>, second: &Image<'_>, output: &mut ImageMut<'_>
     }
 }
 
-/// Writes the products of the samples divided by 2^amount, rounded toward zero and narrowed by the
+/// Writes the products of the samples, divided by 2^amount, rounded toward zero and narrowed by the
 /// policy (OpenVX 1.3, "Pixel-wise Multiplication"). Either all images are U8, or the inputs are
 /// each U8 or S16 and the output is S16.
 pub fn multiply(

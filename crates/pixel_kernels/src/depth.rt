@@ -11,7 +11,7 @@ use image_core::{Image, ImageMut};
 use lane_rows::{Narrowed, Saturated, ShiftedUp, Wrapped};
 use vx_base::{Format, Policy};
 
-/// Writes the samples of an S16 image divided by 2^amount, rounded down and narrowed to U8 by the
+/// Writes the samples of an S16 image, divided by 2^amount, rounded down and narrowed to U8 by the
 /// policy.
 fn narrow_depth(image: &Image<'_>, output: &mut ImageMut<'_>, policy: Policy, amount: u8)
     requires target { IsTarget output.old }

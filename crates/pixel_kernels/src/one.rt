@@ -38,7 +38,7 @@ impl<A: Pixel, T: Pixel, K: LanesOfItem<A, T>> Formula<T> for FromOne<'_, '_, A,
     }
 }
 
-/// Writes the results of a lane kernel for an image to another image of its size.
+/// Writes the results of a lane kernel for an image to another image of the same size.
 pub fn write_one<A: Pixel, T: Pixel, K: LanesOfItem<A, T>>(
     kernel: &K,
     image: &Image<'_>,

@@ -12,7 +12,7 @@ use image_core::{Image, ImageMut};
 use lane_rows::{LanesOfItem, OfItem, map_items, store_bytes};
 use vx_base::{Lut, Samples};
 
-/// The table of U8 samples, as a lane kernel.
+/// A lookup table of U8 samples, as a lane kernel.
 #[derive(Drop)]
 struct ByteTable<'a> {
     entries: &'a [u8],
@@ -34,7 +34,7 @@ impl LanesOfItem<u8, u8> for ByteTable<'_> {
     }
 }
 
-/// The table of S16 samples, as a lane kernel.
+/// A lookup table of S16 samples, as a lane kernel.
 #[derive(Drop)]
 struct ShortTable<'a> {
     entries: &'a [i16],

@@ -43,7 +43,7 @@ impl<A: Pixel, B: Pixel, T: Pixel, K: OfPair<A, B, T>> Formula<T> for FromTwo<'_
     }
 }
 
-/// Writes the results of a lane kernel for two images to a third image of their size.
+/// Writes the results of a lane kernel for two images to a third image of the same size.
 pub fn write_two<A: Pixel, B: Pixel, T: Pixel, K: OfPair<A, B, T>>(
     kernel: &K,
     first: &Image<'_>,

@@ -132,10 +132,6 @@ module _ {T : Type 0} where
             absurd (omega (arith, here, t.1, top.1)))));
       }
 
-  -- a key where something was found isn't the one that was filled
-  not_filled : (old : Slab (Free T)) (key k : ℕ) (b : Free T) → get old key ≡ None → get old k ≡ Some b → k ≢ key
-  not_filled old key k b vacant h same = let e : get old k ≡ None = rw same vacant in cc
-
   -- a stack has its key also once another block has come
   still_stack : (old new : Slab (Free T)) (key : ℕ) (block : Free T) (class : ℕ) (stack : Stack) → get old key ≡ None → Updates old new key (Some block)
       → IsStack old class stack → IsStack new class stack

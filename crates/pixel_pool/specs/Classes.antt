@@ -1,8 +1,9 @@
 -- Size classes of blocks. A capacity is a number of samples.
 use Rattle.std.specs.Prelude.{ℕ, zero, suc, ◌+◌, ◌-◌, ◌/◌, ◌^◌, ◌≤◌, ◌<◌}
 
--- the capacity of the next class minus the capacity of this class. It is 1 below a capacity of 16,
--- and from there an eighth of the greatest power of two that isn't above this class's capacity.
+-- the capacity of the next class minus the capacity of this class. The difference is 1 if this
+-- class's capacity is below 16. Otherwise it is an eighth of the greatest power of two that isn't
+-- above this class's capacity.
 abbrev pub class_step : ℕ → ℕ
 class_step class = 2 ^ (class / 8 - 1)
 
@@ -15,7 +16,8 @@ class_capacity (suc class) = class_capacity class + class_step class
 abbrev pub class_count : ℕ
 class_count = 193
 
--- the class of a block with this capacity: the greatest class whose own capacity isn't above it
+-- the class of a block with this capacity: the greatest class whose capacity isn't above the
+-- block's
 pub record IsClassOf (capacity class : ℕ) : Type 0 where
   pub class_known : class < class_count
   pub within : class_capacity class ≤ capacity

@@ -71,6 +71,6 @@ LosesBlocks old new class = slice_index new class < slice_index old class
 abbrev pub LosesLargestFirst : List ℕ → List ℕ → Type 0
 LosesLargestFirst old new = (class other : ℕ) → LosesBlocks old new class → class < other → slice_index new other ≡ 0
 
--- a class loses blocks only if one block more of the class would exceed the limits
+-- a class loses blocks only if keeping one more of its blocks would exceed the limits
 abbrev pub LosesNoMore : List ℕ → List ℕ → Type 0
 LosesNoMore old new = (class : ℕ) → LosesBlocks old new class → IsTrim (with_one new class) → ⊥

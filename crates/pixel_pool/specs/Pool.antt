@@ -31,7 +31,7 @@ free_of p U32 = p.u32s.free
 abbrev pub blocks_of : Pool → Format → ℕ
 blocks_of p format = lent_of p format + free_count (free_of p format)
 
--- 1 if the formats are equal, else 0; added up over blocks, this counts the blocks of a format
+-- 1 if the formats are equal, else 0; the sum over blocks is the number of blocks of a format
 abbrev pub one_of : Format → Format → ℕ
 one_of format other = if same_format format other then 1 else 0
 
@@ -47,7 +47,8 @@ Lends old new format = (f : Format) → lent_of new f ≡ lent_of old f + one_of
 abbrev pub KeepsOtherFree : Pool → Pool → Format → Type 0
 KeepsOtherFree old new format = (f : Format) → f ≢ format → free_of new f ≡ free_of old f
 
--- a block of the format for `count` samples was lent: a free one that fits, or if none does, a new one
+-- a block of the format for `count` samples was lent: a free one that fits, or if none does, a new
+-- one
 pub record LendsBlock (format : Format) (count : ℕ) (old new : Pool) : Type 0 where
   pub lends : Lends old new format
   pub smallest : LendsSmallest count (free_of old format) (free_of new format)

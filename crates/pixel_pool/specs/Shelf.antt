@@ -46,8 +46,8 @@ module _ {T : Type 0} where
     pub linked : IsStack free block.class block.under
 
   -- the stacks of free blocks, one for each class. A stack holds the key of its top block, and each
-  -- block holds the stack below it. No two blocks of a class are at one height. The stacks together
-  -- have as many blocks as the slab.
+  -- block holds the stack below it. No two blocks of a class are at the same height. The stacks
+  -- together have as many blocks as the slab.
   pub record AreStacks (stacks : List Stack) (free : Slab (Free T)) : Type 0 where
     pub all : length stacks ≡ class_count
     pub tops : (class : ℕ) → IsStack free class (stack_at stacks class)

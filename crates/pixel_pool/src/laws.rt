@@ -1,4 +1,4 @@
-//! Facts that follow from the contracts of the pool's calls together.
+//! Facts about sequences of calls on a pool.
 ghost use Rattle.std.specs.Prelude.{◌≡◌, ◌≤◌, ◌+◌, length, IfOk, OnOk};
 ghost use Rattle.vx_base.specs.Picture.{values, samples_format};
 ghost use Rattle.pixel_pool.specs.Free.{HasCapacity};

@@ -4,15 +4,15 @@
 //! number of samples. A lent block has one owner, since it can't be copied. A block that is given
 //! back becomes free; it keeps its memory, and its samples aren't cleared. The pool counts the lent
 //! blocks of each format. The free blocks of a format are in a slab, linked by their keys into one
-//! stack for each size class. Therefore `take` and `give_back` look at no more than one block of a
-//! class.
+//! stack for each size class. Therefore `take` and `give_back` look at no more than one block of
+//! each class.
 //!
 //! - `block`: lent blocks
 //! - `pool`: the blocks of all formats
 //! - `shelf`: the blocks of one format
 //! - `stacks`: the stacks of free blocks, one for each class
 //! - `classes`: the size classes of blocks
-//! - `laws`: facts that follow from the contracts of the pool's calls together
+//! - `laws`: facts about sequences of calls on a pool
 #![tactic(auto)]
 
 mod block;

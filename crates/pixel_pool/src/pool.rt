@@ -40,9 +40,9 @@ impl Pool {
     /// Lends a block of `count` samples of a format; the samples may have any value. An error means
     /// that there is no memory for a new block; the pool is then unchanged.
     ///
-    /// The smallest free block that fits is used; if none fits, a block is added. A block with a
-    /// capacity above 1,024 samples and above twice `count` is shrunk. The capacity of a new block
-    /// is at most an eighth above `count`.
+    /// The smallest free block that fits is used; if none fits, a block is added. Before a free
+    /// block is lent, it is shrunk if its capacity is above 1,024 samples and above twice `count`.
+    /// The capacity of a new block is at most an eighth above `count`.
     pub fn take(&mut self, format: Format, count: usize) -> Result<Block, AllocError>
         ensures format { IfOk result (λ taken. samples_format taken ≡ format) }
         ensures count { IfOk result (λ taken. length (values taken) ≡ count) }
@@ -50,7 +50,7 @@ impl Pool {
         ensures lends { OnOk result (LendsBlock format count self.old self.new) }
         ensures err { OnErr result (self.new ≡ self.old) }
 
-        // A free block that fits is lent without allocating.
+        // If a free block fits, `take` can't fail.
         ensures fits { HasCapacity (free_of self.old format) count → IsOk result }
     {
         match format {

@@ -14,14 +14,15 @@ use slab::Slab;
 use std::alloc::{AllocError, Global};
 use std::marker::Model;
 
-/// Blocks up to this capacity, 4,096 bytes in the widest format, are never shrunk.
+/// Blocks of at most this capacity, in samples, are never shrunk. It is 4,096 bytes in the widest
+/// format.
 const SMALL_CAPACITY: usize = 1024;
 
 /// The greatest total capacity, in samples, of the free blocks that `trim` keeps.
 const KEPT_CAPACITY: u128 = 67_108_864;
 
-/// The greatest number of free blocks that `trim` keeps. One client can have as many images, in
-/// 1,024 delays of 16 images.
+/// The greatest number of free blocks that `trim` keeps. One client can have this many images: 16
+/// in each of 1,024 delays.
 const KEPT_BLOCKS: usize = 16_384;
 
 /// A free block: its memory, its class, the class's capacity, and the part of the class's stack
@@ -35,8 +36,8 @@ struct Free<T> {
 }
 
 /// The blocks of one format: the number of lent blocks, and the free blocks in a slab, with one
-/// stack for each class. `capacity` is the total capacity of the free blocks in samples, where each
-/// block counts with its class's capacity.
+/// stack for each class. `capacity` is the total capacity of the free blocks, in samples. In this
+/// total, a block has the capacity of its class.
 #[derive(Drop)]
 pub struct Shelf<T> {
     alloc: Global,
@@ -57,7 +58,8 @@ impl<T> Model for Shelf<T> {
 
     ghost view = { λ s. record { lent = s.lent; free = lengths s.stacks } };
 
-    // The slab has a reserved entry for each lent block, so that giving it back allocates nothing.
+    // The slab has a reserved entry for each lent block. Giving back a block thus allocates
+    // nothing.
     ghost invariant = { λ s. (s.lent + slab_len s.free ≤ s.free.capacity)
         × AreStacks s.stacks s.free
         × (s.capacity ≡ capacity_below (lengths s.stacks) class_count) };
@@ -208,8 +210,8 @@ impl<T: Copy + Drop> Shelf<T> {
         self.free.len() <= KEPT_BLOCKS && self.capacity <= KEPT_CAPACITY
     }
 
-    /// Drops a free block of the greatest class that has any. Some block is free, because the
-    /// limits are exceeded.
+    /// Drops a free block of the greatest class that has any. The limits must be exceeded; then at
+    /// least one block is free.
     #[tactic(auto, using(crate::proofs::FreeLemmas::none_is_trim))]
     fn drop_largest(&mut self)
         requires { IsTrim self.old.free → ⊥ }
@@ -229,7 +231,8 @@ impl<T: Copy + Drop> Shelf<T> {
     }
 }
 
-/// Returns new memory with `count` samples and the capacity of the smallest class that fits them.
+/// Returns new memory with `count` samples. It has at least the capacity of the smallest class that
+/// fits them, if there is such a class.
 fn new_samples<T: Copy + Drop>(alloc: Global, zero: T, count: usize) -> Result<Vec<T>, AllocError>
     ensures count { IfOk result (λ samples. length samples.items ≡ count) }
     ensures capacity { IfOk result (λ samples. FitsIn count (vec_capacity samples)) }
@@ -239,8 +242,8 @@ fn new_samples<T: Copy + Drop>(alloc: Global, zero: T, count: usize) -> Result<V
     Ok(samples)
 }
 
-/// Returns the same memory with `count` samples, which fit. Memory that is far too large is shrunk
-/// to the capacity that a new block would have, unless the system refuses.
+/// Returns the same memory with `count` samples, which must fit. Memory that is far too large is
+/// shrunk to the capacity that a new block would have, unless the system refuses.
 fn resized<T: Copy + Drop>(mut samples: Vec<T>, zero: T, count: usize) -> Vec<T>
     requires { count ≤ vec_capacity samples }
     ensures count { length result.items ≡ count }
@@ -253,8 +256,8 @@ fn resized<T: Copy + Drop>(mut samples: Vec<T>, zero: T, count: usize) -> Vec<T>
     samples
 }
 
-/// Checks whether a capacity is above `SMALL_CAPACITY` and more than twice the requested number of
-/// samples.
+/// Checks whether a capacity is above `SMALL_CAPACITY`, and whether half of the capacity, rounded
+/// down, is above the requested number of samples.
 fn is_far_too_large(capacity: usize, count: usize) -> bool
     ensures { IsTrue result ↔ (SMALL_CAPACITY < capacity) × (count < capacity / 2) }
 {

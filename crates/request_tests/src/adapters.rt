@@ -31,7 +31,8 @@ impl Read for ScriptedReader<'_> {
     }
 }
 
-/// Fills three bytes from a script, and returns the result, the bytes, and the number of reads.
+/// Fills three bytes from a script. Returns the result, the bytes, and the number of answers that
+/// were used.
 fn fill_three(
     answers: &[Option<u8>],
     mut budget: u64,

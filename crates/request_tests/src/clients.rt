@@ -9,7 +9,7 @@ use vx_base::{
 };
 
 /// Opens a context, and creates images of this description until one is refused. Returns how many
-/// images were created. `None`: a reply was unexpected, or none of nine images was refused.
+/// images were created, or `None` if a reply was unexpected or none of nine images was refused.
 fn images_made(alloc: Global, runtime: &mut Runtime, client: u16, desc: Desc) -> Option<u32> {
     let opened = runtime.apply(alloc, client, &Request::OpenContext).ok()?;
     if !matches!(opened, Reply::Empty) {
@@ -132,7 +132,7 @@ pub fn add(
     }
 }
 
-/// Adds the node Not to graph 3, from one image to another, and returns the node's number.
+/// Adds a Not node to graph 3, from one image to another, and returns the node's number.
 pub fn add_not(alloc: Global, runtime: &mut Runtime, input: u32, output: u32) -> Result<u32, Fail> {
     add(alloc, runtime, Function::NotBits, input, output)
 }

@@ -1,14 +1,14 @@
-//! Tests of the public functions on requests, for cases that no stream through the program reaches:
-//! the order of reads and flushes, devices that fail, requests that are written, small quotas, and
-//! the blocks of images. `tools/check_program` tests the other cases on the program.
+//! Tests of the public functions on requests, for cases that no stream through the program reaches.
+//! These are the order of reads and flushes, devices that fail, the writing of requests, small
+//! quotas, and the blocks of images. `tools/check_program` tests the other cases on the program.
 //!
 //! - `devices`: a source and a sink in memory that move a few bytes in each call, and can fail
-//! - `streams`: a stream in pieces, each read and each write failing, and how far a stream is read
+//! - `streams`: streams in pieces, failures of each read and write, and how far a stream is read
 //! - `turns`: a reply is flushed before a byte of the next frame is read
 //! - `adapters`: std's readers and writers, through `FromRead` and `FromWrite`
 //! - `requests`: requests to bytes and back; the texts of faults
-//! - `pictures`: pictures of more bytes than a small frame, in pieces, cut short and refused
-//! - `texts`: PGM texts, in pieces, cut short and refused
+//! - `pictures`: pictures (in bodies of more than 64 bytes) in pieces, cut short and refused
+//! - `texts`: PGM texts in pieces, cut short and refused
 //! - `clients`: clients with a small quota
 //! - `pooled`: blocks of the pool that hold clients' images
 #![tactic(auto)]

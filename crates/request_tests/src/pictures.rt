@@ -1,4 +1,4 @@
-//! Pictures of more bytes than a small frame: in pieces, cut short, and refused.
+//! Pictures in bodies of more than 64 bytes: in pieces, cut short, and refused.
 use crate::devices::{NEVER, PiecewiseSink};
 use crate::streams::{ALL_AT_ONCE, Devices, serve_bytes};
 use client_contexts::Runtime;
@@ -13,8 +13,8 @@ pub fn image() -> ObjRef {
     ObjRef::new(1, None)
 }
 
-/// The format, width and height of each picture. The last two have more bytes of samples than are
-/// decoded at a time.
+/// The format, width and height of each picture. The last two pictures have more bytes of samples
+/// than the server decodes at a time.
 const PICTURES: [(Format, u16, u16); 3] = [
     (Format::U8, 13, 11),
     (Format::S16, 70, 130),
@@ -77,8 +77,8 @@ fn writing(alloc: Global, desc: Desc, seed: u32) -> Result<Vec<u8>, Fail> {
     )
 }
 
-/// Returns the picture in the frame `writing`: the description and the samples, after the
-/// reference. A ReadImage after the frame gets these bytes as the body of its reply.
+/// Returns the bytes of the picture in the frame `writing`: the description and the samples. They
+/// follow the reference. A ReadImage after the frame gets them as the body of its reply.
 fn read(writing: &[u8]) -> &[u8] {
     if writing.len() < 12 {
         writing
@@ -87,7 +87,7 @@ fn read(writing: &[u8]) -> &[u8] {
     }
 }
 
-/// Serves a stream, which has to succeed, and returns the replies.
+/// Serves a stream, and returns the replies. Serving has to succeed.
 pub fn ask(alloc: Global, runtime: &mut Runtime, stream: &[u8]) -> Result<Vec<u8>, Fail> {
     let served = serve_bytes(alloc, runtime, stream, ALL_AT_ONCE);
     if served.result.is_err() {
@@ -175,8 +175,8 @@ fn stays(
     Ok(ended && stays && holds(alloc, runtime, first)?)
 }
 
-/// Serves 23 parts of the frame that writes the next picture, each as `stays` does. Returns whether
-/// the image still has the first picture each time.
+/// Calls `stays` for 23 parts of the frame that writes the next picture. Each part begins at the
+/// frame's start. Returns whether the image still has the first picture each time.
 fn stays_after_parts(
     alloc: Global,
     runtime: &mut Runtime,

@@ -1,5 +1,5 @@
-//! Blocks of the pool that hold clients' images. Blocks are reused and given back, and the next
-//! client that gets a block never sees the old samples.
+//! Blocks of the pool that hold clients' images. Blocks are reused and given back, and a new image
+//! in a reused block never shows the old samples.
 use crate::clients::{add, add_not, create, holds, reply, succeed, with_a_graph, write_sample};
 use client_contexts::Runtime;
 use client_model::{Limits, Reply, Request};
@@ -109,8 +109,8 @@ fn a_new_image_is_cleared_and_uses_the_block_of_a_released_one(
     Ok(())
 }
 
-/// Creates a delay of three images like image 1, which has this description; ages and releases the
-/// delay. Returns whether all slots were 0, and three blocks were lent to the delay.
+/// Creates a delay of three images like image 1, which has this description. Then ages and releases
+/// the delay. Returns whether all slots were 0, and three blocks were lent to the delay.
 fn slots_are_cleared(
     alloc: Global,
     runtime: &mut Runtime,

@@ -133,9 +133,9 @@ fn in_pieces(rt: HostRuntime) {
     }
 }
 
-/// Serves a stream over devices of which one may fail with this fault, and returns whether serving
-/// succeeded. Checks that the bytes written are whole replies, which end at these offsets; the last
-/// reply may be cut short only if a write failed.
+/// Serves a stream, and returns whether serving succeeded. One of the devices may fail with this
+/// fault. Checks that the bytes written are whole replies, which end at the offsets `ends`. The
+/// last reply may be cut short only if the fault is `WriteFailed`.
 fn ends_well(
     rt: &impl Abort,
     alloc: Global,
@@ -155,10 +155,10 @@ fn ends_well(
     is_ok
 }
 
-/// Serves a stream twice for each number of good calls from 0 to 119. In one stream, a read of one
-/// byte fails after this number of good reads. In the other, a write of one byte or a flush fails
-/// after this number of good writes and flushes. Checks that serving succeeds exactly if the number
-/// is above `most_reads` or `most_writes`, respectively.
+/// Serves a stream twice for each number of good calls from 0 to 119. The first time, a read of one
+/// byte fails after this number of good reads. The second time, a write of one byte or a flush
+/// fails after this number of good writes and flushes. Checks that serving succeeds exactly if the
+/// number is above `most_reads` or `most_writes`, respectively.
 fn fails_at_each_call(
     rt: &impl Abort,
     alloc: Global,
@@ -221,8 +221,8 @@ fn a_write_that_takes_nothing(rt: HostRuntime) {
     }
 }
 
-/// Streams with a fault, one after the other to the same runtime: how serving ends, the bytes
-/// written, the bytes left, and the number of reads.
+/// Serves streams with a fault, one after the other, to the same runtime. Each entry has the
+/// stream, the fault, the bytes written, and then the number of bytes left and the number of reads.
 #[test]
 fn how_far_it_reads(rt: HostRuntime) {
     let mut runtime = Runtime::new(rt.alloc(), Limits::default());
@@ -274,8 +274,8 @@ fn how_far_it_reads(rt: HostRuntime) {
     }
 }
 
-/// Streams without a fault, one after the other to the same runtime: an empty stream, a stream in
-/// which a client opens a context, and a stream in which the client's context is open already.
+/// Serves streams without a fault, one after the other, to the same runtime. The first stream is
+/// empty. In the second stream a client opens a context, which is still open in the third.
 #[test]
 fn goes_on_after_a_good_end(rt: HostRuntime) {
     let mut runtime = Runtime::new(rt.alloc(), Limits::default());
@@ -294,8 +294,8 @@ fn goes_on_after_a_good_end(rt: HostRuntime) {
     }
 }
 
-/// First a stream that ends within its second frame; then a stream that finds the context of the
-/// first stream still open.
+/// Serves a stream that ends within its second frame, and then another stream. The context that the
+/// first stream opened is still open in the second.
 #[test]
 fn goes_on_after_a_stream_cut_short(rt: HostRuntime) {
     let mut runtime = Runtime::new(rt.alloc(), Limits::default());

@@ -8,7 +8,8 @@ use std::test::Fail;
 use vx_base::{Desc, Format, Samples};
 use vx_requests::StreamFault;
 
-/// Widths and heights of images. The text of the first has fewer bytes than a small frame.
+/// Widths and heights of images. Only the first image's text is written in a body of fewer than 64
+/// bytes.
 const SIDES: [(u16, u16); 3] = [(3, 2), (13, 11), (100, 7)];
 
 /// Returns a raw text of pseudorandom U8 samples, with this maxval.
@@ -92,8 +93,8 @@ fn texts_in_pieces(rt: HostRuntime) -> Result<(), Fail> {
     Ok(())
 }
 
-/// Serves the frame that writes the next text, cut short at 23 lengths. Returns whether the image
-/// still has the first text each time.
+/// Serves the frame that writes the next text 23 times, cut short at another length each time.
+/// Returns whether the image still has the first text each time.
 fn stays_after_parts(
     alloc: Global,
     runtime: &mut Runtime,

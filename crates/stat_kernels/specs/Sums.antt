@@ -1,4 +1,4 @@
--- Sums of the samples to the left of a pixel and above it. OpenVX 1.3, "Integral Image".
+-- Sums of the samples up to a column and a row. OpenVX 1.3, "Integral Image".
 use Rattle.std.specs.Prelude.{ℕ, ℤ, pos, ◌≡◌, ◌+◌, ◌-◌, ◌%◌, ◌^◌, ◌<◌, ◌≤◌, ◌==◌, if◌then◌else◌, max, nat_le, unsigned_abs, Option, Some, None, List, length, map, slice_index, drop}
 use Rattle.std.specs.List.{sum_by}
 use Rattle.vx_base.specs.Rectangle.{has_pixel}
@@ -21,7 +21,7 @@ abbrev pub IsRowAbove : ImageValue → ℕ → Option (List ℕ) → Type 0
 IsRowAbove whole line None = line ≡ 0
 IsRowAbove whole line (Some row) = (1 ≤ line) × (map pos row ≡ sums_row whole (line - 1))
 
--- row y of one image is row `line` of another: the same columns are valid, with the same samples
+-- row y of `part` is row `line` of `whole`: both have the same width, valid columns and samples
 pub record IsRowOf (part : ImageValue) (y : ℕ) (whole : ImageValue) (line : ℕ) : Type 0 where
   pub width : part.width ≡ whole.width
   pub valid : (x : ℕ) → has_pixel part.valid x y ≡ has_pixel whole.valid x line
@@ -38,9 +38,9 @@ pub record AreRowsOf (part : ImageValue) (rows : Band) (whole : ImageValue) (lin
 abbrev pub sum_between : ImageValue → ℕ → ℕ → ℕ → ℕ
 sum_between image start x y = sum_by unsigned_abs (samples_in (record { x0 = image.valid.x0; y0 = max image.valid.y0 start; x1 = x; y1 = y }) image)
 
--- a sample of an integral image in a row from `start` on: the sum in the row above `start`, plus
--- the sum of the samples from row `start` on. The sum in the row above counts only if row `start`
--- isn't above the valid rectangle.
+-- a sample of row y of an integral image, where y is at least `start`. It is the sum in the row
+-- above row `start`, plus the sum of the samples in rows `start` to y. The sum in the row above
+-- counts only if row `start` isn't above the valid rectangle.
 abbrev pub sum_on : ImageValue → ℕ → (ℕ → ℕ) → ℕ → ℕ → ℤ
 sum_on image start above x y = pos (((if nat_le image.valid.y0 start then above x else 0) + sum_between image start (x + 1) (y + 1)) % 2 ^ 32)
 

@@ -14,7 +14,7 @@ use lane_rows::tally_row;
 use vx_base::Bins;
 
 /// Counts the valid samples of a band of a U8 image by value. The count of a value is the sum of
-/// its entries in four tables.
+/// its entries in the four arrays.
 #[tactic(auto, using(crate::proofs::BandLaws::few_samples))]
 fn count_values(
     image: &Image<'_>,
@@ -40,7 +40,7 @@ fn count_values(
 }
 
 /// Writes the histogram of a U8 image's valid samples (OpenVX 1.3, "Histogram"; the bins are as
-/// this project defines them). The earlier counts, one for each bin, are overwritten.
+/// this project defines them). `counts` has one count for each bin. The old counts are overwritten.
 pub fn histogram(image: &Image<'_>, bins: Bins, counts: &mut [u32])
     requires format { image.now.format ≡ U8 }
     requires size { length counts.old ≡ bins.bins }
@@ -52,7 +52,7 @@ pub fn histogram(image: &Image<'_>, bins: Bins, counts: &mut [u32])
 }
 
 /// Adds the histogram of a band's valid samples to `counts`, one count for each bin. The image is
-/// U8. No count may exceed 32 bits.
+/// U8. Each count, plus the number of the band's valid samples, must be below 2^32.
 pub fn add_histogram(image: &Image<'_>, rows: Band, bins: Bins, counts: &mut [u32])
     requires format { image.now.format ≡ U8 }
     requires rows { IsInRows image.now.height rows }

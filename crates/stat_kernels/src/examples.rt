@@ -54,8 +54,8 @@ pub fn integral_of_four()
     })).samples ≡ pos 1 ∷ pos 3 ∷ pos 4 ∷ pos 10 ∷ [] }
 {}
 
-/// Zeros outside the valid rectangle are no extremes. Of two pixels with the least sample the upper
-/// pixel is reported.
+/// Zeros outside the valid rectangle are not extremes. If two pixels have the same extreme, the
+/// upper pixel is reported. If no pixel is valid, all numbers are 0.
 pub fn extremes_of_four()
     ensures column { extremes (record {
       width = 2;

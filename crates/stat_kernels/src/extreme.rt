@@ -19,7 +19,8 @@ impl Extreme {
     ghost use Rattle.stat_kernels.specs.Extreme.{merge};
 
     /// Merges a row of later pixels into this extreme. `sample` is the row's own extreme.
-    /// `is_beyond` says whether `sample` is below the least sample so far, or above the greatest.
+    /// `is_beyond` says whether `sample` is below `self.value` (for the least sample) or above it
+    /// (for the greatest).
     fn include_row<T: Compared>(
         self,
         is_beyond: bool,
@@ -54,8 +55,8 @@ impl Extreme {
         }
     }
 
-    /// Merges the extreme of later pixels into this extreme. `is_beyond` says whether `other` is
-    /// below the least sample so far, or above the greatest.
+    /// Merges the extreme of later pixels into this extreme. `is_beyond` says whether `other.value`
+    /// is below `self.value` (for the least sample) or above it (for the greatest).
     fn merge(self, is_beyond: bool, other: Extreme) -> Extreme
         requires { self.count + other.count < 2 ^ 32 }
         ensures { result ≡ merge (λ _ _. is_beyond) self other }

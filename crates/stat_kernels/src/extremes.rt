@@ -13,8 +13,8 @@ use crate::valid::valid_row;
 use image_core::{Band, Image};
 use vx_base::{Extremes, Format};
 
-/// Merges the valid samples of row `y` into the extremes of the rows above it. Their pixels are
-/// `down` rows lower.
+/// Merges the valid samples of row `y` into the extremes of the rows above it. The row's pixels are
+/// recorded `down` rows lower, in row `y` + `down`.
 fn with_row(found: Found, image: &Image<'_>, y: u16, down: u16) -> Found
     requires format { image.now.format ≢ U32 }
     requires row { y < image.now.height }

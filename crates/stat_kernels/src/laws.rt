@@ -43,8 +43,8 @@ pub fn extremes_of_bands()
         ≡ extremes (valid_in (record { start = start; count = first + second }) image) }
 {}
 
-/// Merging the extremes of two bands is also correct if the second band belongs to another image,
-/// `part`, whose rows are `down` rows lower in `whole`.
+/// The extremes of two adjacent bands of `whole` can also be merged if another image, `part`, has
+/// the second band's rows. Row y of the second band in `part` is row y + `down` of `whole`.
 pub fn extremes_of_parts()
     ensures { (part whole : ImageValue) (rows : Rows) (start first down : ℕ) →
         rows.start + down ≡ start + first → AreRowsOf part rows whole (start + first) →

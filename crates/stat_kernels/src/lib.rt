@@ -4,11 +4,10 @@
 //! - `min_max` finds the least and the greatest sample, and the first pixel of each.
 //! - `integral` gives each pixel the sum of the samples up to its column and row.
 //!
-//! Each function processes the valid rows from top to bottom, and a row only adds to the result of
-//! the rows above it. Therefore `add_histogram`, `add_min_max` and `integral_on` can process an
-//! image band by band. No function allocates memory. The loops over samples are kernels of
-//! `lane_rows`. `laws` states facts about the extremes and about bands; `examples` evaluates the
-//! definitions.
+//! Each function processes the valid rows from top to bottom. Each row extends the result for the
+//! rows above it. Therefore `add_histogram`, `add_min_max` and `integral_on` can process an image
+//! band by band. No function allocates memory. The loops over samples are kernels of `lane_rows`.
+//! `laws` states facts about the extremes and about bands; `examples` evaluates the definitions.
 #![tactic(auto)]
 
 mod counts;

@@ -19,7 +19,7 @@ use vx_base::{GREATEST_SIDE, Rect};
 
 const LONGEST_ROW: usize = GREATEST_SIDE as usize;
 
-/// The row above the first row of an image: all zeros.
+/// The row of sums above row 0 of an integral image: all zeros.
 static ZEROS: [u32; LONGEST_ROW] = [0; LONGEST_ROW];
 
 /// Returns the sums in the row above, which are zeros at the top of an image.
@@ -66,8 +66,8 @@ pub fn row_above(before: &[u32], width: usize) -> Option<&[u32]>
 }
 
 /// Writes a band of an integral image, continuing from `above`: the row above the band, or `None`
-/// at the top of an image. Reads only the band's rows of `image`. In the contract `whole` is any
-/// image whose rows from `line` on are the band's rows.
+/// at the top of an image. Reads only the band's rows of `image`. The clause `whole` states the
+/// result for another image, `whole`, that has the band's rows from row `line` on.
 pub fn integral_on(image: &Image<'_>, rows: Band, above: Option<&[u32]>, samples: &mut [u32])
     requires format { image.now.format ≡ U8 }
     requires rows { IsInRows image.now.height rows }

@@ -16,7 +16,7 @@ fn columns_in(valid: Rect, y: u16) -> u16
     }
 }
 
-/// Returns the valid samples of row `y`: none above and below the valid rectangle.
+/// Returns the valid samples of row `y`: none if the row is above or below the valid rectangle.
 pub fn valid_row<'a, T: Sample>(image: &'a Image<'_>, y: u16) -> &'a [T]
     requires format { image.now.format ≡ T.format }
     requires below { y < image.now.height }

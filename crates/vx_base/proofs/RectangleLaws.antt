@@ -50,9 +50,6 @@ first_place r h = record { left = omega arith; right = h.columns; top = omega ar
 last_place : (r : Rectangle) → IsProper r → Between r (r.x1 - 1) (r.y1 - 1)
 last_place r h = record { left = omega arith; right = omega arith; top = omega arith; bottom = omega arith }
 
-proper_by : (s : Rectangle) (x y : ℕ) → Between s x y → IsProper s
-proper_by s x y h = record { columns = omega arith; rows = omega arith }
-
 -- proper rectangles with the same places have the same bounds
 same_proper : (r s : Rectangle) → IsProper r → IsProper s → ((x y : ℕ) → Between r x y → Between s x y) → ((x y : ℕ) → Between s x y → Between r x y) → r ≡ s
 same_proper r s p q there back =

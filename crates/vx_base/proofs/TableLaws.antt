@@ -1,6 +1,6 @@
 -- Runs and tables: what a function of places gives along a row, and row by row.
-use Rattle.std.proofs.Common.{◌≡◌, ℕ, ℤ, pos, ◌+◌, ◌-◌, ◌*◌, ◌<◌, ◌≤◌, List, [], ◌∷◌, ◌++◌, length, map, take, drop, get_or, set, zero, suc, refl, ap, ◌∙◌, sym, arith, zero-add, add-zero, add-one, inl, inr, ◌⊎◌, replicate, append-nil, append_assoc, length-append, length-take, length-drop, ext_get_or, get_or-take, get_or-drop, drop_at, take_at}
-use Rattle.vx_base.proofs.Common.{take_more_set, Rectangle, nat_tests, run, band, table, zero_outside}
+use Rattle.std.proofs.Common.{◌≡◌, ℕ, ℤ, pos, ◌+◌, ◌-◌, ◌*◌, ◌<◌, ◌≤◌, List, [], ◌∷◌, ◌++◌, length, map, take, drop, get_or, zero, suc, refl, ap, ◌∙◌, sym, arith, zero-add, add-zero, add-one, inl, inr, ◌⊎◌, replicate, append-nil, append_assoc, length-append, length-take, length-drop, ext_get_or, get_or-take, get_or-drop, drop_at, take_at}
+use Rattle.vx_base.proofs.Common.{Rectangle, nat_tests, run, band, table, zero_outside}
 use Rattle.std.specs.List.{range_with_len, flat_map}
 use Rattle.std.proofs.lemmas.List.{map-append, length-map, take-map, drop-map}
 use Rattle.std.proofs.lemmas.Slice.{take-put_mid}
@@ -188,12 +188,3 @@ zip2_of_runs f g h x n us vs cs a b is = is ∙ ap (λ l. zip2 f l vs) a ∙ ap 
 -- one more place of a run
 pub run-more : (f : ℕ → ℤ) (x n : ℕ) → run x (n + 1) f ≡ run x n f ++ f (x + n) ∷ []
 run-more f x n = run-append f x n 1
-
--- one more sample is written
-pub sample_written : (f : ℕ → ℤ) (x k : ℕ) (out : List ℤ) (z : ℤ) → take k out ≡ run x k f → k < length out → z ≡ f (x + k) → take (k + 1) (set out k z) ≡ run x (k + 1) f
-sample_written f x k out z before room is = take_more_set out k z room ∙ ap (λ l. l ++ z ∷ []) before ∙ ap (λ w. run x k f ++ w ∷ []) is ∙ sym (run-more f x k)
-
--- one more byte is written
-pub byte_written : (f : ℕ → ℤ) (x k : ℕ) (out : List ℕ) (z : ℕ) → map pos (take k out) ≡ run x k f → k < length out → pos z ≡ f (x + k) → map pos (take (k + 1) (set out k z)) ≡ run x (k + 1) f
-byte_written f x k out z before room is =
-    ap (map pos) (take_more_set out k z room) ∙ map-append pos (take k out) (z ∷ []) ∙ ap (λ l. l ++ pos z ∷ []) before ∙ ap (λ w. run x k f ++ w ∷ []) is ∙ sym (run-more f x k)

@@ -1,9 +1,11 @@
--- Convolution matrices. OpenVX 1.3, "Object: Convolution"; the permitted sizes and scales are this project's.
+-- Convolution matrices. OpenVX 1.3, "Object: Convolution"; the permitted sizes and exponents are
+-- this project's.
 use Rattle.std.specs.Prelude.{ℕ, ℤ, pos, ◌+◌, ◌*◌, ◌==◌, nat_le, Bool, ◌&&◌, ◌||◌, IsTrue, List, length, All, slice_index_or}
 use Rattle.vx_base.specs.declared.format.Format.TheVariants.{S16}
 use Rattle.vx_base.specs.Sample.{IsSample}
 
--- the coefficients in row-major order, and the exponent of the power of two that divides each sum
+-- a convolution matrix, with its coefficients in row-major order. Each sum is divided by
+-- 2^exponent.
 pub record ConvolutionValue : Type 0 where
   pub columns : ℕ
   pub rows : ℕ

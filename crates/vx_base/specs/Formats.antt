@@ -16,7 +16,7 @@ are_equal U8 U8 U8 = true
 are_equal S16 S16 S16 = true
 are_equal a b g = false
 
--- whether the inputs are U8 or S16 and the output is S16, or all three are U8
+-- whether all three formats are U8, or the output is S16 and each input is U8 or S16
 abbrev pub are_arithmetic : Format → Format → Format → Bool
 are_arithmetic U8 U8 U8 = true
 are_arithmetic U8 U8 S16 = true
@@ -25,9 +25,10 @@ are_arithmetic S16 U8 S16 = true
 are_arithmetic S16 S16 S16 = true
 are_arithmetic a b g = false
 
--- whether a function takes these formats: first input, second input, output. For a second input
--- that isn't an image, the format is that of the table's entries, the samples that the threshold
--- tests, or the coefficients. None: no such operand, or an operand without a format.
+-- whether a function takes these formats: first input, second input, output. The second input may
+-- be a lookup table, a threshold or a convolution. Its format is then the format of the entries, of
+-- the tested samples, or of the coefficients. None means that the operand is absent or has no
+-- format.
 abbrev pub takes_formats : Function → Format → Option Format → Option Format → Bool
 takes_formats AndBits a (Some b) (Some g) = are_bytes a b g
 takes_formats OrBits a (Some b) (Some g) = are_bytes a b g

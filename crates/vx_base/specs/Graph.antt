@@ -6,8 +6,8 @@ use Rattle.vx_base.specs.declared.numbered.Numbered.{Numbered}
 use Rattle.vx_base.specs.Node.{IsNode}
 use Rattle.vx_base.specs.declared.node.TheConstants.{GREATEST_NODES}
 
--- a graph: the number of its next node, its numbered nodes in the order of their addition, and the
--- names of the delays that age after each run (vxRegisterAutoAging)
+-- a graph: the number of its next node, and its numbered nodes, oldest first. `delays` has the
+-- names of the delays that age after each run (vxRegisterAutoAging).
 pub record GraphValue : Type 0 where
   pub next : ℕ
   pub nodes : List Numbered

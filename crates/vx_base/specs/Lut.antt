@@ -9,7 +9,8 @@ pub record LutValue : Type 0 where
   pub format : Format
   pub entries : List ℤ
 
--- whether a table of this format has count entries: one for each of the 256 or 65,536 sample values
+-- whether `count` is the number of entries of a full table of this format: 256 for U8, 65,536 for
+-- S16
 abbrev pub is_full : Format → ℕ → Bool
 is_full U8 count = count == range_size U8
 is_full S16 count = count == range_size S16

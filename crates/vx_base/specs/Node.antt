@@ -15,12 +15,12 @@ use Rattle.vx_base.specs.Reference.{Reference, IsReference}
 abbrev pub is_nothing : Reference → Bool
 is_nothing cell = (cell.name == 0) && is_none cell.slot
 
--- whether an operand, if it is given, names an object
+-- whether an operand, if it is given, isn't name 0 without a slot
 abbrev pub is_named : Option Reference → Bool
 is_named None = true
 is_named (Some cell) = not (is_nothing cell)
 
--- whether each given operand names an object
+-- whether no given operand is name 0 without a slot
 abbrev pub all_named : Node → Bool
 all_named n = not (is_nothing n.in1) && (is_named n.in2 && (is_named n.out1 && is_named n.out2))
 
@@ -29,13 +29,15 @@ abbrev pub is_wrap : Policy → Bool
 is_wrap Wrap = true
 is_wrap Saturate = false
 
--- whether policy and amount suit the function: Wrap if the function takes no policy; an amount up
--- to the function's greatest, or 0 if the function takes none
+-- whether the policy and the amount suit the function. If the function takes no policy, the policy
+-- is Wrap. If the function takes no amount, the amount is 0; otherwise it is at most the function's
+-- greatest amount.
 abbrev pub has_amount : Parameters → Policy → ℕ → Bool
 has_amount p policy amount = (p.policy || is_wrap policy) && nat_le amount (unwrap_or p.greatest_amount 0)
 
 -- whether the operands suit the function: a second input is given exactly if the function takes
--- one. Of two outputs one or both are given; a function with one output has the first alone.
+-- one. If the function has two outputs, one or both are given. Otherwise only the first output is
+-- given.
 abbrev pub has_operands : Parameters → Node → Bool
 has_operands p n =
     (if is_some p.second_input then is_some n.in2 else is_none n.in2)
@@ -64,8 +66,8 @@ inputs n = n.in1 ∷ optional_cells n.in2
 abbrev pub outputs : Node → List Reference
 outputs n = optional_cells n.out1 ++ optional_cells n.out2
 
--- the kind of a node's second input; if the node's function has no second input, the kind is Image,
--- which nothing uses
+-- the kind of a node's second input; if the node's function has no second input, the result is
+-- Image and is not used
 abbrev pub second_kind : Node → Kind
 second_kind n = unwrap_or (parameters n.function).second_input kind.Image
 

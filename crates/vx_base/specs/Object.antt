@@ -1,5 +1,5 @@
--- Objects that a client names and nodes use. OpenVX 1.3, "Object: Image", "Object: LUT", "Object: Threshold", "Object: Delay",
--- "Object: Convolution", "Object: Distribution", "Object: Graph".
+-- Objects that a client names and nodes use. OpenVX 1.3, "Object: Image", "Object: LUT", "Object:
+-- Threshold", "Object: Delay", "Object: Convolution", "Object: Distribution", "Object: Graph".
 use Rattle.std.specs.Prelude.{ℕ, ◌≡◌, ◌<◌, ◌≤◌, ◌^◌, Bool, true, false, IsTrue, ⊤, Option, Some, None, List, length, map, sum_by, All, replicate, pos}
 use Rattle.std.specs.List.{AllPairs}
 use Rattle.vx_base.specs.declared.format.Format.{Format}
@@ -102,7 +102,7 @@ pub record IsDistribution (d : DistributionValue) : Type 0 where
   pub bins : IsTrue (are_bins d.bins.bins d.bins.offset d.bins.range)
   pub size : length d.counts ≡ d.bins.bins
 
--- a virtual image with the name of a graph and a partial description
+-- a virtual image whose graph's name has 32 bits, and whose given sides are permitted
 pub record IsVirtual (image : VirtualImage) : Type 0 where
   pub graph : image.graph < 2 ^ 32
   pub declared : IsPartialDescription image.declared

@@ -15,7 +15,8 @@ use Rattle.vx_base.specs.Pixelwise.{from_one, from_two, formula_of_one, formula_
 use Rattle.vx_base.specs.Window.{from_nine, from_matrix, formula_of_nine}
 use Rattle.vx_base.specs.Statistics.{histogram, sums_in, extremes}
 
--- the output image of a function of one image: pixel-wise, an integral image, or a formula of 3x3 windows
+-- the output image of a function of one image. The function is pixel-wise, makes an integral image,
+-- or applies a formula to 3x3 windows.
 abbrev pub image_of_one : Function → Node → Output → Format → ImageValue → ImageValue
 image_of_one NotBits n output format a = from_one format (formula_of_one NotBits format n.policy n.amount) a
 image_of_one ConvertDepth n output format a = from_one format (formula_of_one ConvertDepth format n.policy n.amount) a
@@ -32,13 +33,14 @@ node_image n output format a (Some (ThresholdObject threshold)) = from_one forma
 node_image n output format a (Some (ConvolutionObject convolution)) = from_matrix format convolution n.border a
 node_image n output format a (Some other) = from_one format (λ _. pos 0) a
 
--- a node's second operand: its second input, or the output's earlier content if the function accumulates
+-- a node's second operand: its second input, or the output's earlier content if the function
+-- accumulates
 abbrev pub second_or_output : Node → Option ObjectValue → ObjectValue → Option ObjectValue
 second_or_output n second old = if accumulates n.function then Some old else second
 
 -- an output's new value, computed from the inputs and the output's earlier value. An accumulating
--- function reads that value's samples; the other functions use only that value's kind, format and
--- bins.
+-- function reads the earlier value's samples. Other functions use only the earlier value's kind,
+-- format and bins.
 abbrev pub node_output : Node → Output → ObjectValue → Option ObjectValue → ObjectValue → ObjectValue
 node_output n output (ImageObject a) second (ImageObject old) = ImageObject (node_image n output old.format a (second_or_output n second (ImageObject old)))
 node_output n output (ImageObject a) second (DistributionObject d) = DistributionObject (record { bins = d.bins; counts = histogram d.bins a })
@@ -51,9 +53,9 @@ abbrev pub written_to : Node → Output → Reference → Option ObjectValue →
 written_to n output cell (Some first) second (Some old) = (cell, node_output n output first second old) ∷ []
 written_to n output cell first second old = []
 
--- an output's reference and the output's new value, as a list of at most one pair. `start` gives the
--- objects at the start of the run, `held` the present objects. The output's earlier value is from
--- `start`, the inputs are from `held`.
+-- an output's reference and the output's new value, as a list of at most one pair. `start` gives
+-- the objects at the start of the run, `held` the present objects. The output's earlier value is
+-- from `start`, and the inputs are from `held`.
 abbrev pub written_in : Node → Output → Option Reference → (Reference → Option ObjectValue) → (Reference → Option ObjectValue) → List (Reference × ObjectValue)
 written_in n output None start held = []
 written_in n output (Some cell) start held = written_to n output cell (held n.in1) (option_and_then held n.in2) (start cell)
@@ -62,7 +64,7 @@ written_in n output (Some cell) start held = written_to n output cell (held n.in
 abbrev pub written_from : (Reference → Option ObjectValue) → Node → (Reference → Option ObjectValue) → List (Reference × ObjectValue)
 written_from start n held = written_in n First n.out1 start held ++ written_in n Second n.out2 start held
 
--- the outputs of the first node that runs, each with the output's new value; until then all objects
--- are as at the start of the run
+-- the outputs of a node that runs first, each with the output's new value. The present objects are
+-- then the objects at the start of the run.
 abbrev pub written_by : Node → (Reference → Option ObjectValue) → List (Reference × ObjectValue)
 written_by n held = written_from held n held

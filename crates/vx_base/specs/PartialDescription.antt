@@ -1,4 +1,5 @@
--- Partial descriptions, with which virtual images are declared. OpenVX 1.3, "Object: Image", vxCreateVirtualImage.
+-- Partial descriptions, with which virtual images are declared. OpenVX 1.3, "Object: Image",
+-- vxCreateVirtualImage.
 use Rattle.std.specs.Prelude.{ℕ, Bool, true, ◌&&◌, IsTrue, if◌then◌else◌, Option, Some, None}
 use Rattle.std.specs.Option.{option_or}
 use Rattle.vx_base.specs.declared.format.Format.{Format}
@@ -20,11 +21,11 @@ abbrev pub partial_description : Option ℕ → Option ℕ → Option Format →
 partial_description width height format =
     if may_be_side width && may_be_side height then Some (record { width = width; height = height; format = format }) else None
 
--- the description of an existing image, with no part open
+-- a description as a partial description with no part open
 abbrev pub partial_desc_of : Description → PartialDescription
 partial_desc_of d = record { width = Some d.width; height = Some d.height; format = Some d.format }
 
--- a partial description whose open parts are taken from another one
+-- the first partial description, with its open parts taken from the second
 abbrev pub with_defaults : PartialDescription → PartialDescription → PartialDescription
 with_defaults o other =
     record { width = option_or o.width other.width; height = option_or o.height other.height; format = option_or o.format other.format }

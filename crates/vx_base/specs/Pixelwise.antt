@@ -1,5 +1,5 @@
--- Pixel-wise functions: each output sample depends on the input samples at the same pixel, a and b. OpenVX 1.3, "Vision Functions";
--- the words in quotation marks are the names of its sections.
+-- Pixel-wise functions: each output sample depends on the input samples a and b at the same pixel.
+-- OpenVX 1.3, "Vision Functions"; the words in quotation marks are the names of its sections.
 use Rattle.std.specs.Prelude.{ℕ, ◌^◌, ℤ, pos, ◌+ℤ◌, ◌-ℤ◌, ◌*ℤ◌, bit_and, bit_or, bit_xor, unsigned_abs, int_div, if◌then◌else◌}
 use Rattle.std.specs.Int.{int_div_euclid, int_min, int_max}
 use Rattle.vx_base.specs.declared.format.Format.{Format}
@@ -39,7 +39,8 @@ sum format policy a b = narrow format policy (a +ℤ b)
 abbrev pub difference : Format → Policy → ℤ → ℤ → ℤ
 difference format policy a b = narrow format policy (a -ℤ b)
 
--- "Pixel-wise Multiplication": the product over 2^n, rounded toward zero and narrowed to the output's format
+-- "Pixel-wise Multiplication": the product over 2^n, rounded toward zero and narrowed to the
+-- output's format
 abbrev pub product : Format → Policy → ℕ → ℤ → ℤ → ℤ
 product format policy n a b = narrow format policy (int_div (a *ℤ b) (pos (2 ^ n)))
 
@@ -70,12 +71,12 @@ depth_conversion U8 policy n a = narrow U8 policy (int_div_euclid a (pos (2 ^ n)
 depth_conversion S16 policy n a = a *ℤ pos (2 ^ n)
 depth_conversion U32 policy n a = a
 
--- "Accumulate": the sample a added to the output's earlier sample c, clamped
+-- "Accumulate": the sum of the sample a and the output's earlier sample c, clamped to the format
 abbrev pub accumulated_sum : Format → ℤ → ℤ → ℤ
 accumulated_sum format a c = clamp format (c +ℤ a)
 
--- "Accumulate Squared": the square of a, divided by 2^n and rounded down, added to the output's
--- earlier sample c, clamped
+-- "Accumulate Squared": the square of a is divided by 2^n, rounded down, and added to the output's
+-- earlier sample c. The sum is clamped to the format.
 abbrev pub accumulated_square : Format → ℕ → ℤ → ℤ → ℤ
 accumulated_square format n a c = clamp format (c +ℤ int_div_euclid (a *ℤ a) (pos (2 ^ n)))
 

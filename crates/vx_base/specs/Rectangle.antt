@@ -37,7 +37,8 @@ whole_rectangle width height = record { x0 = 0; y0 = 0; x1 = width; y1 = height 
 abbrev pub meet_of : Rectangle → Rectangle → Rectangle
 meet_of r s = rectangle_or_empty (max r.x0 s.x0) (max r.y0 s.y0) (min r.x1 s.x1) (min r.y1 s.y1)
 
--- the pixels whose window, of radius rx across and ry down, lies wholly in the rectangle
+-- the pixels whose window, of horizontal radius rx and vertical radius ry, lies wholly in the
+-- rectangle
 abbrev pub shrink_of : Rectangle → ℕ → ℕ → Rectangle
 shrink_of r rx ry = rectangle_or_empty (r.x0 + rx) (r.y0 + ry) (r.x1 - rx) (r.y1 - ry)
 

@@ -1,8 +1,8 @@
 -- References to objects, by which nodes name their operands.
 use Rattle.std.specs.Prelude.{ℕ, ◌==◌, ◌<◌, ◌^◌, Bool, true, false, ◌&&◌, Option, Some, None, IfSome}
 
--- the object with this name, or slot k of the delay with this name. Slot 0 has the newest image,
--- slot 1 the image before it, and so on.
+-- a reference to the object with this name, or to a slot of the delay with this name. Slot 0 has
+-- the newest image, slot 1 (OpenVX's slot -1) the image before it, and so on.
 pub record Reference : Type 0 where
   pub name : ℕ
   pub slot : Option ℕ

@@ -50,7 +50,8 @@ AgreesModulo m v z = (k : ℤ) × (v ≡ z +ℤ k *ℤ pos m)
 abbrev pub distance : ℤ → ℤ → ℕ
 distance v z = unsigned_abs (v -ℤ z)
 
--- for a number from 0 to 65,535, the number from -32,768 to 32,767 that agrees with it modulo 65,536
+-- for a number from 0 to 65,535, the number from -32,768 to 32,767 that agrees with it modulo
+-- 65,536
 abbrev pub signed_of : ℤ → ℤ
 signed_of m = if int_lt m (pos 32768) then m else (m -ℤ pos 65536)
 
@@ -64,7 +65,7 @@ wrap U32 v = int_rem_euclid v (pos 4294967296)
 abbrev pub clamp : Format → ℤ → ℤ
 clamp format v = int_max (min_sample format) (int_min v (max_sample format))
 
--- the sample that replaces v under the overflow policy
+-- v narrowed to a sample under the overflow policy
 abbrev pub narrow : Format → Policy → ℤ → ℤ
 narrow format Wrap v = wrap format v
 narrow format Saturate v = clamp format v

@@ -1,4 +1,5 @@
--- Statistics of an image's valid samples. OpenVX 1.3, "Histogram", "Integral Image" and "Min, Max Location".
+-- Statistics of an image's valid samples. OpenVX 1.3, "Histogram", "Integral Image" and "Min, Max
+-- Location".
 use Rattle.std.specs.Prelude.{ℕ, ℤ, pos, ◌+◌, ◌-◌, ◌*◌, ◌/◌, ◌%◌, ◌^◌, ◌==◌, nat_le, nat_lt, Bool, false, ◌&&◌, unsigned_abs, if◌then◌else◌, List, [], ◌∷◌, map, Option, Some, None}
 use Rattle.std.specs.List.{range_with_len, flat_map, fold, sum_by, count_by, find}
 use Rattle.std.specs.Option.{unwrap_or}
@@ -29,17 +30,18 @@ valid_samples image = samples_in image.valid image
 
 -- ---- "Histogram"; the bins are as this project defines them
 
--- bins of equal size: their number, the least sample that they count, and the number of sample values that they cover
+-- the bins of a histogram: their number, the least sample that they count, and the number of sample
+-- values that they cover
 pub record BinsValue : Type 0 where
   pub bins : ℕ
   pub offset : ℕ
   pub range : ℕ
 
--- whether bins may have this number, offset and range; the sum of offset and range may exceed 256
+-- whether bins may have this count, offset and range; the sum of offset and range may exceed 256
 abbrev pub are_bins : ℕ → ℕ → ℕ → Bool
 are_bins bins offset range = ((nat_le 1 bins && nat_le bins GREATEST_BINS) && nat_lt offset 256) && (nat_le 1 range && nat_le range 256)
 
--- the bins with this number, offset and range, if these are permitted
+-- the bins with this count, offset and range, if these are permitted
 abbrev pub bins_of : ℕ → ℕ → ℕ → Option BinsValue
 bins_of bins offset range = if are_bins bins offset range then Some (record { bins = bins; offset = offset; range = range }) else None
 
@@ -66,9 +68,9 @@ histogram b image = tallies b (valid_samples image)
 abbrev pub sum_to : ImageValue → ℕ → ℕ → ℤ
 sum_to image x y = pos (sum_by unsigned_abs (samples_in (meet_of image.valid (whole_rectangle (x + 1) (y + 1))) image) % 2 ^ 32)
 
--- the integral image, in this format, of a U8 image. It is valid where the input is; samples outside
--- the input's valid rectangle count as 0. These zeros and the modulus 2^32 are this project's
--- choices; OpenVX doesn't define sums beyond 32 bits.
+-- the integral image, in this format, of a U8 image. It is valid where the input is; samples
+-- outside the input's valid rectangle count as 0. These zeros and the modulus 2^32 are this
+-- project's choices; OpenVX doesn't define sums beyond 32 bits.
 abbrev pub sums_in : Format → ImageValue → ImageValue
 sums_in format image = image_from image.width image.height format image.valid (sum_to image)
 

@@ -18,7 +18,8 @@ pub record ThresholdValue : Type 0 where
 abbrev pub is_sample : Format → ℤ → Bool
 is_sample format z = int_le (min_sample format) z && int_le z (max_sample format)
 
--- whether the format is U8 or S16, the limits are samples of it, and the upper one is not below the lower
+-- whether these limits are permitted: the format is U8 or S16, each limit is a sample of the
+-- format, and the upper limit isn't below the lower
 abbrev pub has_limits : Format → ThresholdKind → Bool
 has_limits U32 kind = false
 has_limits format (Binary t) = is_sample format t

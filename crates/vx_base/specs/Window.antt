@@ -1,5 +1,6 @@
--- Window functions: each output sample depends on the input samples around the same pixel. OpenVX 1.3, "Vision Functions" and
--- `vx_border_e`; the words in quotation marks are the names of its sections.
+-- Window functions: each output sample depends on the input samples around the same pixel. OpenVX
+-- 1.3, "Vision Functions" and `vx_border_e`; the words in quotation marks are the names of its
+-- sections.
 use Rattle.std.specs.Prelude.{ℕ, ℤ, pos, negsuc, ◌+ℤ◌, ◌-ℤ◌, ◌*ℤ◌, Bool, ◌&&◌, List, [], ◌∷◌, if◌then◌else◌, int_lt, int_le, nat_le, unsigned_abs, unwrap_or, ◌/◌, ◌^◌, int_div, map}
 use Rattle.std.specs.Int.{int_div_euclid, int_min, int_max}
 use Rattle.std.specs.List.{count_by, find, fold, range_with_len}
@@ -25,15 +26,16 @@ holds r x y = (int_le (pos r.x0) x && int_lt x (pos r.x1)) && (int_le (pos r.y0)
 abbrev pub clamp_coordinate : ℕ → ℕ → ℤ → ℕ
 clamp_coordinate low high v = unsigned_abs (int_max (pos low) (int_min v (pos high -ℤ pos 1)))
 
--- the sample of a pixel outside the valid rectangle. Under Undefined it is 0, which no valid result
--- uses; under Constant, the constant; under Replicate, the nearest valid sample, with each
--- coordinate clamped to the rectangle.
+-- the sample that a window reads at a pixel outside the valid rectangle. Under Undefined the sample
+-- is 0, and no valid output pixel depends on it. Under Constant the sample is the constant. Under
+-- Replicate it is the nearest valid sample: each coordinate is clamped to the valid rectangle.
 abbrev pub border_sample : ImageValue → Border → ℤ → ℤ → ℤ
 border_sample image Undefined x y = pos 0
 border_sample image (Constant value) x y = pos value
 border_sample image Replicate x y = pixel_at image (clamp_coordinate image.valid.x0 image.valid.x1 x) (clamp_coordinate image.valid.y0 image.valid.y1 y)
 
--- the sample that a window reads at a pixel: the image's own in the valid rectangle, else the border's
+-- the sample that a window reads at a pixel: the image's own in the valid rectangle, else the
+-- border's
 abbrev pub sample_or_border : ImageValue → Border → ℤ → ℤ → ℤ
 sample_or_border image border x y = if holds image.valid x y then pixel_at image (unsigned_abs x) (unsigned_abs y) else border_sample image border x y
 
@@ -89,7 +91,7 @@ abbrev pub greatest_of : List ℤ → ℤ
 greatest_of [] = pos 0
 greatest_of (z ∷ zs) = fold int_max z zs
 
--- "Sobel 3x3": the horizontal gradient, positive from left to right
+-- "Sobel 3x3": the horizontal gradient, positive where the samples increase from left to right
 abbrev pub gradient_x : List ℤ → ℤ
 gradient_x =
     dot_product
@@ -97,7 +99,7 @@ gradient_x =
     ∷ negsuc 1 ∷ pos 0 ∷ pos 2
     ∷ negsuc 0 ∷ pos 0 ∷ pos 1 ∷ [])
 
--- "Sobel 3x3": the vertical gradient, positive from top to bottom
+-- "Sobel 3x3": the vertical gradient, positive where the samples increase from top to bottom
 abbrev pub gradient_y : List ℤ → ℤ
 gradient_y =
     dot_product
@@ -118,7 +120,8 @@ formula_of_nine other output = λ _. pos 0
 
 -- ---- "Custom Convolution"
 
--- the dot product of the samples around column x, taken from right to left, with row l of the matrix
+-- the dot product of the samples around column x, taken from right to left, with row l of the
+-- matrix
 abbrev pub row_product : ConvolutionValue → (ℤ → ℤ) → ℤ → ℕ → ℤ
 row_product c f x l = total (map (λ k. f (x +ℤ pos (c.columns / 2) -ℤ pos k) *ℤ coefficient c l k) (range_with_len 0 c.columns))
 

@@ -7,9 +7,9 @@ use std::marker::Model;
 /// The greatest number of bins of a histogram.
 pub const GREATEST_BINS: usize = 256;
 
-/// The bins of a histogram of U8 samples (OpenVX 1.3, `vx_distribution`): 1 to 256 bins of equal
-/// size. The offset, 0 to 255, is the least sample that is counted; the range, 1 to 256, is the
-/// number of sample values that the bins cover.
+/// The bins of a histogram of U8 samples (OpenVX 1.3, `vx_distribution`): 1 to 256 bins. The
+/// offset, 0 to 255, is the least sample that is counted. The range, 1 to 256, is the number of
+/// sample values that the bins cover. The bins divide the range evenly, up to rounding.
 #[derive(Clone, Copy, PartialEq, Eq, Debug)]
 pub struct Bins {
     bins: u16,
@@ -31,7 +31,7 @@ impl Model for Bins {
 }
 
 impl Bins {
-    /// Returns the bins with this number, offset and range, or `None` if one of the three is beyond
+    /// Returns the bins with this count, offset and range, or `None` if one of the three is beyond
     /// its limits.
     pub fn new(bins: u16, offset: u16, range: u16) -> Option<Bins>
         ensures { result ≡ bins_of bins offset range }

@@ -9,9 +9,9 @@ use std::marker::Model;
 /// The number of coefficients of the largest matrix, 9x9.
 pub const GREATEST_COEFFICIENTS: usize = 81;
 
-/// A convolution matrix for U8 images (OpenVX 1.3, `vx_convolution`). It has 3, 5, 7 or 9 columns,
-/// 3, 5, 7 or 9 rows, and S16 coefficients. Each sum is divided by a power of two, whose exponent
-/// is 0 to 31.
+/// A convolution matrix for U8 images (OpenVX 1.3, `vx_convolution`). The number of columns and the
+/// number of rows are each 3, 5, 7 or 9. The coefficients are S16. Each sum of products is divided
+/// by 2^n, where n is the exponent, 0 to 31.
 #[derive(Debug, Drop)]
 pub struct Convolution {
     columns: u8,
@@ -45,9 +45,9 @@ fn is_odd_side(side: u8) -> bool
 }
 
 impl Convolution {
-    /// Returns the matrix with these coefficients, in row-major order. `None` if `columns` or
-    /// `rows` is not 3, 5, 7 or 9, `exponent` is above 31, or there isn't one coefficient for each
-    /// element.
+    /// Returns the matrix with these coefficients, in row-major order. Returns `None` if `columns`
+    /// or `rows` isn't one of 3, 5, 7 and 9, or if `exponent` is above 31. Also returns `None` if
+    /// the number of coefficients isn't `rows * columns`.
     pub fn new(columns: u8, rows: u8, exponent: u8, coefficients: &[i16]) -> Option<Convolution>
         ensures { result ≡ (if is_convolution columns rows exponent (length coefficients.now)
             then Some (record {
@@ -91,7 +91,7 @@ impl Convolution {
         self.rows
     }
 
-    /// Returns the exponent, 0 to 31, of the power of two that divides each sum.
+    /// Returns the exponent n, 0 to 31. Each sum of products is divided by 2^n.
     pub fn exponent(&self) -> u8
         ensures value { result ≡ self.now.exponent }
         ensures limit { result ≤ 31 }
@@ -120,8 +120,8 @@ impl Convolution {
         }
     }
 
-    /// Proves that the matrix is well-formed. The prover learns the range of a number only where it
-    /// is read; at run time this does nothing.
+    /// Proves that the matrix is well-formed. The prover learns a number's range only where the
+    /// number is read. At run time this function does nothing.
     pub fn prove_convolution(&self)
         ensures { IsConvolution self.now }
     {

@@ -48,7 +48,8 @@ impl Desc {
         }
     }
 
-    /// Returns the description of an image whose width and height are 1 to 8192.
+    /// Returns the description of an image. The caller has to give a width and a height from 1 to
+    /// 8192.
     pub fn with_sides(width: u16, height: u16, format: Format) -> Desc
         requires { IsTrue (is_side width && is_side height) }
         ensures { result ≡ record { width = width; height = height; format = format } }
@@ -60,8 +61,8 @@ impl Desc {
         }
     }
 
-    /// Proves that the sides are permitted. The prover learns the range of a number only where it
-    /// is read; at run time this does nothing.
+    /// Proves that the sides are permitted. The prover learns a number's range only where the
+    /// number is read. At run time this function does nothing.
     pub fn prove_sides(self)
         ensures { IsDescription self }
     {

@@ -129,8 +129,8 @@ pub fn products()
     ensures to_zero { product S16 Saturate 1 (negsuc 2) (pos 1) ≡ negsuc 0 }
 {}
 
-/// 200 added to 400, and 100 added to 32700. The square of 255, added undivided, divided by 2, and
-/// divided by 32768.
+/// 200 added to 400, and 100 added to 32700. The square of 255, added in three ways: undivided,
+/// divided by 2, or divided by 32768.
 pub fn accumulations()
     ensures added { accumulated_sum S16 (pos 200) (pos 400) ≡ pos 600 }
     ensures nearest { accumulated_sum S16 (pos 100) (pos 32700) ≡ pos 32767 }
@@ -209,7 +209,8 @@ pub fn thresholds()
     }) (pos 11) ≡ pos 255 }
 {}
 
-/// Entries of tables that begin with 5, 6, 7.
+/// Entries of tables that begin with 5, 6, 7. The other clauses show the kind of second input that
+/// two functions take.
 pub fn tables()
     ensures third { entry_for (record { format = U8; entries = pos 5 ∷ pos 6 ∷ pos 7 ∷ [] })
         (pos 2) ≡ pos 7 }
@@ -312,9 +313,9 @@ pub fn nodes()
     }) ≡ false }
 {}
 
-/// Partial descriptions: one that takes its open fields from another description, one that stays
-/// open, one without open fields, and one that is too wide. The other clauses are about outputs of
-/// open format: which format each function gives them.
+/// Four partial descriptions: one gets its open parts from another, one has an open part, one has
+/// none, and one is too wide. The other clauses show which format a function gives to an output of
+/// open format.
 pub fn partial_descs()
     ensures filled { with_defaults (record { width = Some 4; height = None; format = None })
         (record { width = Some 8; height = Some 2; format = Some U8 })

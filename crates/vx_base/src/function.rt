@@ -23,7 +23,7 @@ pub enum Function {
     Add,
     /// "Arithmetic Subtraction".
     Subtract,
-    /// "Pixel-wise Multiplication" by 1 / 2^n, where n is the node's amount.
+    /// "Pixel-wise Multiplication"; the product is divided by 2^n, where n is the node's amount.
     Multiply,
     /// "Absolute Difference".
     AbsoluteDifference,
@@ -74,7 +74,7 @@ pub struct Parameters {
     pub greatest_amount: Option<u8>,
     /// The kind of the outputs.
     pub output: Kind,
-    /// Whether the function has two outputs, either of which need not be given.
+    /// Whether the function has two outputs. A node of such a function has one or both.
     pub output_pair: bool,
 }
 
@@ -208,10 +208,10 @@ impl Function {
         matches!(self, Function::Accumulate | Function::AccumulateSquare)
     }
 
-    /// Checks whether the function takes these formats of its first input, its second input and its
-    /// output. For a second input that isn't an image, the format is that of the table's entries,
-    /// the samples that the threshold tests, or the coefficients. `None` is an operand that is
-    /// absent or has no format.
+    /// Checks whether the function takes these formats for its first input, its second input and
+    /// its output. The second input may be a lookup table, a threshold or a convolution. Its format
+    /// is then the format of the entries, of the tested samples, or of the coefficients. `None`
+    /// means that the operand is absent or has no format.
     pub fn takes_formats(
         self,
         first: Format,
@@ -240,7 +240,7 @@ impl Function {
     }
 
     /// Checks whether the function makes an image of format `output` from an image of format
-    /// `first`, without a second operand that has a format.
+    /// `first`, without a second input.
     fn makes(self, first: Format, output: Format) -> bool
         ensures { result ≡ takes_formats self first None (Some output) }
     {
@@ -264,7 +264,7 @@ impl Function {
     }
 
     /// Checks whether the function makes an image of format `output` from an image of format
-    /// `first` and a second operand of format `second`.
+    /// `first` and a second input of format `second`.
     fn joins(self, first: Format, second: Format, output: Format) -> bool
         ensures { result ≡ takes_formats self first (Some second) (Some output) }
     {
@@ -332,7 +332,7 @@ fn are_equal(first: Format, second: Format, output: Format) -> bool
     first == second && second == output && output != Format::U32
 }
 
-/// Checks whether the inputs are U8 or S16 and the output is S16, or all three are U8.
+/// Checks whether all three formats are U8, or the output is S16 and each input is U8 or S16.
 fn are_arithmetic(first: Format, second: Format, output: Format) -> bool
     ensures { result ≡ are_arithmetic first second output }
 {

@@ -2,10 +2,10 @@
 //!
 //! Each type keeps its invariant by construction. A `Rect` is in canonical form, a `Desc` is within
 //! the limits, a `NodeSpec` has the parameters of its function, and a `Lut` has an entry for each
-//! sample value. `specs/` has the model's first definitions. Samples are whole numbers, rectangles
-//! are sets of pixels, and images are tables of samples, one for each pixel. Each vision function
-//! has a formula. `laws` states facts about these definitions, and `examples` evaluates some of
-//! them.
+//! sample value. `specs/` has the model's basic definitions. There, a sample is a whole number, a
+//! rectangle is a set of pixels, and an image is a table with one sample for each pixel. Each
+//! vision function has a formula. `laws` states facts about these definitions, and `examples`
+//! evaluates some of the definitions.
 #![tactic(auto)]
 
 mod bins;

@@ -34,8 +34,8 @@ impl Model for Lut {
 impl Lut {
     ghost use Rattle.vx_base.specs.Lut.{LutValue, IsLut};
 
-    /// Returns the table with these entries, or `None` unless these are 256 U8 entries or 65,536
-    /// S16 entries.
+    /// Returns the table with these entries if they are 256 U8 entries or 65,536 S16 entries.
+    /// Otherwise returns `None`.
     pub fn new(entries: Samples) -> Option<Lut>
         ensures { result ≡ (if is_full (samples_format entries) (length (values entries)) then Some
             (record { format = samples_format entries; entries = values entries }) else None) }
@@ -46,7 +46,8 @@ impl Lut {
         Some(Lut::of(entries))
     }
 
-    /// Returns the table with these entries: 256 U8 entries or 65,536 S16 entries.
+    /// Returns the table with these entries. The caller has to give 256 U8 entries or 65,536 S16
+    /// entries.
     pub fn of(entries: Samples) -> Lut
         requires { IsTrue (is_full (samples_format entries) (length (values entries))) }
         ensures { result ≡ record { format = samples_format entries; entries = values entries } }
@@ -76,7 +77,8 @@ impl Lut {
         })
     }
 
-    /// Returns the format of the table's samples and entries.
+    /// Returns the format of the entries, which is also the format of the samples that are looked
+    /// up.
     pub fn format(&self) -> Format
         ensures value { result ≡ self.now.format }
         ensures table { IsLut self.now }

@@ -5,7 +5,7 @@ ghost use Rattle.vx_base.specs.Sample.{narrow, signed_of};
 
 use crate::policy::Policy;
 
-/// Returns the U8 sample that replaces a number under the overflow policy.
+/// Narrows a number to a U8 sample under the overflow policy.
 pub fn narrow_u8(number: i32, policy: Policy) -> u8
     ensures { pos result ≡ narrow U8 policy number }
 {
@@ -15,7 +15,7 @@ pub fn narrow_u8(number: i32, policy: Policy) -> u8
     }
 }
 
-/// Returns the S16 sample that replaces a number under the overflow policy.
+/// Narrows a number to an S16 sample under the overflow policy.
 pub fn narrow_s16(number: i32, policy: Policy) -> i16
     ensures { result ≡ narrow S16 policy number }
 {

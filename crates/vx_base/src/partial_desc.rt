@@ -52,7 +52,7 @@ impl PartialDesc {
         }
     }
 
-    /// Returns the description of an existing image, with no part open.
+    /// Returns a description as a partial description with no part open.
     pub fn of(desc: Desc) -> PartialDesc
         ensures { result ≡ partial_desc_of desc }
     {
@@ -84,8 +84,8 @@ impl PartialDesc {
         self.format
     }
 
-    /// Proves that the given sides are permitted. The prover learns the range of a number only
-    /// where it is read; at run time this does nothing.
+    /// Proves that the given sides are permitted. The prover learns a number's range only where the
+    /// number is read. At run time this function does nothing.
     pub fn prove_sides(self)
         ensures { IsPartialDescription self }
     {

@@ -7,7 +7,8 @@ ghost use Rattle.vx_base.specs.Rectangle.{IsRectangle, IsOrdered};
 use std::marker::Model;
 
 /// A rectangle of pixels (OpenVX 1.3, `vx_rectangle_t`): the start is included, the end is not. The
-/// empty rectangle has four zeros.
+/// bounds are in canonical form: each start is below its end, or all four bounds are 0 and the
+/// rectangle is empty.
 #[derive(Clone, Copy, PartialEq, Eq, Debug)]
 pub struct Rect {
     x0: u16,
@@ -30,8 +31,8 @@ impl Model for Rect {
 }
 
 impl Rect {
-    /// Returns the rectangle with these bounds, or `None` unless all four are 0 or each start is
-    /// below its end.
+    /// Returns the rectangle with these bounds if all four are 0 or each start is below its end.
+    /// Otherwise returns `None`.
     pub fn new(x0: u16, y0: u16, x1: u16, y1: u16) -> Option<Rect>
         ensures { result ≡ rectangle x0 y0 x1 y1 }
     {
@@ -66,8 +67,8 @@ impl Rect {
         }
     }
 
-    /// Proves that the bounds are in canonical form. The prover learns the range of a number only
-    /// where it is read; at run time this does nothing.
+    /// Proves that the bounds are in canonical form. The prover learns a number's range only where
+    /// the number is read. At run time this function does nothing.
     pub fn prove_bounds(self)
         ensures { IsRectangle self }
     {
@@ -83,9 +84,9 @@ impl Rect {
         Rect::new_or_empty(x0, y0, x1, y1)
     }
 
-    /// Returns the pixels whose window, of radius `rx` across and `ry` down, lies wholly in this
-    /// rectangle. Under an undefined border the result is the valid rectangle of a window
-    /// function's output.
+    /// Returns the pixels whose window, of horizontal radius `rx` and vertical radius `ry`, lies
+    /// wholly in this rectangle. Under an undefined border, the valid rectangle of a window
+    /// function's output is the input's valid rectangle shrunk by the window's radii.
     pub fn shrink(self, rx: u16, ry: u16) -> Rect
         ensures { result ≡ shrink_of self rx ry }
     {

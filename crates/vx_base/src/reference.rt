@@ -5,7 +5,8 @@ ghost use Rattle.std.specs.Option.{ForSome};
 use std::marker::Model;
 
 /// A reference to the object with this name in the client's context, or to a slot of the delay with
-/// this name. Slot 0 has the newest image, slot 1 the image before it, and so on.
+/// this name. Slot 0 has the newest image, slot 1 (OpenVX's slot -1) the image before it, and so
+/// on.
 #[derive(Clone, Copy, PartialEq, Eq, Debug)]
 pub struct ObjRef {
     name: u32,
@@ -30,8 +31,8 @@ impl ObjRef {
     ghost use Rattle.vx_base.specs.Reference.{IsReference};
     ghost use Rattle.vx_base.specs.Node.{is_nothing};
 
-    /// Returns the reference to the object of this name, or to a slot of the delay of this name. A
-    /// slot is below 255.
+    /// Returns the reference to the object of this name, or to this slot of the delay of this name.
+    /// The caller has to give a slot below 255, or `None`.
     pub fn new(name: u32, slot: Option<u8>) -> ObjRef
         requires { ForSome slot (λ k. k < 255) }
         ensures { result ≡ record { name = name; slot = slot } }
@@ -55,8 +56,8 @@ impl ObjRef {
         self.slot
     }
 
-    /// Proves that name and slot are in their ranges. The prover learns the range of a number only
-    /// where it is read; at run time this does nothing.
+    /// Proves that the name and the slot are in their ranges. The prover learns a number's range
+    /// only where the number is read. At run time this function does nothing.
     pub fn prove_reference(self)
         ensures { IsReference self }
     {

@@ -41,7 +41,8 @@ impl Samples {
         }
     }
 
-    /// Overwrites the samples with the samples of `other`, which have the same format and number.
+    /// Overwrites the samples with the samples of `other`. The caller has to ensure that both have
+    /// the same format and the same number of samples.
     pub fn copy_from(&mut self, other: &Samples)
         requires format { samples_format self.old ≡ samples_format other.now }
         requires len { length (values self.old) ≡ length (values other.now) }
@@ -56,7 +57,7 @@ impl Samples {
         }
     }
 
-    /// Takes all samples out, so that they can be written elsewhere; none remain. Allocates
+    /// Moves all samples out. Afterwards `self` has the same format and no samples. Allocates
     /// nothing.
     pub fn take(&mut self) -> Samples
         ensures format { samples_format result ≡ samples_format self.old }
@@ -93,8 +94,8 @@ impl Samples {
         }
     }
 
-    /// Proves that each item is a sample of the format. The prover learns the range of a signed
-    /// number only where it is read; at run time this does nothing.
+    /// Proves that each item is a sample of the format. The prover learns a signed number's range
+    /// only where the number is read. At run time this function does nothing.
     pub fn prove_samples(&self)
         ensures { All (IsSample (samples_format self.now)) (values self.now) }
     {
@@ -115,7 +116,7 @@ fn take_all<T: Drop>(samples: &mut Vec<T>) -> Vec<T>
     mem::replace(samples, empty)
 }
 
-/// Proves that each item is a byte, and so a U8 sample. At run time this does nothing.
+/// Proves that each item is a byte, and so a U8 sample. At run time this function does nothing.
 pub fn prove_bytes(samples: &[u8])
     ensures bytes { All (λ byte. byte < 2 ^ 8) samples.now }
     ensures samples { All (IsSample U8) (map pos samples.now) }
@@ -125,8 +126,8 @@ fn prove_words(samples: &[u32])
     ensures { All (IsSample U32) (map pos samples.now) }
 {}
 
-/// Proves that each item is an S16 sample. The prover learns the range of a signed number only
-/// where it is read, so an otherwise empty loop reads each one; the compiler removes the loop.
+/// Proves that each item is an S16 sample. The prover learns a signed number's range only where the
+/// number is read. A loop reads each item and does nothing else; the compiler removes the loop.
 pub fn prove_shorts(samples: &[i16])
     ensures { All (IsSample S16) samples.now }
 {

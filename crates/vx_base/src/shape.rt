@@ -53,8 +53,8 @@ fn all_named(node: &Node) -> bool
     !node.in1.is_nothing() && is_named(node.in2) && is_named(node.out1) && is_named(node.out2)
 }
 
-/// Proves that the node's numbers are in the ranges of their types. The prover learns the range of
-/// a number only where it is read; at run time this does nothing.
+/// Proves that the node's numbers are in the ranges of their types. The prover learns a number's
+/// range only where the number is read. At run time this function does nothing.
 pub fn prove_numbers(node: &Node)
     ensures border { IsBorder node.now.border }
     ensures amount { node.now.amount < 2 ^ 8 }

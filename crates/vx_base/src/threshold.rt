@@ -48,8 +48,8 @@ impl Model for ThresholdRule {
 }
 
 impl ThresholdRule {
-    /// Returns the threshold for samples of this format. `None` if the format isn't U8 or S16, a
-    /// limit isn't a sample of that format, or the upper limit is below the lower.
+    /// Returns the threshold for samples of this format. Returns `None` if the format is U32, if a
+    /// limit isn't a sample of the format, or if the upper limit is below the lower.
     pub fn new(
         format: Format,
         kind: ThresholdKind,
@@ -65,7 +65,8 @@ impl ThresholdRule {
         }
     }
 
-    /// Returns the threshold with these limits, which are permitted.
+    /// Returns the threshold with these limits. The caller has to ensure that the limits are
+    /// permitted.
     pub fn with_limits(
         format: Format,
         kind: ThresholdKind,

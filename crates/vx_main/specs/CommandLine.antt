@@ -10,6 +10,6 @@ use Rattle.client_model.specs.Limits.{LimitsValue, is_limit, limits_from}
 abbrev pub parse_bytes : List ℕ → Option ℕ
 parse_bytes word = if all_ascii_digits word then (if is_limit (digits_value 10 word) then Some (digits_value 10 word) else None) else None
 
--- the limits that the words of a quota and of work bytes spell
+-- the limits that two words spell: the quota and the work bytes
 abbrev pub parse_limits : List ℕ → List ℕ → Option LimitsValue
 parse_limits quota work = option_and_then (λ q. option_and_then (limits_from q) (parse_bytes work)) (parse_bytes quota)

@@ -1,4 +1,4 @@
--- The exit status of the program, and its line on standard error.
+-- The exit status of the program, and its text on standard error.
 use Rattle.std.specs.Prelude.{ℕ, List, codes, string_bytes}
 use Rattle.vx_base.specs.Code.{code_name}
 use Rattle.vx_requests.specs.declared.stream.fault.StreamFault.{StreamFault}
@@ -22,13 +22,15 @@ fault_line ReadFailed = codes "read failed"
 fault_line WriteFailed = codes "write failed"
 fault_line ReaderWouldNotEnd = codes "reader would not end"
 
--- the exit status: 2 for a refused command line, `fault_status` for a fault of the stream, 5 for a status code
+-- the exit status: 2 for a refused command line, `fault_status` for a fault of the stream, 5 for a
+-- status code
 abbrev pub ended_status : Ended → ℕ
 ended_status (CommandLine text) = 2
 ended_status (Stream fault) = fault_status fault
 ended_status (Refused code) = 5
 
--- the line on standard error: the text for a refused command line, `fault_line` for a fault of the stream, the name for a status code
+-- the text on standard error: the refusal's text for a refused command line, `fault_line` for a
+-- fault of the stream, the name for a status code
 abbrev pub ended_line : Ended → List ℕ
 ended_line (CommandLine text) = string_bytes text
 ended_line (Stream fault) = fault_line fault

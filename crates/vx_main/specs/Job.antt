@@ -13,7 +13,7 @@ use Rattle.vx_main.specs.declared.job.Operation.TheVariants.{Not, Box, Gaussian,
 
 -- ---- words
 
--- the operation that the word FUNCTION names
+-- the operation that the value of `<FUNCTION>` names
 abbrev pub parse_operation : List ℕ → Option Operation
 parse_operation word =
     if bytes_eq word (codes "not") then Some Not

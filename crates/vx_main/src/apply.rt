@@ -24,7 +24,7 @@ const CLIENT: u16 = 1;
 /// Reads a PGM text to its end, applies the job to its picture, and writes the resulting text.
 ///
 /// A failing reader and a text that is too long are reported before the text's own faults. At most
-/// one byte is read beyond the longest text.
+/// 2^29 + 1 bytes are read, one more than a text may have.
 pub fn apply<R: Read + Drop, W: Write>(
     alloc: Global,
     job: Job,
@@ -50,8 +50,8 @@ fn read_all<R: Read + Drop>(alloc: Global, reader: R) -> Result<Vec<u8>, Ended> 
     }
 }
 
-/// Returns the text that the job gives for the U8 picture that `text` encodes, or why the job
-/// fails.
+/// Applies the job to the U8 picture that `text` encodes, and returns the resulting text. The error
+/// says why the job fails.
 fn job_result(alloc: Global, job: Job, text: &[u8]) -> Result<Text, Ended>
     ensures ok { IfOk result (λ made. job_result job text.now ≡ Ok made) }
     ensures err { IfErr result (EndsFor (job_result job text.now)) }
@@ -64,7 +64,7 @@ fn job_result(alloc: Global, job: Job, text: &[u8]) -> Result<Text, Ended>
 }
 
 /// Returns the text that the job gives for a U8 picture. Makes the requests of one client to a
-/// runtime with the default limits. No request is refused: two images of the greatest size are
+/// runtime with the default limits. No request is refused: two U8 images of the greatest size are
 /// within the quota.
 fn made(alloc: Global, job: Job, picture: Picture) -> Result<Text, NoMemory>
     requires { picture.description.format ≡ FormatU8 }

@@ -160,7 +160,7 @@ ghost use Rattle.client_model.specs.Limits.{is_limit};
 ghost use Rattle.vx_main.specs.CommandLine.{parse_bytes, parse_limits};
 
 /// Returns the number of bytes that a word spells, if the word has only decimal digits and the
-/// number is 1 to 2^40. `None`: any other word.
+/// number is from 1 to 2^40. Returns `None` for any other word.
 pub fn parse_bytes(word: &str) -> Option<u64>
     ensures { result ≡ parse_bytes word.now }
 {
@@ -181,8 +181,8 @@ fn is_limit(bytes: u64) -> bool
     (1..=GREATEST_LIMIT).contains(&bytes)
 }
 
-/// Returns the limits that the words of a quota and of work bytes spell. `None`: a word doesn't
-/// spell a number from 1 to 2^40.
+/// Returns the limits that two words spell: the quota and the work bytes. Returns `None` if one of
+/// the words doesn't spell a number from 1 to 2^40.
 pub fn parse_limits(quota: &str, work: &str) -> Option<Limits>
     ensures { result ≡ parse_limits quota.now work.now }
 {

@@ -12,9 +12,9 @@ use vx_requests::StreamFault;
 pub enum Ended {
     /// The command line was refused, with this text.
     CommandLine(String),
-    /// Serving the stream failed.
+    /// Reading the input or writing the output failed.
     Stream(StreamFault),
-    /// `apply` failed with this code, or the program found no memory to start.
+    /// `apply` failed with this code, or memory was refused while the program started.
     Refused(Code),
 }
 
@@ -33,7 +33,8 @@ impl Ended {
         }
     }
 
-    /// Returns the line for standard error, without a line feed.
+    /// Returns the text for standard error, without the final line feed. The text of a refused
+    /// command line may have several lines.
     pub fn line(&self) -> &str
         ensures { result.now ≡ ended_line self.now }
     {

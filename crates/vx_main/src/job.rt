@@ -30,7 +30,7 @@ pub struct Job {
 }
 
 impl Operation {
-    /// Returns the server's function for this operation.
+    /// Returns the vision function of this operation.
     pub fn function(self) -> Function
         ensures { result ≡ function_of self }
     {
@@ -63,7 +63,7 @@ impl Job {
     }
 }
 
-/// Returns the operation with this word, if there is one.
+/// Returns the operation that this word names, if there is one.
 pub fn parse_operation(word: &str) -> Option<Operation>
     ensures { result ≡ parse_operation word.now }
 {
@@ -84,7 +84,7 @@ pub fn parse_operation(word: &str) -> Option<Operation>
     }
 }
 
-/// Returns the border with this word, if there is one.
+/// Returns the border that this word names, if there is one.
 pub fn parse_border(word: &str) -> Option<Border>
     ensures { result ≡ parse_border word.now }
 {

@@ -4,7 +4,7 @@
 //! standard output. `vx_main apply` reads one PGM text from standard input, applies one function,
 //! and writes the resulting text to standard output. `program::run` does both over any reader and
 //! writer; `main` calls it with the reader and the writer of the process. After a failure, `main`
-//! prints a line to standard error, and exits with the failure's status.
+//! prints a message to standard error, and exits with the failure's status.
 #![tactic(auto)]
 
 mod apply;

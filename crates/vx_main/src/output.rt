@@ -1,4 +1,4 @@
-//! Writing to standard output.
+//! Writes whole texts to a writer.
 ghost use Rattle.std.specs.Prelude.{◌≡◌, OnOk, IfErr};
 ghost use Rattle.std.specs.Io.KnownBytes.{Appends};
 ghost use Rattle.vx_main.specs.declared.ended.Ended.TheVariants.{Stream};

@@ -12,7 +12,7 @@ use std::io::{Read, Write};
 use vx_base::Code;
 use vx_requests::{FromRead, FromWrite, serve};
 
-/// Runs the program with these words of the command line, without the program's name.
+/// Runs the program. `words` is the command line without the program's name.
 ///
 /// For help and the version, writes the text to the writer, and returns `Ok`.
 pub fn run<R: Read + Drop, W: Write + Drop>(

@@ -156,8 +156,8 @@ fn allows_each_client_its_quota(rt: HostRuntime) {
     }
 }
 
-/// Checks that the program refuses these words, reads nothing and writes nothing. The refusal's
-/// line contains this text.
+/// Checks that the program refuses these words, reads nothing and writes nothing, and that the
+/// message for standard error contains this text.
 fn refuses(rt: &impl Abort, alloc: Global, words: &[&str], text: &str) {
     let mut written = Vec::new(alloc);
     let mut input = REQUESTS;

@@ -15,7 +15,7 @@ pub fn lengths()
     ensures too_long { IsLength 536870913 → ⊥ }
 {}
 
-/// The frames in which client 258 reads image 7, and removes node 3 from graph 7.
+/// Two request frames of client 258: to read image 7, and to remove node 3 from graph 7.
 pub fn frames()
     ensures read { frame_bytes (request_frame 258 (ReadImage (record { name = 7; slot = None })))
         ≡ 0 ∷ 0 ∷ 0 ∷ 8 ∷ 1 ∷ 2 ∷ 7 ∷ 0 ∷ 0 ∷ 0 ∷ 7 ∷ 255 ∷ [] }

@@ -26,16 +26,15 @@ const MOST_READS: u64 = 1_099_511_627_776;
 /// Serves the frames of the source, from the first to the last.
 ///
 /// Each frame gets one reply, which is written and flushed before any byte of the next frame is
-/// read.
-/// Reading a frame with a body of at most 64 bytes allocates nothing. If no memory can be allocated
-/// for a longer body, the body is skipped, the reply is NO_MEMORY, and nothing changes.
+/// read. Reading a frame with a body of at most 64 bytes allocates nothing. If no memory can be
+/// allocated for a longer body, the body is skipped, the reply is NO_MEMORY, and nothing changes.
 ///
 /// The samples of images are copied only for a WriteImage with a body of at most 64 bytes. The
 /// samples of a longer WriteImage are read straight into the image's new samples. The samples of a
 /// WriteImagePgm are parsed straight into the image's new samples. A refused request changes no
 /// samples. ReadImage and ReadImagePgm write their replies straight from the image.
 ///
-/// Ok: the stream ended after a whole frame, or was empty. Faults:
+/// Returns `Ok` if the stream ended after a whole frame, or was empty. Faults:
 ///
 /// - `Truncated`: the stream ended within a frame
 /// - `BadLength`: a frame's length is below 3 or above 2^29; this fault is reported as soon as the

@@ -1,4 +1,5 @@
--- The bins of a distribution: their number, the offset and the range. OpenVX 1.3, "Object: Distribution".
+-- The bins of a distribution: their number, the offset and the range.
+-- OpenVX 1.3, "Object: Distribution".
 use Rattle.std.specs.Prelude.{ℕ, ◌&&◌, Bool, if◌then◌else◌, nat_le, nat_lt, List, ◌++◌, Some, None, Ok}
 use Rattle.std.specs.Int.{w16, to_be_bytes}
 use Rattle.vx_base.specs.Statistics.{BinsValue}

@@ -1,5 +1,5 @@
--- Convolutions: the columns, the rows, the exponent, and then the coefficients row by row from the
--- top; all coefficients are one field. OpenVX 1.3, "Object: Convolution".
+-- Convolutions: the number of columns, the number of rows, the exponent, and then the coefficients
+-- row by row from the top. All coefficients are one field. OpenVX 1.3, "Object: Convolution".
 use Rattle.std.specs.Prelude.{ℕ, ◌*◌, if◌then◌else◌, nat_le, List, ◌∷◌, Some, None, Ok}
 use Rattle.vx_base.specs.declared.format.Format.TheVariants.{S16}
 use Rattle.vx_base.specs.Convolution.{ConvolutionValue, is_odd_side}
@@ -7,7 +7,7 @@ use Rattle.vx_wire.specs.declared.body_fault.BodyFault.TheVariants.{InvalidDimen
 use Rattle.vx_wire.specs.Fields.{FieldResult, and_then, allowed_or_fault, take_byte}
 use Rattle.vx_wire.specs.Samples.{encoded_samples, take_samples}
 
--- reads the number of columns or rows from the front of a body: a byte, 3, 5, 7 or 9
+-- reads the number of columns or rows from the front of a body: a byte that is 3, 5, 7 or 9
 abbrev pub take_odd_side : List ℕ → FieldResult ℕ
 take_odd_side body = and_then (take_byte body) (λ n rest. allowed_or_fault InvalidDimension (if is_odd_side n then Some n else None) rest)
 

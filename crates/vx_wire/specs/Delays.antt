@@ -7,7 +7,8 @@ use Rattle.vx_wire.specs.Fields.{one_field, two_fields, take_long}
 use Rattle.vx_wire.specs.Reference.{take_reference}
 use Rattle.vx_wire.specs.Slots.{take_slots}
 
--- the request CreateDelay that a body encodes: a reference to an exemplar image, then the number of slots
+-- the request CreateDelay that a body encodes: a reference to an exemplar image, then the number of
+-- slots
 abbrev pub create_delay_in : List ℕ → Result Request BodyFault
 create_delay_in body = two_fields take_reference take_slots CreateDelay body
 

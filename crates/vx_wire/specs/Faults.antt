@@ -16,8 +16,8 @@ parse_fault InvalidFormat = parsing.InvalidFormat
 parse_fault InvalidDimension = parsing.InvalidDimension
 parse_fault InvalidValue = parsing.InvalidValue
 
--- why parsing failed: no memory for the samples, entries or text of a valid body, or the fault of
--- an invalid body
+-- Why parsing failed. For a valid body: no memory for its samples, entries or text. For an invalid
+-- body: its fault.
 abbrev pub MayFailWith : Result Request BodyFault → ParseFault → Type 0
 MayFailWith (Ok request) e = (e ≡ parsing.NoMemory) × HoldsSamples request
 MayFailWith (Err fault) e = e ≡ parse_fault fault

@@ -7,8 +7,8 @@ use Rattle.vx_wire.specs.declared.body_fault.BodyFault.TheVariants.{InvalidParam
 abbrev pub FieldResult : Type 0 → Type 0
 FieldResult A = Result (A × List ℕ) BodyFault
 
--- a call read this field from the front of the bytes, and the bytes after the field are left; or
--- the call returned the field's fault
+-- A call read the field at the front of `old`, and `new` is the bytes after the field. Or the call
+-- returned the field's fault.
 pub record Takes {A : Type 0} (take : List ℕ → FieldResult A) (old new : List ℕ) (result : Result A BodyFault) : Type 0 where
   pub ok : IfOk result (λ x. take old ≡ Ok (x, new))
   pub err : IfErr result (λ fault. take old ≡ Err fault)
@@ -18,16 +18,16 @@ abbrev pub and_then : {A B : Type 0} → FieldResult A → (A → List ℕ → R
 and_then (Ok taken) next = next taken.0 taken.1
 and_then (Err fault) next = Err fault
 
--- the value, if nothing follows the last field
+-- the value, or InvalidParameters if bytes follow the last field
 abbrev pub at_end : {A : Type 0} → A → List ℕ → Result A BodyFault
 at_end value [] = Ok value
 at_end value (b ∷ rest) = Err InvalidParameters
 
--- the value made from a body of one field
+-- the value that `made` gives for the only field of a body
 abbrev pub one_field : {A B : Type 0} → (List ℕ → FieldResult A) → (A → B) → List ℕ → Result B BodyFault
 one_field take made body = and_then (take body) (λ x rest. at_end (made x) rest)
 
--- the value made from a body of two fields
+-- the value that `made` gives for the two fields of a body
 abbrev pub two_fields : {A B C : Type 0} → (List ℕ → FieldResult A) → (List ℕ → FieldResult B) → (A → B → C) → List ℕ → Result C BodyFault
 two_fields first second made body = and_then (first body) (λ x rest. one_field second (made x) rest)
 
@@ -36,7 +36,7 @@ abbrev pub allowed_or_fault : {A : Type 0} → BodyFault → Option A → List �
 allowed_or_fault fault None rest = Err fault
 allowed_or_fault fault (Some value) rest = Ok (value, rest)
 
--- ---- numbers, most significant byte first; a number that is cut short is InvalidParameters
+-- ---- numbers, most significant byte first; InvalidParameters if a number is cut short
 
 -- reads a u8 from the front of a body
 abbrev pub take_byte : List ℕ → FieldResult ℕ
@@ -51,8 +51,8 @@ take_short body = and_then (take_byte body) (λ a rest. and_then (take_byte rest
 abbrev pub take_long : List ℕ → FieldResult ℕ
 take_long body = and_then (take_short body) (λ a rest. and_then (take_short rest) (λ b rest. Ok (65536 * a + b, rest)))
 
--- ---- a number of bytes, which are one field
+-- ---- several bytes as one field
 
--- reads `n` bytes from the front of a body; fewer are InvalidParameters
+-- reads `n` bytes from the front of a body; InvalidParameters if the body has fewer bytes
 abbrev pub take_bytes : ℕ → List ℕ → FieldResult (List ℕ)
 take_bytes n body = if nat_le n (length body) then Ok (take n body, drop n body) else Err InvalidParameters

@@ -30,15 +30,15 @@ open_format_number (Some format) = format_number format
 abbrev pub open_format_numbered : ℕ → Option (Option Format)
 open_format_numbered n = with_number open_format_number (None ∷ Some U8 ∷ Some S16 ∷ Some U32 ∷ []) n
 
--- reads a format that may be open from the front of a body: a byte from 0 to 3, 0 for an open
+-- reads a format, which may be open, from the front of a body: a byte from 1 to 3, or 0 for an open
 -- format
 abbrev pub take_open_format : List ℕ → FieldResult (Option Format)
 take_open_format body = and_then (take_byte body) (λ n rest. allowed_or_fault InvalidFormat (open_format_numbered n) rest)
 
--- the format with this number, if tables and thresholds can have the format
+-- the format with this number, if lookup tables and thresholds can have the format
 abbrev pub input_format_numbered : ℕ → Option Format
 input_format_numbered n = with_number format_number (U8 ∷ S16 ∷ []) n
 
--- reads the format of a table or threshold from the front of a body: a byte, 1 U8 or 2 S16
+-- reads the format of a lookup table or threshold from the front of a body: a byte, 1 U8 or 2 S16
 abbrev pub take_input_format : List ℕ → FieldResult Format
 take_input_format body = and_then (take_byte body) (λ n rest. allowed_or_fault InvalidFormat (input_format_numbered n) rest)

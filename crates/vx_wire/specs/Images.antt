@@ -23,13 +23,13 @@ query_image_in body = one_field take_reference QueryImage body
 abbrev pub write_image_in : List ℕ → Result Request BodyFault
 write_image_in body = two_fields take_reference take_picture WriteImage body
 
--- the request to write a picture of this description to an image; these bytes encode the picture's
--- samples
+-- The request WriteImage for an image and a picture with this description. The list of bytes
+-- encodes the picture's samples.
 abbrev pub write_image_of : Reference → Description → List ℕ → Request
 write_image_of image d bytes = WriteImage image (record { description = d; samples = decoded_samples d.format (sample_count d) bytes })
 
--- the request WriteImagePgm that a body encodes: a reference to an image, then a text, which is all
--- remaining bytes, possibly none
+-- The request WriteImagePgm that a body encodes: a reference to an image, then a text. The text is
+-- all remaining bytes, possibly none.
 abbrev pub write_image_pgm_in : List ℕ → Result Request BodyFault
 write_image_pgm_in body = and_then (take_reference body) (λ image text. Ok (WriteImagePgm image text))
 

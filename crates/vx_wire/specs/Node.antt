@@ -62,8 +62,8 @@ policies p = if p.policy then Wrap ∷ Saturate ∷ [] else Wrap ∷ []
 abbrev pub take_policy : Parameters → List ℕ → FieldResult Policy
 take_policy p body = and_then (take_byte body) (λ n rest. allowed_or_fault InvalidParameters (with_number policy_number (policies p) n) rest)
 
--- an amount and the bytes after it, or the amount's fault; the amount is 0 if the function has
--- none, and else at most the function's greatest amount
+-- An amount and the bytes after it if the amount is allowed, else the amount's fault. Amounts up to
+-- the function's greatest amount are allowed, or only 0 if the function has no amount.
 abbrev pub amount_allowed : Option ℕ → ℕ → List ℕ → FieldResult ℕ
 amount_allowed None n rest = allowed_or_fault InvalidParameters (if n == 0 then Some n else None) rest
 amount_allowed (Some greatest) n rest = allowed_or_fault InvalidValue (if nat_le n greatest then Some n else None) rest

@@ -9,8 +9,8 @@ use Rattle.vx_wire.specs.declared.fields.operand.Presence.TheVariants.{Required,
 use Rattle.vx_wire.specs.Fields.{FieldResult, and_then, allowed_or_fault}
 use Rattle.vx_wire.specs.Reference.{take_reference, reference_bytes}
 
--- the operand that a reference encodes, if it agrees with the presence: a required operand must be
--- given, and an absent operand must not
+-- The operand that a reference encodes. There is no result if a required operand is missing, or if
+-- an operand is given that the function doesn't have.
 abbrev pub operand : Presence → Reference → Option (Option Reference)
 operand Required cell = if is_nothing cell then None else Some (Some cell)
 operand Absent cell = if is_nothing cell then Some None else None
@@ -51,7 +51,7 @@ abbrev pub take_first_input : List ℕ → FieldResult Reference
 take_first_input body =
     and_then (take_reference body) (λ cell rest. allowed_or_fault InvalidParameters (if is_nothing cell then None else Some cell) rest)
 
--- reads the operands after the first input from the front of a body: in2, out1, out2
+-- reads the second input and the outputs from the front of a body: in2, out1, out2
 abbrev pub take_operands : Parameters → List ℕ → FieldResult (Option Reference × Option Reference × Option Reference)
 take_operands p body =
     and_then (take_operand (second_input p) body) (λ in2 rest. and_then (take_operand (first_output p) rest) (λ out1 rest.

@@ -1,5 +1,5 @@
--- Partial descriptions of virtual images: the format, the width and the height, each 0 if it is open.
--- OpenVX 1.3, "Object: Image", vxCreateVirtualImage.
+-- Partial descriptions of virtual images: the format, the width and the height. Each is 0 if it is
+-- open. OpenVX 1.3, "Object: Image", vxCreateVirtualImage.
 use Rattle.std.specs.Prelude.{ℕ, ◌==◌, if◌then◌else◌, List, ◌∷◌, ◌++◌, Option, Some, None, unwrap_or, Ok}
 use Rattle.std.specs.Int.{w16, to_be_bytes}
 use Rattle.vx_base.specs.Description.{is_side}
@@ -16,8 +16,8 @@ open_side_number side = unwrap_or side 0
 abbrev pub open_side_numbered : ℕ → Option (Option ℕ)
 open_side_numbered n = if n == 0 then Some None else if is_side n then Some (Some n) else None
 
--- reads a width or height that may be open from the front of a body: a u16 from 1 to 8192, or 0 for
--- open
+-- reads a width or height, which may be open, from the front of a body: a u16 from 1 to 8192, or 0
+-- for open
 abbrev pub take_open_side : List ℕ → FieldResult (Option ℕ)
 take_open_side body = and_then (take_short body) (λ n rest. allowed_or_fault InvalidDimension (open_side_numbered n) rest)
 

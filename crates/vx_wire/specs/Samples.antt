@@ -22,7 +22,7 @@ encoded_sample U8 z = unsigned_abs z ∷ []
 encoded_sample S16 z = to_be_bytes w16 (cast_unsigned w16 z)
 encoded_sample U32 z = to_be_bytes w32 (unsigned_abs z)
 
--- `count` samples of a format, decoded from bytes one after the other
+-- `count` consecutive samples of a format, decoded from bytes
 abbrev pub decoded_samples : Format → ℕ → List ℕ → List ℤ
 decoded_samples format zero bytes = []
 decoded_samples format (suc count) bytes = decoded_sample format (take (sample_bytes format) bytes) ∷ decoded_samples format count (drop (sample_bytes format) bytes)

@@ -12,10 +12,12 @@ use Rattle.vx_wire.specs.Convolution.{take_convolution}
 abbrev pub create_lut_in : List ℕ → Result Request BodyFault
 create_lut_in body = one_field take_lut CreateLut body
 
--- the request CreateThreshold that a body encodes: the kind, the format, the limits, the true value, the false value
+-- the request CreateThreshold that a body encodes: the kind, the format, the limits, the true
+-- value, the false value
 abbrev pub create_threshold_in : List ℕ → Result Request BodyFault
 create_threshold_in body = one_field take_threshold CreateThreshold body
 
--- the request CreateConvolution that a body encodes: the columns, the rows, the exponent, the coefficients
+-- the request CreateConvolution that a body encodes: the columns, the rows, the exponent, the
+-- coefficients
 abbrev pub create_convolution_in : List ℕ → Result Request BodyFault
 create_convolution_in body = one_field take_convolution CreateConvolution body

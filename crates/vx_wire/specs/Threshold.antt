@@ -1,4 +1,5 @@
--- Thresholds: the kind, the format, one limit or two, the true value and the false value. OpenVX 1.3, "Object: Threshold".
+-- Thresholds: the kind, the format, one limit or two, the true value and the false value.
+-- OpenVX 1.3, "Object: Threshold".
 use Rattle.std.specs.Prelude.{ℕ, ℤ, Bool, true, false, int_le, if◌then◌else◌, List, [], ◌∷◌, ◌++◌, Option, Some, None, Ok}
 use Rattle.vx_base.specs.declared.format.Format.{Format}
 use Rattle.vx_base.specs.declared.format.Format.TheVariants.{S16}
@@ -41,13 +42,15 @@ take_limit format body = and_then (take_signed body) (λ z rest. allowed_or_faul
 abbrev pub take_upper : Format → ℤ → List ℕ → FieldResult ℤ
 take_upper format lower body = and_then (take_limit format body) (λ z rest. allowed_or_fault InvalidValue (if int_le lower z then Some z else None) rest)
 
--- reads the limits of a threshold from the front of a body: one for BINARY, the lower and the upper for RANGE
+-- reads the limits of a threshold from the front of a body: one for BINARY, the lower and the upper
+-- for RANGE
 abbrev pub take_limits : Bool → Format → List ℕ → FieldResult ThresholdKind
 take_limits false format body = and_then (take_limit format body) (λ t rest. Ok (Binary t, rest))
 take_limits true format body =
     and_then (take_limit format body) (λ lower rest. and_then (take_upper format lower rest) (λ upper rest. Ok (Range lower upper, rest)))
 
--- reads a threshold from the front of a body: the kind, the format, the limits, the true value, the false value
+-- reads a threshold from the front of a body: the kind, the format, the limits, the true value, the
+-- false value
 abbrev pub take_threshold : List ℕ → FieldResult ThresholdValue
 take_threshold body =
     and_then (take_is_range body) (λ range rest. and_then (take_input_format rest) (λ format rest.
@@ -55,7 +58,8 @@ take_threshold body =
     and_then (take_byte rest) (λ true_value rest. and_then (take_byte rest) (λ false_value rest.
     Ok (record { format = format; kind = kind; true_value = true_value; false_value = false_value }, rest))))))
 
--- the bytes of a threshold's limits, as S16 samples: one for BINARY, the lower and the upper for RANGE
+-- the bytes of a threshold's limits, as S16 samples: one for BINARY, the lower and the upper for
+-- RANGE
 abbrev pub limit_bytes : ThresholdKind → List ℕ
 limit_bytes (Binary t) = encoded_sample S16 t
 limit_bytes (Range lower upper) = encoded_sample S16 lower ++ encoded_sample S16 upper

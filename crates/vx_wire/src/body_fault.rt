@@ -3,10 +3,10 @@
 /// Why a body encodes no request.
 #[derive(Clone, Copy, Debug, PartialEq, Eq)]
 pub enum BodyFault {
-    /// The op is unknown, a field is cut short or has a value that isn't allowed, or bytes follow
-    /// the last field.
+    /// The op is unknown, a field is cut short, or bytes follow the last field. Or a field's value
+    /// isn't allowed, and none of the faults below applies.
     InvalidParameters,
-    /// A number isn't a format, or it is a format that a table or a threshold can't have.
+    /// A number isn't a format, or it is a format that a lookup table or a threshold can't have.
     InvalidFormat,
     /// A dimension is out of range:
     ///
@@ -16,9 +16,9 @@ pub enum BodyFault {
     /// A number is out of range:
     ///
     /// - an amount is above the greatest that the function accepts
-    /// - a limit of a threshold isn't a sample of its format, or the upper limit is below the lower
-    ///   one
-    /// - a rectangle's start is at or beyond its end, and its bounds aren't all 0
+    /// - a limit of a threshold isn't a sample of the threshold's format, or the upper limit is
+    ///   below the lower one
+    /// - a rectangle's bounds aren't all 0, and x0 isn't below x1 or y0 isn't below y1
     /// - the number of slots of a delay isn't 1 to 16
     /// - the exponent of a convolution is above 31
     /// - the number of bins or their range isn't 1 to 256, or the offset of the bins is above 255

@@ -42,7 +42,8 @@ pub fn ops()
     ensures not_known { request_of 200 [] ≡ Err InvalidParameters }
 {}
 
-/// Creating images of 1 by 1 and of 8192 by 2 pixels; and descriptions that are out of range.
+/// Creating images of 1 by 1 and of 8192 by 2 pixels. Then invalid descriptions, and bodies that
+/// are too short or too long.
 pub fn images_made()
     ensures smallest { request_of 3 (1 ∷ 0 ∷ 1 ∷ 0 ∷ 1 ∷ [])
         ≡ Ok (CreateImage (record { width = 1; height = 1; format = U8 })) }
@@ -74,8 +75,8 @@ pub fn images_written_and_read()
         ≡ Ok (ReadImage (record { name = 258; slot = Some 3 })) }
 {}
 
-/// Writing texts to image 7 and to slot 3 of delay 258. The text is not parsed with the body, and
-/// may be empty. A reference that is cut short is a fault.
+/// Writing texts to image 7 and to slot 3 of delay 258. Parsing the body doesn't parse the text,
+/// which may be empty. A reference that is cut short is a fault.
 pub fn texts_written()
     ensures written { request_of 6 (0 ∷ 0 ∷ 0 ∷ 7 ∷ 255 ∷ 80 ∷ 53 ∷ 10 ∷ [])
         ≡ Ok (WriteImagePgm (record { name = 7; slot = None }) (80 ∷ 53 ∷ 10 ∷ [])) }
@@ -106,8 +107,8 @@ pub fn images_queried()
     ensures more { request_of 4 (0 ∷ 0 ∷ 0 ∷ 1 ∷ 255 ∷ 0 ∷ []) ≡ Err InvalidParameters }
 {}
 
-/// The description of a U8 image of 4 by 1 pixels, of which the second and the third are valid.
-/// The description of an image of 258 by 1 pixels with an open format and no valid pixels.
+/// The replies to QueryImage for two images. One has the format U8 and 4 by 1 pixels, of which the
+/// middle two are valid. The other has an open format and 258 by 1 pixels, none of them valid.
 pub fn images_described()
     ensures known { described_bytes (record {
       format = Some U8;
@@ -222,8 +223,9 @@ pub fn convolutions()
     ensures empty { request_of 13 [] ≡ Err InvalidParameters }
 {}
 
-/// A distribution of 3 bins over the samples 0 to 255, and one of 256 bins that go beyond 255; and
-/// invalid bins. The first invalid number decides the fault, even if the body ends too early.
+/// Distributions of 3 bins over the samples 0 to 255, of 256 bins over the range 255 to 510, and of
+/// 2 bins over the single sample 7. Then invalid bins. The first invalid number decides the fault,
+/// even if the body ends too early.
 pub fn distributions_made()
     ensures made { request_of 14 (0 ∷ 3 ∷ 0 ∷ 0 ∷ 1 ∷ 0 ∷ [])
         ≡ Ok (CreateDistribution (record { bins = 3; offset = 0; range = 256 })) }
@@ -249,7 +251,7 @@ pub fn distributions_read()
     ensures with_a_slot { request_of 15 (0 ∷ 0 ∷ 1 ∷ 2 ∷ 255 ∷ []) ≡ Err InvalidParameters }
 {}
 
-/// Creating an object for extremes by an empty body, and reading object 258.
+/// CreateMinMax, which has an empty body, and ReadMinMax of object 258.
 pub fn extremes_made_and_read()
     ensures made { request_of 16 [] ≡ Ok CreateMinMax }
     ensures made_with_more { request_of 16 (0 ∷ []) ≡ Err InvalidParameters }
@@ -258,9 +260,9 @@ pub fn extremes_made_and_read()
     ensures with_a_slot { request_of 17 (0 ∷ 0 ∷ 1 ∷ 2 ∷ 255 ∷ []) ≡ Err InvalidParameters }
 {}
 
-/// The replies for a distribution of 3 bins, and for the least sample -2 and the greatest sample
-/// 258. Sample -2 occurs once, in column 3 and row 4. Sample 258 occurs 65,536 times, first in
-/// column 5 and row 515.
+/// The replies for a distribution of 3 bins, and for extremes: the least sample -2 and the greatest
+/// sample 258. Sample -2 occurs once, in column 3 and row 4. Sample 258 occurs 65,536 times, first
+/// in column 5 and row 515.
 pub fn statistics_replies()
     ensures counts { counts_bytes (1 ∷ 0 ∷ 16777216 ∷ [])
         ≡ 0 ∷ 3 ∷ 0 ∷ 0 ∷ 0 ∷ 1 ∷ 0 ∷ 0 ∷ 0 ∷ 0 ∷ 1 ∷ 0 ∷ 0 ∷ 0 ∷ [] }
@@ -275,7 +277,7 @@ pub fn statistics_replies()
         ≡ 255 ∷ 254 ∷ 1 ∷ 2 ∷ 0 ∷ 0 ∷ 0 ∷ 1 ∷ 0 ∷ 1 ∷ 0 ∷ 0 ∷ 0 ∷ 3 ∷ 0 ∷ 4 ∷ 0 ∷ 5 ∷ 2 ∷ 3 ∷ [] }
 {}
 
-/// Creating a graph by an empty body.
+/// CreateGraph, which has an empty body.
 pub fn graphs_made()
     ensures made { request_of 18 [] ≡ Ok CreateGraph }
     ensures more { request_of 18 (0 ∷ []) ≡ Err InvalidParameters }
@@ -365,7 +367,9 @@ pub fn graphs_verified_and_run()
     ensures run_with_a_slot { request_of 23 (0 ∷ 0 ∷ 1 ∷ 2 ∷ 255 ∷ []) ≡ Err InvalidParameters }
 {}
 
-/// A Not node from image 1 to image 2; and Not nodes with one operand too many or too few.
+/// Not nodes from image 1 to image 2, with an UNDEFINED and a CONSTANT border. Then invalid Not
+/// nodes: cut short, with policy 1, with UNDEFINED and constant 5, without an input, or with two
+/// inputs.
 pub fn nodes()
     ensures whole { request_of 24 (4 ∷ 0 ∷ 0 ∷ 0 ∷ 0 ∷ 0 ∷ 0 ∷ 0 ∷ 1 ∷ 255 ∷ 0 ∷ 0 ∷ 0 ∷ 0 ∷ 255 ∷ 0
         ∷ 0 ∷ 0 ∷ 2 ∷ 255 ∷ 0 ∷ 0 ∷ 0 ∷ 0 ∷ 255 ∷ [])
@@ -464,8 +468,8 @@ pub fn delays_registered()
     ensures cut { request_of 27 (0 ∷ 0 ∷ 0 ∷ 3 ∷ 0 ∷ 0 ∷ 0 ∷ []) ≡ Err InvalidParameters }
 {}
 
-/// The encodings of a picture, a text, a rectangle, a threshold, a convolution, a distribution's
-/// bins, two partial descriptions, a node of a graph and a delay.
+/// The bodies of requests that hold a picture, a text, a rectangle, a threshold, a convolution, a
+/// distribution's bins, partial descriptions, a graph's node, and a delay's number of slots.
 pub fn spelled()
     ensures picture { body_of (WriteImage (record { name = 7; slot = None })
         (record {

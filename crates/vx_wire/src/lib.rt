@@ -1,7 +1,7 @@
 //! The bodies of requests and replies, as bytes.
 //!
 //! `parse` returns the request that a body encodes. Functions with names like `description_bytes`
-//! return the bytes of a field. Encoding a field that was read gives the bytes that were read; the
+//! return the bytes of a field. Parsing a field and encoding it again gives the same bytes; the
 //! laws state this for whole requests. Streams, frames and clients are outside this crate.
 //!
 //! - `op`: the kinds of requests, and their numbers
@@ -13,9 +13,9 @@
 //! - `requests`: the bodies of requests, by families: `contexts`, `images`, `objects` (of any
 //!   kind), `tables` (lookup tables, thresholds and convolutions), `statistics` (distributions and
 //!   extremes), `graphs`, `immediate`, `delays`
-//! - `parsing`: the body of any request
+//! - `parsing`: parses the body of any request
 //! - `take_image_head`: the fields before the samples in the body of WriteImage
-//! - `take_image_pgm_fields`: the image and the text in the body of WriteImagePgm
+//! - `take_image_pgm_fields`: the reference and the text in the body of WriteImagePgm
 //! - `laws`, `examples`: what the definitions mean
 #![tactic(auto)]
 

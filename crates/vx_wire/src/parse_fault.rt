@@ -9,14 +9,14 @@ use vx_base::Code;
 /// Why parsing a body failed: the body encodes no request, or memory ran out.
 #[derive(Clone, Copy, Debug, PartialEq, Eq, Error)]
 pub enum ParseFault {
-    /// No memory could be allocated for a picture's samples, a table's entries or a text.
+    /// No memory could be allocated for a picture's samples, a lookup table's entries or a text.
     #[error("no memory")]
     NoMemory,
-    /// The op is unknown, a field is cut short or has a value that isn't allowed, or bytes follow
-    /// the last field.
+    /// The op is unknown, a field is cut short, or bytes follow the last field. Or a field's value
+    /// isn't allowed, and none of the faults below applies.
     #[error("invalid parameters")]
     InvalidParameters,
-    /// A number isn't a format, or it is a format that a table or a threshold can't have.
+    /// A number isn't a format, or it is a format that a lookup table or a threshold can't have.
     #[error("invalid format")]
     InvalidFormat,
     /// A dimension is out of range, as `BodyFault::InvalidDimension` lists.

@@ -1,4 +1,4 @@
-//! The body of any request.
+//! Parses the body of any request.
 ghost use Rattle.std.specs.Prelude.{◌≡◌, Ok, IfOk, IfErr};
 ghost use Rattle.vx_wire.specs.Faults.{MayFailWith};
 ghost use Rattle.vx_wire.specs.Requests.{request_of};
@@ -26,8 +26,8 @@ use std::alloc::Global;
 ///
 /// The fault is that of the first field that is cut short or out of range. `InvalidParameters`: no
 /// op has the number, or bytes follow the last field. `NoMemory`: an allocation failed. Memory is
-/// allocated only for a picture's samples, a table's entries or a text. The body is checked before
-/// the allocation.
+/// allocated only for a picture's samples, a lookup table's entries or a text. The body is checked
+/// before the allocation.
 pub fn parse(alloc: Global, op: u8, body: &[u8]) -> Result<Request, ParseFault>
     ensures ok { IfOk result (λ request. request_of op body.now ≡ Ok request) }
     ensures err { IfErr result (MayFailWith (request_of op body.now)) }

@@ -24,7 +24,7 @@ module _ (op : ℤ → ℤ → ℤ) (assoc : (x y z : ℤ) → op x (op y z) ≡
       ∙ ap (λ z. op z (op (op g h) i)) (one_after_another (op (op a b) c) d e f)
       ∙ one_after_another (op (op (op (op (op a b) c) d) e) f) g h i
 
--- the least of nine samples, chosen column by column, is the least of all nine
+-- the least of the least samples of three columns is the least of all nine samples
 pub column_least_is_least : (a b c d e f g h i : ℤ) → int_min (int_min (int_min (int_min a d) g) (int_min (int_min b e) h)) (int_min (int_min c f) i) ≡ least_of (a ∷ b ∷ c ∷ d ∷ e ∷ f ∷ g ∷ h ∷ i ∷ [])
 column_least_is_least = by_columns int_min assoc turned
   where
@@ -34,7 +34,7 @@ column_least_is_least = by_columns int_min assoc turned
     turned : (x y z u : ℤ) → int_min (int_min x y) (int_min z u) ≡ int_min (int_min x z) (int_min y u)
     turned x y z u = grind (arith, ints)
 
--- the greatest of nine samples, chosen column by column, is the greatest of all nine
+-- the greatest of the greatest samples of three columns is the greatest of all nine samples
 pub column_greatest_is_greatest : (a b c d e f g h i : ℤ) → int_max (int_max (int_max (int_max a d) g) (int_max (int_max b e) h)) (int_max (int_max c f) i) ≡ greatest_of (a ∷ b ∷ c ∷ d ∷ e ∷ f ∷ g ∷ h ∷ i ∷ [])
 column_greatest_is_greatest = by_columns int_max assoc turned
   where

@@ -4,7 +4,8 @@ use Rattle.std.specs.List.{flat_map, range_with_len}
 use Rattle.vx_base.specs.Convolution.{ConvolutionValue, coefficient}
 use Rattle.lane_rows.specs.Pairs.{alternation}
 
--- coefficient c of row l with the columns reversed, 0 after the last column; the rows are not reversed here
+-- coefficient c of row l with the columns reversed, 0 after the last column; the rows are not
+-- reversed here
 abbrev pub rotated_coefficient : ConvolutionValue → ℕ → ℕ → ℤ
 rotated_coefficient m l c = if nat_lt c m.columns then coefficient m l (m.columns - 1 - c) else pos 0
 

@@ -1,4 +1,5 @@
-//! Window functions that go down the columns of three rows, and then across three of the results.
+//! Window functions in two passes: down each column of three rows, and then across the results of
+//! three neighbouring columns.
 ghost use Rattle.std.specs.Prelude.{◌≡◌, ℤ, List, [], ◌∷◌};
 ghost use Rattle.window_kernels.specs.ByColumns.{AreBytesTaken};
 

@@ -70,7 +70,7 @@ fn write_tables(convolution: &Convolution, tables: &mut [i16])
     }
 }
 
-/// Proves that the border's constant is a U8 sample; at run time this does nothing.
+/// Proves that the border's constant is a U8 sample. At run time this function does nothing.
 fn prove_constant(border: Border)
     ensures { IsBorder border }
 {
@@ -81,8 +81,8 @@ fn prove_constant(border: Border)
 /// grow with the image's width.
 const PIECE_WIDTH: usize = 1024;
 
-/// The number of items loaded in each row beyond the columns of a piece. A whole block of lanes
-/// that begins at the last column reads that far.
+/// The number of items loaded in each row beyond the columns of a piece, as `MatrixRows::write`
+/// requires. A block of lanes that begins at the last column reads beyond the piece.
 const AROUND: usize = 48;
 
 /// A U8 image convolved with a matrix under a border.
@@ -104,7 +104,7 @@ struct FromMatrix<'a, 'b> {
 }
 
 impl FromMatrix<'_, '_> {
-    /// Loads the samples of one row that the windows from column `x` on read.
+    /// Loads the samples of one row for the windows from column `x` on.
     fn load_line(&self, x: u16, row: i32, line: &mut [i16])
         requires columns { self.now.image.now.valid.x0 < self.now.image.now.valid.x1 }
         requires rows { self.now.image.now.valid.y0 < self.now.image.now.valid.y1 }
@@ -119,8 +119,9 @@ impl FromMatrix<'_, '_> {
         load_row(self.image, x, radius, row, self.border, line);
     }
 
-    /// Loads the rows that the windows of row `y` read, for the windows from column `x` on. The
-    /// bottom row comes first, which has the effect of reversing the rows of the matrix.
+    /// Loads the rows of samples for the windows of row `y` from column `x` on. `line` is the
+    /// number of items loaded for each row. The bottom row comes first, which has the effect of
+    /// reversing the rows of the matrix.
     fn load_rows(&self, x: u16, y: u16, line: u16, rows: &mut [i16])
         requires columns { self.now.image.now.valid.x0 < self.now.image.now.valid.x1 }
         requires rows { self.now.image.now.valid.y0 < self.now.image.now.valid.y1 }
@@ -210,7 +211,8 @@ fn write_convolved<T: Convolved>(
     output.write_by_rows::<T, i16, _>(&formula, scratch);
 }
 
-/// Writes the convolution of a U8 image to a U8 or S16 image of its size.
+/// Calls `write_convolved` for the output's format, which is U8 or S16. `rows` is the scratch
+/// memory.
 fn convolve_with(
     image: &Image<'_>,
     convolution: &Convolution,

@@ -10,7 +10,7 @@ ghost use Rattle.vx_base.specs.Window.{greatest_of, gradient_x, gradient_y, from
 ghost use Rattle.window_kernels.specs.Examples.{row_of_four, two_by_two, three_by_three, single};
 ghost use Rattle.window_kernels.specs.Examples.{at_centre, upper_left, minus_three};
 
-/// What windows read of the row 0 20 30 0, which is valid except at its ends.
+/// The samples that windows read from the row 0 20 30 0, which is valid except at its ends.
 pub fn places()
     ensures valid { sample_or_border row_of_four Replicate (pos 1) (pos 0) ≡ pos 20 }
     ensures left { sample_or_border row_of_four Replicate (pos 0) (negsuc 0) ≡ pos 20 }
@@ -18,7 +18,8 @@ pub fn places()
     ensures constant { sample_or_border row_of_four (Constant 7) (pos 3) (pos 0) ≡ pos 7 }
 {}
 
-/// The results of the formulas for the window 1 2 9, 3 4 8, 5 6 7.
+/// The results of the formulas for the window 1 2 9, 3 4 8, 5 6 7. The clause `turned` mirrors the
+/// window from left to right.
 pub fn formulas()
     ensures mean { box_mean (pos 1 ∷ pos 2 ∷ pos 9 ∷ pos 3 ∷ pos 4 ∷ pos 8 ∷ pos 5 ∷ pos 6
         ∷ pos 7 ∷ []) ≡ pos 5 }

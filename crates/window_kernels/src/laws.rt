@@ -1,4 +1,4 @@
-//! Facts about the definitions: each function does nothing, and its contract states the fact.
+//! Facts about the definitions. Each `fn` has an empty body, and its contract states the fact.
 ghost use Rattle.std.specs.Prelude.{◌≡◌, ◌<◌, ◌≤◌, ℕ, ℤ, pos, true, [], ◌∷◌, Contains, int_lt};
 ghost use Rattle.std.specs.List.{count_by};
 ghost use Rattle.vx_base.specs.declared.format.Format.{Format};

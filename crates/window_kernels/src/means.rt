@@ -1,5 +1,5 @@
-//! Means of 3x3 windows: sums of the columns of three rows, in scratch memory, then the mean from
-//! three of these sums.
+//! Means of 3x3 windows. The sum of each column of three rows goes to scratch memory. Each mean is
+//! computed from three of these sums.
 ghost use Rattle.vx_base.specs.declared.format.Format.TheVariants.{U8};
 ghost use Rattle.vx_base.specs.Window.{box_mean, gaussian_mean, from_nine};
 ghost use Rattle.image_core.specs.Target.{Writes};

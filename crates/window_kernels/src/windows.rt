@@ -55,7 +55,8 @@ struct FromNine<'a, 'b, K> {
     kernel: &'a K,
     image: &'a Image<'b>,
     border: Border,
-    /// A row of the border's samples. Windows read it where the border takes no row of the image.
+    /// A row of the border's samples. Windows read it for rows above and below the valid rectangle,
+    /// except under REPLICATE, which reads the nearest valid row.
     off_rows: &'a [u8],
     area: Rect,
     ghost format: { image.now.format ≡ U8 },
@@ -177,10 +178,12 @@ fn write_windows_with_rows<T: Sample, S, K: OfWindow<T, S>>(
 /// The greatest width of an image.
 pub const SIDE: usize = GREATEST_SIDE as usize;
 
-/// `with_scratch!(count, [item; most], row => call)` makes the call with `row`, a slice of at least
-/// `count` and at most `most` items on the stack. The slice is initialized once; a small image gets
-/// a short slice. With `[item; small, middle, most]` the slice has one of these lengths: `small` up
-/// to a count of 64, `middle` up to 512.
+/// Makes a call with a slice of items on the stack.
+///
+/// `with_scratch!(count, [item; most], row => call)` binds the slice to `row`. Every item is
+/// initialized, so a small image gets a short slice. For a count of at most 64 the slice has 64
+/// items, for a count of at most 512 it has 512, and otherwise `most`. With `[item; small, middle,
+/// most]` these lengths are `small`, `middle` and `most`.
 macro_rules! with_scratch {
     ($count:expr, [$item:expr; $most:expr], $row:ident => $call:expr) => {
         with_scratch!($count, [$item; 64, 512, $most], $row => $call)
@@ -205,7 +208,7 @@ macro_rules! with_scratch {
 
 pub(crate) use with_scratch;
 
-/// Writes the results of a window function on a U8 image to another image of its size. The row of
+/// Writes the results of a window function on a U8 image to an output of the same size. The row of
 /// the border's samples is on the stack.
 pub fn write_windows<T: Sample, S, K: OfWindow<T, S>>(
     kernel: &K,

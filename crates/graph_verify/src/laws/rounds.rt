@@ -9,8 +9,8 @@ ghost use Rattle.graph_verify.specs.Rounds.{rounds, one_pass, IsSolution, ReadsA
 ghost use Rattle.graph_verify.specs.Verdict.{two_writers, verdict};
 
 /// Running the nodes one after another, each after all nodes that feed it, gives the same values as
-/// running as many rounds as there are nodes. This holds if no object has two writers, and a node's
-/// values depend only on the objects that the node reads.
+/// running as many rounds as there are nodes. This holds if no object has two writers and each
+/// node's values depend only on the objects that the node reads.
 pub fn once_through_an_order<V>()
     ensures { (value : Node → (Reference → V) → Reference → V) (nodes steps : List Node)
         (held : Reference → V) →
@@ -21,7 +21,8 @@ pub fn once_through_an_order<V>()
 
 /// If a graph can run, running as many rounds as there are nodes gives the graph's only solution.
 /// In a solution, each written object has the value that its writer computes, and every other
-/// object is unchanged.
+/// object is unchanged. The law assumes that a node's values depend only on the objects that the
+/// node reads.
 pub fn only_solution<V>()
     ensures solves { (value : Node → (Reference → V) → Reference → V) (work : ℕ)
         (is : Reference → Operand)

@@ -6,9 +6,9 @@ ghost use Rattle.graph_verify.specs.declared.linked.Linked.{Linked};
 ghost use Rattle.graph_verify.specs.Links.{writes, is_written};
 ghost use Rattle.graph_verify.specs.Waiting.{waiting_among, once_ordered};
 
-/// After a node is ordered, each other node waits for an input exactly if a remaining node writes
-/// that input. The law assumes that the remaining nodes write what all nodes write, except the
-/// objects that the ordered node writes. This holds if no object has two writers.
+/// After a node is ordered, each other node waits for an input if and only if a remaining node
+/// writes that input. The law assumes that the remaining nodes write all written objects except
+/// those that the ordered node writes. This assumption holds if no object has two writers.
 pub fn waits_for_the_rest()
     ensures { (ordered : Node) (all rest : List Node) → ((cell : Reference) →
         (is_written all cell && not (writes ordered cell)) ≡ is_written rest cell) → (l : Linked) →

@@ -1,4 +1,4 @@
-//! Laws of the formats that a node may have.
+//! Laws of the formats that a function takes.
 ghost use Rattle.std.specs.Prelude.{IsTrue, Option, Some};
 ghost use Rattle.vx_base.specs.declared.format.Format.{Format};
 ghost use Rattle.vx_base.specs.declared.function.Function.{Function};

@@ -39,8 +39,7 @@ pub fn bits_are_samples()
     ensures xor { (a b : ℤ) → IsSample U8 a → IsSample U8 b → IsSample U8 (xor_bits a b) }
 {}
 
-/// A product's quotient by 2^n is rounded toward zero: the next number away from zero, times 2^n,
-/// lies beyond the product.
+/// Pixel-wise Multiplication divides a product by 2^n and rounds the quotient toward zero.
 pub fn products_round_to_zero()
     ensures not_beyond { (z : ℤ) (n : ℕ) →
         unsigned_abs (int_div z (pos (2 ^ n))) * 2 ^ n ≤ unsigned_abs z }
@@ -96,8 +95,8 @@ pub fn from_one_samples()
         pixel_at (from_one format f a) x y ≡ f (pixel_at a x y) }
 {}
 
-/// An image computed from two images by a formula is valid where both are, and has the formula's
-/// value there. It is well-formed if the values are samples of its format.
+/// An image computed from two images by a formula is valid where both inputs are valid, and has the
+/// formula's value there. It is well-formed if the values are samples of its format.
 pub fn from_two_samples()
     ensures image { (format : Format) (f : ℤ → ℤ → ℤ) (a b : ImageValue) → IsImage a → IsImage b →
         ((y z : ℤ) → IsSample a.format y → IsSample b.format z → IsSample format (f y z)) →
@@ -111,15 +110,16 @@ pub fn from_two_samples()
         pixel_at (from_two format f a b) x y ≡ f (pixel_at a x y) (pixel_at b x y) }
 {}
 
-/// The output of an accumulating node is a well-formed image of the output's format.
+/// An accumulating node makes a well-formed image of the accumulator's format if its input and its
+/// accumulator are well-formed images.
 pub fn accumulated_images()
     ensures { (n : Node) (output : Output) (a old : ImageValue) → IsNode n →
         IsImage a → IsImage old → accumulates n.function ≡ true →
         IsImage (node_image n output old.format a (Some (ImageObject old))) }
 {}
 
-/// The output image of a node whose operands have permitted kinds and formats is a well-formed
-/// image of the output's format.
+/// If a node's operands are well-formed and have permitted kinds and formats, then the node's
+/// output image is well-formed.
 pub fn results_are_images()
     ensures { (n : Node) (output : Output) (format : Format) (a : ImageValue)
         (second : Option ObjectValue) → IsNode n →

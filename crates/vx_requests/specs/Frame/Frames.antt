@@ -41,7 +41,8 @@ frame_head len client op = to_be_bytes w32 len ++ (to_be_bytes w16 client ++ op 
 abbrev pub reply_head : ℕ → ℕ → ℕ → ℕ → List ℕ
 reply_head len client op code = to_be_bytes w32 len ++ (to_be_bytes w16 client ++ op ∷ code ∷ [])
 
--- the bytes of a reply frame: the length of what follows, the client, the op, the code, the body
+-- the bytes of a reply frame: the number of bytes that follow, then the client, the op, the code
+-- and the body
 abbrev pub reply_bytes : ReplyFrame → List ℕ
 reply_bytes r = to_be_bytes w32 (length r.body + 4) ++ (to_be_bytes w16 r.client ++ r.op ∷ r.code ∷ r.body)
 

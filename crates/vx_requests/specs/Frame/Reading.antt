@@ -42,7 +42,7 @@ abbrev pub ReadsSamples : Option (List ℕ) → Option (List ℕ) → Format →
 ReadsSamples old new format samples = (bytes : List ℕ) × Consumes old new bytes × (length bytes ≡ length samples * sample_bytes format) × All (λ b. b < 2 ^ 8) bytes
     × (samples ≡ decoded_samples format (length samples) bytes)
 
--- the length of the next frame was read, or the stream had ended
+-- the length of the next frame was read, the stream had ended, or reading stopped with a fault
 abbrev pub ReadsLength : Option (List ℕ) → Option (List ℕ) → Result (Option ℕ) StreamFault → Type 0
 ReadsLength old new (Ok None) = Consumes old new [] × IsAtEnd new
 ReadsLength old new (Ok (Some len)) = IsLength len × Consumes old new (to_be_bytes w32 len)

@@ -1,5 +1,5 @@
--- The replies to each client of a stream, defined by the replies to a client that has the server to
--- itself.
+-- The states of a stream's clients, and the replies to their frames. Only a client's own kept
+-- frames change the client's state.
 use Rattle.std.specs.Prelude.{ℕ, Bool, not, ◌&&◌, ◌==◌, cond, List, [], ◌∷◌, ◌++◌, map, filter}
 use Rattle.client_model.specs.Context.{State}
 use Rattle.client_contexts.specs.World.{World, state_of}
@@ -69,7 +69,8 @@ module _ {S : Type 0} (answer : S → ℕ → List ℕ → Said × S) where
   abbrev pub reply_in : (ℕ → S) → ReceivedFrame → ReplyFrame
   reply_in states m = cond m.lost (no_memory m.frame) (reply_to m.frame (answer_frame (states m.frame.client) m.frame).0)
 
-  -- a client's state after a frame; the state changes only if the frame is the client's and was kept
+  -- a client's state after a frame; the state changes only if the frame is the client's and was
+  -- kept
   abbrev pub state_then : (ℕ → S) → ReceivedFrame → ℕ → S
   state_then states m client = cond (is_kept_of client m) (answer_frame (states client) m.frame).1 (states client)
 

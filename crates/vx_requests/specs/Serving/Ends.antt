@@ -1,4 +1,4 @@
--- The ends of `serve`: the end of the stream, and faults.
+-- How `serve` ends: at the end of the stream, or with a fault.
 use Rattle.std.specs.Prelude.{◌≡◌, List, [], ◌∷◌, ◌++◌, ℕ, length, Option, Result, Ok, Err, count_by, not, ◌==◌}
 use Rattle.std.specs.Io.KnownBytes.{Appends, IsAtEnd}
 use Rattle.vx_requests.specs.declared.stream.fault.StreamFault.{StreamFault}
@@ -18,13 +18,14 @@ abbrev pub EndsBy : StreamFault → (rest : List ℕ) (left taken_old taken_new 
 EndsBy WriteFailed rest left old new replies = (rest ≡ []) × AppendsMost old new replies
 EndsBy e rest left old new replies = BreaksOff e rest left × Appends old new (joined_replies replies)
 
--- `serve` ended at the end of the stream, with each reply written and counted; or it ended with a fault
+-- `serve` ended at the end of the stream, with each reply written and counted; or it ended with a
+-- fault
 abbrev pub Ends : Result Summary StreamFault → (rest : List ℕ) (left taken_old taken_new : Option (List ℕ)) (replies : List ReplyFrame) → Type 0
 Ends (Ok s) rest left old new replies = (rest ≡ []) × IsAtEnd left × Appends old new (joined_replies replies)
     × (s.requests ≡ length replies) × (s.refused ≡ count_by (λ r. not (r.code == 0)) replies)
 Ends (Err e) rest left old new replies = EndsBy e rest left old new replies
 
--- `serve` succeeded, or failed because of the stream's bytes
+-- `serve` succeeded, or failed with Truncated or BadLength
 abbrev pub ReadsToARest : Result Summary StreamFault → Type 0
 ReadsToARest (Ok s) = Unit {0}
 ReadsToARest (Err Truncated) = Unit {0}

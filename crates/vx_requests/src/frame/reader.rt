@@ -11,7 +11,7 @@ use crate::stream::{Source, StreamFault, fill};
 /// The least number of bytes after a frame's length: the client and the op.
 const LEAST_LENGTH: u32 = 3;
 
-/// The number of bytes that are skipped at a time.
+/// The most bytes that are skipped at a time.
 const PAST: usize = 4096;
 
 /// A source, and its budget: the number of reads that are still allowed.

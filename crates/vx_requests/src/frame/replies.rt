@@ -28,14 +28,16 @@ use pgm_images::WrittenHeader;
 use vx_base::{Desc, Extremes, Samples};
 use vx_wire::{described_bytes, description_bytes, extremes_bytes};
 
-/// The most bytes before the samples of a text: 8 of the frame, and 17 of the text's header.
+/// The most bytes before the samples in a reply frame with a PGM text: 8 before the body, and 17 of
+/// the text's header.
 const TEXT_HEAD: usize = 25;
 
 /// Writes the frame of a reply, and flushes the sink.
 ///
-/// `client` and `op` are those of the request. One write passes the frame up to the samples of a
-/// picture, the bytes of a text or the counts of a distribution. The only fault is `WriteFailed`: a
-/// write or the flush failed, and part or all of the frame may have been written.
+/// `client` and `op` are those of the request. A picture's samples, a text's bytes or a
+/// distribution's counts are written last. Everything before them takes one write. The only fault
+/// is `WriteFailed`: a write or the flush failed, and part or all of the frame may have been
+/// written.
 pub fn write_reply<K: Sink>(
     sink: &mut K,
     client: u16,
@@ -112,7 +114,7 @@ pub fn write_image_text_reply<K: Sink>(
     flush(sink)
 }
 
-/// Writes the frame of a picture, and flushes the sink.
+/// Writes the reply frame whose body is a picture, and flushes the sink.
 fn write_picture_reply<K: Sink>(
     sink: &mut K,
     client: u16,
@@ -133,7 +135,7 @@ fn write_picture_reply<K: Sink>(
     flush(sink)
 }
 
-/// Writes the frame of a text, and flushes the sink.
+/// Writes the reply frame whose body is a text, and flushes the sink.
 fn write_text_reply<K: Sink>(
     sink: &mut K,
     client: u16,
@@ -150,7 +152,7 @@ fn write_text_reply<K: Sink>(
     flush(sink)
 }
 
-/// Writes the frame of counts, and flushes the sink.
+/// Writes the reply frame whose body has the counts of a distribution, and flushes the sink.
 fn write_counts_reply<K: Sink>(
     sink: &mut K,
     client: u16,
@@ -217,7 +219,7 @@ fn head_and_described(client: u16, op: u8, described: Described) -> [u8; 21]
     bytes
 }
 
-/// Returns the frame of a reply that is a picture, up to its samples.
+/// Returns the bytes before the samples in the frame of a reply that is a picture.
 fn head_and_description(client: u16, op: u8, desc: Desc) -> [u8; 13]
     ensures { result ≡ reply_head (byte_count desc + 9) client op 0 ++ description_bytes desc }
 {
@@ -227,8 +229,8 @@ fn head_and_description(client: u16, op: u8, desc: Desc) -> [u8; 13]
     [a, b, c, d, e, f, g, h, i, j, k, l, m]
 }
 
-/// Writes the reply frame of a U8 image's PGM text, up to the samples, to the front of `bytes`.
-/// Returns the number of bytes written.
+/// Writes the start of a reply frame to the front of `bytes`: everything before the samples. The
+/// reply is the PGM text of a U8 image. Returns the number of bytes written.
 fn put_text_head(bytes: &mut [u8; TEXT_HEAD], client: u16, op: u8, desc: Desc) -> usize
     ensures within { result ≤ 25 }
     ensures head { take result bytes.new
@@ -244,7 +246,7 @@ fn put_text_head(bytes: &mut [u8; TEXT_HEAD], client: u16, op: u8, desc: Desc) -
 }
 
 /// Returns the bytes before a body of `count` bytes in a reply that isn't a refusal. A length above
-/// 2^32 - 1 would lose its upper bytes, but no text and no counts of an object are that long.
+/// 2^32 - 1 would lose its upper bytes, but the server's texts and counts are shorter.
 fn head_before(count: usize, client: u16, op: u8) -> [u8; 8]
     requires { count + 4 < 2 ^ 64 }
     ensures { result ≡ reply_head (count + 4) client op 0 }
@@ -254,7 +256,7 @@ fn head_before(count: usize, client: u16, op: u8) -> [u8; 8]
     [a, b, c, d, e, f, op, 0]
 }
 
-/// Returns the frame of a reply that is counts, up to the first count.
+/// Returns the bytes before the first count in the frame of a reply that has `count` counts.
 fn head_and_number(client: u16, op: u8, count: usize) -> [u8; 10]
     requires { 4 * count + 6 < 2 ^ 64 }
     ensures { result ≡ reply_head (4 * count + 6) client op 0 ++ to_be_bytes w16 count }
@@ -264,7 +266,7 @@ fn head_and_number(client: u16, op: u8, count: usize) -> [u8; 10]
     [a, b, c, d, e, f, g, h, i, j]
 }
 
-/// Returns the frame of a reply that is extremes.
+/// Returns the frame of a reply that has extremes.
 fn head_and_extremes(client: u16, op: u8, extremes: Extremes) -> [u8; 28]
     ensures { result ≡ reply_head 24 client op 0 ++ extremes_bytes extremes }
 {

@@ -31,9 +31,10 @@ use vx_wire::{
 /// Writes the frame in which a client sends a request. Does not flush the sink, and allocates
 /// nothing.
 ///
-/// The caller has checked that the request fits a frame (`fits_a_frame`). `WriteFailed`, the only
-/// fault: a write failed; part of the frame may have been written. The request's fields are in the
-/// ranges of their types, so parsing the frame gives an equal request.
+/// The caller has to check that the request fits a frame (`fits_a_frame`). The only fault is
+/// `WriteFailed`: a write failed, and part of the frame may have been written. Ensures that the
+/// request's fields are in the ranges of their types (`IsRequest`). Parsing the frame's body
+/// therefore gives an equal request.
 pub fn write_request<K: Sink>(
     sink: &mut K,
     client: u16,

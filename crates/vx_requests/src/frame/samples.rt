@@ -1,4 +1,4 @@
-//! Samples of pictures, entries of tables, coefficients and counts, as bytes.
+//! Samples of pictures, entries of lookup tables, coefficients and counts, as bytes.
 ghost use Rattle.std.specs.Prelude.{◌≡◌, ◌*◌, ◌<◌, ◌≤◌, ◌^◌, length, map, take, IfOk, IfErr, OnOk};
 ghost use Rattle.std.specs.List.{flat_map};
 ghost use Rattle.vx_base.specs.Sample.{sample_bytes};
@@ -45,7 +45,8 @@ pub fn write_wide<S: WideSample, K: Sink>(sink: &mut K, samples: &[S]) -> Result
     Ok(())
 }
 
-/// Encodes samples into the block, which is long enough, and writes the encoded bytes.
+/// Encodes samples into the front of the block, and writes the encoded bytes. The block has to be
+/// long enough for all of these bytes.
 fn write_sample_block<S: WideSample, K: Sink>(
     sink: &mut K,
     block: &mut [u8],
@@ -117,8 +118,8 @@ fn read_wide<S: WideSample, R: Source>(
     Ok(())
 }
 
-/// Replaces the first samples with samples that are read from a frame, as many as fit in the piece.
-/// Returns the number of samples read.
+/// Replaces the first samples with samples that are read from a frame, as many as fit in the buffer
+/// `piece`. Returns the number of samples read.
 fn read_piece<S: WideSample, R: Source>(
     reader: &mut Reader<R>,
     piece: &mut [u8],

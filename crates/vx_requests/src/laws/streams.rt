@@ -80,8 +80,8 @@ pub fn lost_shows()
         map (λ r. r.code == 1) (served (answer limits) start marked) ≡ map (λ m. m.lost) marked }
 {}
 
-/// Let the source's bytes be known, and let `serve` succeed, or fail because of these bytes. The
-/// frames that `serve` read and the bytes after them are then the split of the stream.
+/// Let the source's bytes be known. Let `serve` succeed, or fail with `Truncated` or `BadLength`.
+/// The frames that `serve` read and all bytes after them are then the split of the source's bytes.
 pub fn session_splits()
     ensures { (limits : LimitsValue) (input more : List ℕ) (taken_old taken_new : Option (List ℕ))
         (old new : ℕ → State) (result : Result Summary StreamFault) →
@@ -89,9 +89,9 @@ pub fn session_splits()
         ReadsToARest result → Splits input (frames_of session.marked) (session.rest ++ more) }
 {}
 
-/// A client's frames preserve the invariant of its context, `KeepsLimits`. Each reference to an
-/// image then names a valid image: its samples are of its format, and 0 outside its valid
-/// rectangle.
+/// A client's frames preserve the invariant of its context, `KeepsLimits`. Each image that a
+/// reference names then satisfies `IsImage`: each sample is in the range of the image's format, and
+/// is 0 outside the valid rectangle.
 pub fn states_keep()
     ensures limits { (limits : LimitsValue) (state : State) (frames : List Frame) →
         All IsFrame frames → IfSome state (KeepsLimits limits) →

@@ -32,8 +32,8 @@ pub struct Answered {
     pub content: ReplyContent,
 }
 
-/// Writes the frame of a reply, flushes the sink, and returns the reply's code. The runtime is in
-/// the state after the request.
+/// Writes the frame of a reply, flushes the sink, and returns the reply's code. An image's samples
+/// are read from `runtime`, which has to be in the state after the request.
 pub fn write_answered<K: Sink>(
     sink: &mut K,
     runtime: &Runtime,

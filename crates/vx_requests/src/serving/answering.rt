@@ -183,8 +183,8 @@ fn answer_frame(alloc: Global, runtime: &mut Runtime, frame: &RequestFrame) -> R
 {
     let content = content_for(alloc, runtime, frame);
     if let ReplyContent::Made(Reply::Refused(Code::NoMemory)) = content {
-        // Parsing may have failed for want of memory. Dropping the free blocks leaves more memory
-        // for a retry by the client.
+        // Parsing may have failed because memory was refused. Dropping the free blocks leaves more
+        // memory for a retry by the client.
         runtime.drop_free();
     }
     content

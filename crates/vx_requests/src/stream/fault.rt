@@ -2,7 +2,7 @@
 
 use thiserror::Error;
 
-/// The fault of a read, a write or a flush. The call gave or took no bytes.
+/// The fault of a read, a write or a flush. The failed call moved no bytes.
 #[derive(Clone, Copy, Debug, PartialEq, Eq, Error)]
 #[error("a read, a write or a flush failed")]
 pub struct Failed;
@@ -22,7 +22,7 @@ pub enum StreamFault {
     /// A write or a flush returned an error, or a write took none of the remaining bytes.
     #[error("write failed")]
     WriteFailed,
-    /// The budget of reads is used up, and the stream has not ended.
+    /// The budget of reads is used up, and no read has found the end of the stream.
     #[error("reader would not end")]
     ReaderWouldNotEnd,
 }

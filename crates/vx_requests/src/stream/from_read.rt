@@ -27,7 +27,7 @@ impl<R: Read> FromRead<R> {
         }
     }
 
-    /// Returns the reader, with the bytes that are left.
+    /// Returns the wrapped reader, which still has the bytes that weren't read.
     pub fn into_inner(self) -> R
         ensures { result ≡ reader_of self }
     {

@@ -24,7 +24,7 @@ impl<W: Write> FromWrite<W> {
         }
     }
 
-    /// Returns the writer, with the bytes that it took.
+    /// Returns the wrapped writer.
     pub fn into_inner(self) -> W
         ensures { result ≡ writer_of self }
     {

@@ -22,7 +22,7 @@ pub trait Sink {
         ensures bytes { WriteAppends (taken self.old) (taken self.new) result bytes.now }
         ensures failed { failures self.new ≡ failures self.old + failed_writes result bytes.now };
 
-    /// Passes on the bytes that are still buffered.
+    /// Writes out the bytes that are still buffered.
     fn flush(&mut self) -> Result<(), Failed>
         requires { failures self.old < 2 ^ 63 }
         ensures bytes { Keeps (taken self.old) (taken self.new) }

@@ -43,8 +43,8 @@ pub fn fill<S: Source>(
     Ok(count)
 }
 
-/// Writes all of the bytes. `WriteFailed`, the only fault: a write failed, or took none of the
-/// remaining bytes; some bytes from the front may have been written.
+/// Writes all of the bytes. The only fault is `WriteFailed`: a write failed, or took none of the
+/// remaining bytes. Some bytes from the front may then have been written.
 pub fn write_all<K: Sink>(sink: &mut K, bytes: &[u8]) -> Result<(), StreamFault>
     requires { K.failures sink.old < 2 ^ 62 }
     ensures { WritesAll K.taken K.failures sink.old sink.new bytes.now result }

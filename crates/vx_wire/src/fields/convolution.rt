@@ -1,4 +1,5 @@
-//! Convolutions: the columns, the rows, the exponent, and the coefficients row by row from the top.
+//! Convolutions: the number of columns, the number of rows, the exponent, and the coefficients row
+//! by row from the top.
 ghost use Rattle.std.specs.Prelude.{◌≤◌, IfOk, IsTrue};
 ghost use Rattle.vx_base.specs.Convolution.{is_odd_side};
 ghost use Rattle.vx_wire.specs.Fields.{Takes};

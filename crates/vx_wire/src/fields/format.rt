@@ -35,7 +35,8 @@ pub fn take_open_format(fields: &mut Fields) -> Result<Option<Format>, BodyFault
     }
 }
 
-/// Reads the input format of a table or a threshold: 1 or 2. `InvalidFormat`: another number.
+/// Reads the input format of a lookup table or a threshold: 1 or 2. `InvalidFormat`: another
+/// number.
 pub fn take_input_format(fields: &mut Fields) -> Result<Format, BodyFault>
     ensures taken { Takes take_input_format fields.old fields.new result }
     ensures input { IfOk result (λ f. f ≢ FormatU32) }

@@ -49,7 +49,8 @@ fn border_bytes(border: Border) -> [u8; 2]
     }
 }
 
-/// Reads the overflow policy, which is 0 if the function has none.
+/// Reads the overflow policy: 0 for WRAP, or 1 for SATURATE if the function has a policy.
+/// `InvalidParameters`: another number.
 fn take_policy(fields: &mut Fields, parameters: Parameters) -> Result<Policy, BodyFault>
     ensures taken { Takes (take_policy parameters) fields.old fields.new result }
     ensures has { IfOk result (λ p. IsTrue (parameters.policy || is_wrap p)) }
@@ -70,7 +71,9 @@ fn policy_number(policy: Policy) -> u8
     }
 }
 
-/// Reads the amount, which is 0 if the function has none.
+/// Reads the amount, which is 0 if the function has none. `InvalidParameters`: the function has no
+/// amount, and the number isn't 0. `InvalidValue`: the amount is above the function's greatest
+/// amount.
 fn take_amount(fields: &mut Fields, parameters: Parameters) -> Result<u8, BodyFault>
     ensures taken { Takes (take_amount parameters) fields.old fields.new result }
     ensures has { IfOk result (λ n. IsTrue (nat_le n (unwrap_or parameters.greatest_amount 0))) }

@@ -11,7 +11,7 @@ use crate::fields::Fields;
 use crate::fields::reference::{reference_bytes, take_reference};
 use vx_base::{ObjRef, Parameters};
 
-/// Whether an operand is required.
+/// Whether an operand is required, absent or optional.
 #[derive(Clone, Copy, Debug, PartialEq, Eq)]
 pub enum Presence {
     /// The operand is required.

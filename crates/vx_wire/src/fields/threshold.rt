@@ -14,6 +14,7 @@ use crate::fields::samples::WideSample;
 use vx_base::{Format, ThresholdKind, ThresholdRule};
 
 /// Reads a threshold's kind, 0 for BINARY and 1 for RANGE. Returns whether the kind is RANGE.
+/// `InvalidParameters`: another number.
 fn take_is_range(fields: &mut Fields) -> Result<bool, BodyFault>
     ensures { Takes take_is_range fields.old fields.new result }
 {

@@ -54,8 +54,8 @@ pub fn write_image(alloc: Global, body: &[u8]) -> Result<Request, ParseFault>
 
 /// Parses the first ten bytes of the body of WriteImage: a reference, and the description of the
 /// picture. `rest` is the number of bytes that follow. `InvalidParameters`: `rest` isn't the number
-/// of sample bytes that the description requires. The bytes that follow aren't checked, since any
-/// values are valid samples.
+/// of sample bytes that the description requires. The sample bytes themselves aren't checked, since
+/// any bytes encode valid samples.
 pub fn take_image_head(head: &[u8; 10], rest: usize) -> Result<(ObjRef, Desc), BodyFault>
     ensures ok { IfOk result (λ found. (samples : List ℕ) → length samples ≡ rest →
         write_image_in (head.now ++ samples) ≡ Ok (write_image_of found.0 found.1 samples)) }

@@ -14,7 +14,7 @@ use client_model::Request;
 use std::alloc::Global;
 use vx_base::Lut;
 
-/// Parses the body of CreateLut: a format, and the entries of a table of this format.
+/// Parses the body of CreateLut: a format, and the entries of a lookup table of this format.
 pub fn create_lut(alloc: Global, body: &[u8]) -> Result<Request, ParseFault>
     ensures ok { IfOk result (λ request. create_lut_in body.now ≡ Ok request) }
     ensures err { IfErr result (MayFailWith (create_lut_in body.now)) }
