@@ -57,7 +57,7 @@ pub record HavePlanes (n : Node) (planes : OutputPlanes) : Type 0 where
 abbrev pub IsLiveImage : List NamedObject → Reference → Description → Type 0
 IsLiveImage objects cell d = IsTrue (is_some (object_named objects cell.name)) × HoldsOperand objects cell (Image d)
 
--- images are wanted, and the output is given and is a live image of this description
+-- `wanted` is Image, and the output is given and is a live image of this description
 abbrev pub IsLiveOutput : List NamedObject → Kind → Option Reference → Description → Type 0
 IsLiveOutput objects wanted output d = (wanted ≡ kind.Image) × IsSomeAnd output (λ cell. IsLiveImage objects cell d)
 

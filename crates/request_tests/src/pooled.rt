@@ -81,7 +81,8 @@ const FORMATS: [(Format, [usize; 3]); 3] = [
     (Format::U32, [0, 0, 1]),
 ];
 
-/// Returns whether three images, created one after the other, are all 0 and use the same block.
+/// Creates and releases an image three times. Returns whether each image is all 0 when it is new,
+/// and all three use the same block.
 fn images_use_one_block(alloc: Global, format: Format, one: [usize; 3]) -> Result<bool, Fail> {
     let desc = Desc::new(5, 7, format).ok_or("within the limits")?;
     let mut runtime = opened(alloc)?;

@@ -15,7 +15,7 @@ use Rattle.vx_base.specs.Reference.{Reference, IsReference}
 abbrev pub is_nothing : Reference → Bool
 is_nothing cell = (cell.name == 0) && is_none cell.slot
 
--- whether an operand, if it is given, isn't name 0 without a slot
+-- whether an operand is absent, or is a reference other than name 0 without a slot
 abbrev pub is_named : Option Reference → Bool
 is_named None = true
 is_named (Some cell) = not (is_nothing cell)
