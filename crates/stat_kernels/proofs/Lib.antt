@@ -1,5 +1,5 @@
 mod Common
-mod PlaceLaws
+pub mod PlaceLaws
 mod TallyLaws
 pub mod MergeLaws
 pub mod BandLaws
