@@ -1,16 +1,7 @@
 -- Two box filters, and an integral image, in bands of two rows.
-use Rattle.std.proofs.Common.{◌≡◌, ◌≢◌, ℕ, zero, suc, ◌+◌, ◌<◌, ◌≤◌, min, Option, Some, None, true, refl, sym, subst, inl, inr, arith}
-use Rattle.std.specs.Prelude.{◌⊎◌, slice_index_or}
-use Rattle.vx_base.specs.declared.format.Format.TheVariants.{U8, U32}
+use Rattle.std.proofs.Common.{◌≡◌, ◌≢◌, ℕ, zero, suc, ◌+◌, ◌<◌, ◌≤◌, min, Option, Some, None, true, refl, sym, subst, inl, inr, arith, rules}
+use Rattle.graph_steps.proofs.Common.{CanReduce, CanReduceBand, HoldsRows, IsClient, IsLive, IsProgram, IsStepOf, IsUnwritten, KeepsBlock, NamesPlanes, ReadsPlane, Step, Suits, SuitsPlanes, U32, U8, capacities, capacity, new_image_is, plane, reads_output, slice_index_or, ◌⊎◌}
 use Rattle.vx_base.specs.Node.{IsNode}
-use Rattle.vx_base.proofs.ImageLaws.{new_image_is}
-use Rattle.graph_steps.specs.declared.step.SecondSource.TheVariants.{Nothing, Plane, Table}
-use Rattle.graph_steps.specs.declared.step.Step.{Step}
-use Rattle.graph_steps.specs.Planes.{plane}
-use Rattle.graph_steps.specs.Steps.{ReadsPlane, Suits, SuitsPlanes, capacities, capacity, reads_output}
-use Rattle.graph_steps.specs.Program.{IsStepOf, IsUnwritten, KeepsBlock, IsLive, NamesPlanes, IsClient, IsProgram, HoldsRows}
-use Rattle.graph_steps.specs.Runs.{CanReduceBand}
-use Rattle.graph_steps.specs.Tallies.{CanReduce}
 use Rattle.graph_steps.specs.Examples.{no_tables, small_image_desc, client_plane, box_node, box_step, boxes, box_planes, box_halos, box_tallies, integral_step, sums, sums_halos, sums_planes}
 
 one_of : (P : Step → Type 0) → P (box_step 0 1 (Some 1)) → P (box_step 1 2 None) → (s : Step) → IsStepOf s boxes → P s
@@ -19,56 +10,28 @@ one_of P p q s i = elim i [
   | inr j ↦ elim j [ inl e ↦ subst P (sym e) q | inr k ↦ absurd k ]
 ]
 
-not_plane : (c : ℕ) → Nothing ≡ Plane c → ⊥
-not_plane c e = cc
-
-not_table : (k : ℕ) → Nothing ≡ Table k → ⊥
-not_table k e = cc
-
-not_some : (t : ℕ) → ◌≡◌ {A = Option ℕ} None (Some t) → ⊥
-not_some t e = cc
-
-same_some : (a b : ℕ) → Some a ≡ Some b → a ≡ b
-same_some a b e = cc
-
 is_node : IsNode box_node
-is_node = record {
-  shape = refl;
-  border = tt;
-  amount = omega arith;
-  in1 = record { name = omega arith; slot = tt };
-  in2 = tt;
-  out1 = record { name = omega arith; slot = tt };
-  out2 = tt;
-}
+is_node = search rules
 
 suits : (input output : ℕ) (takes : Option ℕ) → Suits no_tables 4 (box_step input output takes) small_image_desc small_image_desc small_image_desc
 suits input output takes = record {
-  makes = record { node = is_node; kind = tt; formats = refl; size = refl; second_size = tt };
-  table = (λ k e. absurd (not_table k e));
+  makes = search (rules, is_node);
+  table = (λ k e. absurd (cc));
   near = omega arith;
 }
 
 reads_first : (input output c : ℕ) (takes : Option ℕ) → ReadsPlane (box_step input output takes) c → c ≡ input
-reads_first input output c takes r = elim r [ inl e ↦ sym e | inr e ↦ absurd (not_plane c e) ]
+reads_first input output c takes r = elim r [ inl e ↦ sym e | inr e ↦ absurd (cc) ]
 
 zero_unwritten : IsUnwritten boxes 0
 zero_unwritten = one_of (λ s. s.output ≢ 0) (λ e. omega arith) (λ e. omega arith)
 
-zero_kept : KeepsBlock 3 boxes 0
-zero_kept = (
-  omega arith,
-  one_of (λ s. (t : ℕ) → s.takes ≡ Some t → (t ≢ 0) × (s.output ≢ 0))
-      (λ t e. let k = same_some 1 t e in ((λ z. omega arith), (λ z. omega arith)))
-      (λ t e. absurd (not_some t e)),
-)
-
-two_kept : KeepsBlock 3 boxes 2
-two_kept = (
-  omega arith,
-  one_of (λ s. (t : ℕ) → s.takes ≡ Some t → (t ≢ 2) × (s.output ≢ 2))
-      (λ t e. let k = same_some 1 t e in ((λ z. omega arith), (λ z. omega arith)))
-      (λ t e. absurd (not_some t e)),
+client_kept : (c : ℕ) → c < 3 → c ≢ 1 → KeepsBlock 3 boxes c
+client_kept c below other = (
+  below,
+  one_of (λ s. (t : ℕ) → s.takes ≡ Some t → (t ≢ c) × (s.output ≢ c))
+      (λ t e. let k : 1 ≡ t = cc in ((λ z. omega arith), (λ z. omega arith)))
+      (λ t e. absurd (cc)),
 )
 
 not_kept : KeepsBlock 3 boxes 1 → ⊥
@@ -76,7 +39,7 @@ not_kept k = (k.1 (box_step 0 1 (Some 1)) (inl refl) 1 refl).1 refl
 
 is_client : IsClient client_plane
 is_client = record {
-  whole = record { format = refl; top = refl; size = refl; valid = record { columns = omega arith; rows = omega arith } };
+  whole = search rules;
   rows = refl;
   image = new_image_is 1 4 U8 refl refl;
 }
@@ -114,14 +77,14 @@ is_program = record {
   within = one_of (NamesPlanes 3)
       (record {
         output = omega arith;
-        reads = (λ c r. let e = reads_first 0 1 c (Some 1) r in (omega arith, (λ z. omega arith), (λ z. let k = same_some 1 c z in omega arith)));
-        taken = (λ t e. let k = same_some 1 t e in omega arith);
+        reads = (λ c r. let e = reads_first 0 1 c (Some 1) r in (omega arith, (λ z. omega arith), (λ z. let k : 1 ≡ c = cc in omega arith)));
+        taken = (λ t e. let k : 1 ≡ t = cc in omega arith);
         own = (λ sums. absurd (cc));
       })
       (record {
         output = omega arith;
-        reads = (λ c r. let e = reads_first 1 2 c None r in (omega arith, (λ z. omega arith), (λ z. not_some c z)));
-        taken = (λ t e. absurd (not_some t e));
+        reads = (λ c r. let e = reads_first 1 2 c None r in (omega arith, (λ z. omega arith), (λ z. absurd (cc))));
+        taken = (λ t e. absurd (cc));
         own = (λ sums. refl);
       });
   suits = one_of (λ s. SuitsPlanes no_tables 4 s box_planes) (suits 0 1 (Some 1)) (suits 1 2 None);
@@ -130,12 +93,12 @@ is_program = record {
       (λ c r. let e = reads_first 0 1 c (Some 1) r in subst (λ k. 2 ≤ slice_index_or box_halos k 0) (sym e) (omega arith))
       (λ c r. let e = reads_first 1 2 c None r in subst (λ k. 1 ≤ slice_index_or box_halos k 0) (sym e) (omega arith));
   one_writer = ((λ s i. elim i [ inl e ↦ subst (λ (u : Step). u.output ≢ 1) (sym e) (λ z. omega arith) | inr k ↦ absurd k ]), ((λ s i. absurd i), tt));
-  begins = λ c live. let e = live_zero c live in subst (λ k. IsUnwritten boxes k × KeepsBlock 3 boxes k) (sym e) (zero_unwritten, zero_kept);
+  begins = λ c live. let e = live_zero c live in subst (λ k. IsUnwritten boxes k × KeepsBlock 3 boxes k) (sym e) (zero_unwritten, client_kept 0 (omega arith) (omega arith));
   clients = client_at;
-  written = one_of (λ s. s.takes ≡ None → KeepsBlock 3 boxes s.output) (λ e. absurd (not_some 1 (sym e))) (λ e. two_kept);
+  written = one_of (λ s. s.takes ≡ None → KeepsBlock 3 boxes s.output) (λ e. absurd (cc)) (λ e. client_kept 2 (omega arith) (omega arith));
   once = one_of (λ s. reads_output s.node.function ≡ true → ((slice_index_or box_halos s.output 0 ≡ 0) × (s.takes ≡ None)) ⊎ (4 ≤ 2)) (λ e. absurd (cc)) (λ e. absurd (cc));
-  free = ((λ t e other live. other (sym (same_some 1 t e))), ((λ t e. absurd (not_some t e)), tt));
-  room = ((λ t e. let k = same_some 1 t e in subst (λ n. HoldsRows 2 1 small_image_desc (capacity (capacities box_planes) n)) k (refl, omega arith)), ((λ t e. absurd (not_some t e)), tt));
+  free = ((λ t e other live. other (cc)), ((λ t e. absurd (cc)), tt));
+  room = ((λ t e. let k : 1 ≡ t = cc in subst (λ n. HoldsRows 2 1 small_image_desc (capacity (capacities box_planes) n)) k (refl, omega arith)), ((λ t e. absurd (cc)), tt));
   again = refl;
 }
 
@@ -146,15 +109,12 @@ can_reduce = record {
     | inl e ↦ subst (CanReduce 0 box_planes box_tallies) (sym e) (record {
       input = omega arith;
       tally = omega arith;
-      format = not_words;
+      format = λ e. cc;
       bounded = (omega arith, omega arith);
     })
     | inr k ↦ absurd k
   ];
 }
-  where
-    not_words : U8 ≢ U32
-    not_words e = cc
 
 -- ---- an integral image
 
@@ -162,10 +122,10 @@ only : (P : Step → Type 0) → P integral_step → (s : Step) → IsStepOf s s
 only P p s i = elim i [ inl e ↦ subst P (sym e) p | inr k ↦ absurd k ]
 
 sum_input : (c : ℕ) → ReadsPlane integral_step c → c ≡ 0
-sum_input c r = elim r [ inl e ↦ sym e | inr e ↦ absurd (not_plane c e) ]
+sum_input c r = elim r [ inl e ↦ sym e | inr e ↦ absurd (cc) ]
 
 sums_kept : (c : ℕ) → c < 2 → KeepsBlock 2 sums c
-sums_kept c below = (below, only (λ s. (t : ℕ) → s.takes ≡ Some t → (t ≢ c) × (s.output ≢ c)) (λ t e. absurd (not_some t e)))
+sums_kept c below = (below, only (λ s. (t : ℕ) → s.takes ≡ Some t → (t ≢ c) × (s.output ≢ c)) (λ t e. absurd (cc)))
 
 input_unwritten : IsUnwritten sums 0
 input_unwritten = only (λ s. s.output ≢ 0) (λ e. omega arith)
@@ -173,7 +133,7 @@ input_unwritten = only (λ s. s.output ≢ 0) (λ e. omega arith)
 sums_client : (c : ℕ) → KeepsBlock 2 sums c → IsClient (plane sums_planes c)
 sums_client zero k = is_client
 sums_client (suc zero) k = record {
-  whole = record { format = refl; top = refl; size = refl; valid = record { columns = omega arith; rows = omega arith } };
+  whole = search rules;
   rows = refl;
   image = new_image_is 1 4 U32 refl refl;
 }
@@ -198,13 +158,13 @@ sums_program = record {
   tall = sums_tall;
   within = only (NamesPlanes 2) (record {
     output = omega arith;
-    reads = (λ c r. let e = sum_input c r in (omega arith, (λ z. omega arith), (λ z. not_some c z)));
-    taken = (λ t e. absurd (not_some t e));
+    reads = (λ c r. let e = sum_input c r in (omega arith, (λ z. omega arith), (λ z. absurd (cc))));
+    taken = (λ t e. absurd (cc));
     own = (λ adds. refl);
   });
   suits = only (λ s. SuitsPlanes no_tables 4 s sums_planes) (record {
-    makes = record { node = record { shape = refl; border = tt; amount = omega arith; in1 = is_node.in1; in2 = tt; out1 = is_node.out1; out2 = tt }; kind = tt; formats = refl; size = refl; second_size = tt };
-    table = (λ k e. absurd (not_table k e));
+    makes = search rules;
+    table = (λ k e. absurd (cc));
     near = omega arith;
   });
   halo_count = refl;
@@ -214,7 +174,7 @@ sums_program = record {
   clients = sums_client;
   written = only (λ s. s.takes ≡ None → KeepsBlock 2 sums s.output) (λ e. sums_kept 1 (omega arith));
   once = only (λ s. reads_output s.node.function ≡ true → ((slice_index_or sums_halos s.output 0 ≡ 0) × (s.takes ≡ None)) ⊎ (4 ≤ 2)) (λ e. inl (refl, refl));
-  free = ((λ t e other live. absurd (not_some t e)), tt);
-  room = ((λ t e. absurd (not_some t e)), tt);
+  free = ((λ t e other live. absurd (cc)), tt);
+  room = ((λ t e. absurd (cc)), tt);
   again = refl;
 }

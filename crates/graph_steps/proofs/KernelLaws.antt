@@ -1,40 +1,14 @@
 -- A kernel writes the step's image.
 use Rattle.std.proofs.Common.{◌≡◌, ℕ, ℤ, ◌*◌, ◌+◌, ◌-◌, ◌<◌, ◌≤◌, ◌++◌, zero, suc, true, List, length, map, take, drop, Option, Some, None, IfSome, refl, ap, ◌∙◌, sym, arith, cond, ◌==◌, eqb-true, add-zero, subst}
-use borrow.Rule.Slice.PartMut.{put_mid}
-use Rattle.std.proofs.lemmas.Bool.{and_parts}
-use Rattle.std.proofs.lemmas.List.{length-map}
-use Rattle.std.proofs.lemmas.Bool.Decides.{nat_tests}
-use Rattle.std.specs.Option.{option_and_then}
-use Rattle.vx_base.specs.declared.format.Format.{Format}
-use Rattle.vx_base.specs.declared.format.Format.TheVariants.{U8, U32}
-use Rattle.vx_base.specs.declared.function.Function.{Function}
+use Rattle.graph_steps.proofs.Common.{Band, CanMake, Description, Format, Function, ImageObject, ImageValue, IsInRows, IsWhole, Node, ObjectValue, Output, PlaneValue, Rectangle, SecondInput, Step, TakesRows, U32, U8, accumulates, all_rows, and_parts, at_held, band, band-same, block_image, description_of, empty_rectangle, has_row, held_image, image_from_inputs, image_over, image_over_rows, is_integral, kernel_image, length-map, length-table, nat_tests, node_image, object_format, object_kind, option_and_then, parameters, pixel_at, plane_image, put_mid, rows_in, rows_of_block, same_size, samples_are_band, scan_image, second_object, second_or_output, takes_formats, with_read_rows, with_rows, written_among}
 use Rattle.vx_base.specs.declared.function.Function.TheVariants.{Integral}
-use Rattle.vx_base.specs.declared.node.Node.{Node}
-use Rattle.vx_base.specs.declared.output.Output.{Output}
-use Rattle.vx_base.specs.Description.{Description, same_size}
-use Rattle.vx_base.specs.Rectangle.{Rectangle, empty_rectangle}
-use Rattle.vx_base.specs.Formats.{takes_formats}
-use Rattle.vx_base.specs.Function.{parameters, accumulates}
-use Rattle.vx_base.specs.Image.{ImageValue, description_of, image_over, band, pixel_at}
-use Rattle.vx_base.specs.Object.{ObjectValue, ImageObject, object_format, object_kind}
-use Rattle.vx_base.specs.Outputs.{node_image, second_or_output}
-use Rattle.vx_base.proofs.TableLaws.{band-same, length-table}
-use Rattle.vx_base.proofs.ImageLaws.{samples_are_band}
-use Rattle.image_core.specs.declared.band.Band.{Band}
 use Rattle.image_core.specs.declared.image_mut.ImageMut.{ImageMut}
-use Rattle.image_core.specs.declared.second.SecondInput.{SecondInput}
-use Rattle.image_core.specs.Bands.{IsInRows, all_rows, has_row, image_over_rows, rows_in}
 use Rattle.image_core.specs.Rows.{sample_at}
-use Rattle.image_core.specs.Second.{second_object}
 use Rattle.image_core.specs.Target.{target_image, IsTarget, Writes}
 use Rattle.image_core.proofs.BandLaws.{written_same}
-use Rattle.image_core.proofs.HeldRows.{at_held}
 use Rattle.node_rows.proofs.RowLaws.{node_description}
-use Rattle.graph_steps.specs.declared.step.Step.{Step}
 use Rattle.graph_steps.specs.declared.kernel.Kernel.{Kernel}
-use Rattle.graph_steps.specs.Planes.{IsWhole, PlaneValue, TakesRows, block_image, plane_image, rows_of_block, with_read_rows, with_rows, written_among}
-use Rattle.graph_steps.specs.Steps.{CanMake, image_from_inputs, is_integral, kernel_image, held_image, scan_image}
-use Rattle.graph_steps.proofs.PlaneLaws.{all_read, held_part, lent_rows, rows_among, written_whole}
+use Rattle.graph_steps.proofs.PlaneLaws.{SameSides, all_read, held_part, lent_rows, rows_among, written_whole}
 
 -- ---- by the function
 
@@ -50,17 +24,7 @@ pub written_by_function : (k : Kernel) (function : Function) (which : Output) (s
     → Writes (function_image function k.step.now.node which format k.first.now (second_object second) (held_image old)) old new
     → Writes (kernel_image k (held_image old)) old new
 written_by_function k function which second format old new function_is which_is second_is known =
-    written_same (kernel_image k own) (image function which second format) old new
-    (ap (λ (f : Function). image f k.step.now.which k.second.now own.format) function_is
-    ∙ ap (λ (o : Output). image function o k.second.now own.format) which_is
-    ∙ ap (λ (s : SecondInput). image function which s own.format) second_is
-    ∙ ap (λ (f : Format). image function which second f) known)
-  where
-    own : ImageValue
-    own = held_image old
-
-    image : Function → Output → SecondInput → Format → ImageValue
-    image f o s out = function_image f k.step.now.node o out k.first.now (second_object s) own
+    written_same _ _ old new (rw (← function_is, ← which_is, ← second_is, ← known))
 
 -- ---- integral images
 
@@ -189,8 +153,8 @@ module _ {T : Type 0} (value : T → ℤ) (shown : List T → List ℤ) (shows :
       sizes : (a b c : ℕ) → from ≡ a → n ≡ b → w ≡ c → (a + b) * c ≤ length (map value block) → start + many ≤ length block
       sizes a b c e f h enough = rw (e, f, h) (let long = length-map block value in grind arith)
 
-pub same_sides : (a b : Description) → same_size a b ≡ true → (a.width ≡ b.width) × (a.height ≡ b.height)
-same_sides a b h = let p = and_parts (a.width == b.width) (a.height == b.height) h in (eqb-true a.width b.width p.0, eqb-true a.height b.height p.1)
+pub same_sides : (a b : Description) → same_size a b ≡ true → SameSides a b
+same_sides a b h = let p = and_parts (a.width == b.width) (a.height == b.height) h in record { wide = eqb-true a.width b.width p.0; tall = eqb-true a.height b.height p.1 }
 
 -- the formats and sides of an integral image and its input
 pub can_sum : (s : Step) (first : ImageValue) (second : Option ObjectValue) (out : Description) → is_integral s.node.function ≡ true → CanMake s first second out
@@ -198,7 +162,7 @@ pub can_sum : (s : Step) (first : ImageValue) (second : Option ObjectValue) (out
 can_sum s first second out scans can =
     let formats = integral_formats s.node.function first.format (option_and_then object_format second) out.format scans can.formats in
     let sides = same_sides out (description_of first) can.size in
-    (formats.0, formats.1, sym sides.0, sym sides.1)
+    (formats.0, formats.1, sym sides.wide, sym sides.tall)
 
 -- the step's image has a sample for each pixel
 pub sized_image : (s : Step) (first : ImageValue) (second : Option ObjectValue) (own : ImageValue) → length (image_from_inputs s first second own).samples ≡ first.height * first.width
@@ -216,12 +180,7 @@ whole_takes p rows w is = subst (λ (r : Band). TakesRows r p) (sym is) (record 
   within = omega arith;
   valid = w.valid;
   top = (let t = w.top in omega arith);
-  room =
-      (let t = w.top in
-      let n : 0 - p.top + p.desc.height ≡ p.desc.height = omega arith in
-      let m : (0 - p.top + p.desc.height) * p.desc.width ≡ p.desc.height * p.desc.width = ap (λ k. k * p.desc.width) n in
-      let s = w.size in
-      omega arith);
+  room = rw (w.top, w.size) (omega arith);
 })
 
 -- and then it holds the step's image
@@ -233,7 +192,7 @@ module _ (s : Step) (first : ImageValue) (second : Option ObjectValue) (p : Plan
   made_size =
       let sides = same_sides p.desc (description_of first) can.size in
       sized_image s first second (block_image p)
-      ∙ ap (λ n. n * first.width) (sym sides.1) ∙ ap (λ n. p.desc.height * n) (sym sides.0)
+      ∙ ap (λ n. n * first.width) (sym sides.tall) ∙ ap (λ n. p.desc.height * n) (sym sides.wide)
       ∙ ap (λ (d : Description). d.height * d.width) (sym (made_description s first second p.desc (block_image p) can refl))
 
   all_own : plane_image (with_read_rows (all_rows p.desc.height) p) ≡ block_image p

@@ -1,3 +1,4 @@
+mod Common
 pub mod KernelLaws
 pub mod PlaneLaws
 pub mod StepLaws

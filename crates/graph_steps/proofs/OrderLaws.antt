@@ -1,30 +1,15 @@
 -- Steps that run one after the other over whole images leave a solution.
-use Rattle.std.proofs.Common.{◌≡◌, ◌≢◌, ℕ, List, [], ◌∷◌, length, refl, sym, ◌∙◌, ap, subst, inl, inr, cond, eqb, Option}
-use Rattle.std.specs.Prelude.{◌⊎◌}
-use Rattle.std.proofs.lemmas.Bool.{cases_Bool, eqb-true, eqb-false}
-use Rattle.vx_base.specs.Description.{Description}
-use Rattle.vx_base.specs.Image.{ImageValue, IsImage, description_of}
-use Rattle.vx_base.specs.Object.{ObjectValue}
-use Rattle.graph_steps.specs.declared.step.Step.{Step}
-use Rattle.graph_steps.specs.declared.step.Task.{Task}
-use Rattle.graph_steps.specs.declared.step.Task.TheVariants.{Write, Reduce}
-use Rattle.graph_steps.specs.Planes.{PlaneValue, plane, block_images}
-use Rattle.graph_steps.specs.Steps.{ReadsPlane, CanMake, SuitsPlanes, second_in, second_plane, step_image}
-use Rattle.graph_steps.specs.Program.{IsStepOf, IsUnwritten, HaveOneWriter, AreInOrder, KeepsBlock, IsLive, IsProgram, SolvesSteps, with_image, steps_in_turn, IsWritten, AreFilled}
+use Rattle.std.proofs.Common.{◌≡◌, ◌≢◌, ℕ, List, [], ◌∷◌, length, refl, sym, ◌∙◌, ap, subst, inl, inr, arith, Option}
+use Rattle.std.proofs.lemmas.Bool.Decides.{nat_tests}
+use Rattle.graph_steps.proofs.Common.{AreFilled, AreInOrder, CanMake, Description, HaveOneWriter, ImageValue, IsImage, IsLive, IsProgram, IsStepOf, IsUnwritten, IsWritten, KeepsBlock, ObjectValue, PlaneValue, ReadsPlane, Reduce, SolvesSteps, Step, SuitsPlanes, Task, Write, block_images, description_of, plane, second_in, second_plane, step_image, steps_in_turn, with_image, ◌⊎◌}
 use Rattle.graph_steps.proofs.KernelLaws.{made_description}
 use Rattle.graph_steps.proofs.StepLaws.{same_or_other, can_make, made_is, object_told, step_image_same}
 
 there : (c : ℕ) (image : ImageValue) (images : ℕ → ImageValue) → with_image c image images c ≡ image
-there c image images = elim (cases_Bool (eqb c c)) [
-  | inl e ↦ ap (λ b. cond b image (images c)) e
-  | inr e ↦ absurd (eqb-false c c e refl)
-]
+there c image images = grind (arith, nat_tests)
 
 elsewhere : (c k : ℕ) (image : ImageValue) (images : ℕ → ImageValue) → k ≢ c → with_image c image images k ≡ images k
-elsewhere c k image images other = elim (cases_Bool (eqb k c)) [
-  | inl e ↦ absurd (other (eqb-true k c e))
-  | inr e ↦ ap (λ b. cond b image (images k)) e
-]
+elsewhere c k image images other = grind (arith, nat_tests)
 
 module _ (tables : ℕ → Option ObjectValue) where
   abbrev next : Step → (ℕ → ImageValue) → ℕ → ImageValue
@@ -42,9 +27,7 @@ module _ (tables : ℕ → Option ObjectValue) where
       → steps_in_turn tables tasks images t.output ≡ step_image tables t (steps_in_turn tables tasks images) (images t.output)
   written_is [] images order one t i = absurd i
   written_is (Write s ∷ later) images order one t i = elim i [
-    | inl e ↦
-        let P : Step → Type 0 = λ u. steps_in_turn tables later (next s images) u.output ≡ step_image tables u (steps_in_turn tables later (next s images)) (images u.output) in
-        subst P (sym e)
+    | inl e ↦ rw e
         (others_stay later (next s images) s.output one.0
         ∙ there s.output (step_image tables s images (images s.output)) images
         ∙ step_image_same tables s images (steps_in_turn tables later (next s images)) (λ c reads. sym (others_stay (Write s ∷ later) images c (order.0 c reads))) (images s.output))
@@ -69,9 +52,7 @@ module _ (tables : ℕ → Option ObjectValue) where
 
       described_next : AreDescribed (next s images)
       described_next c = elim (same_or_other c s.output) [
-        | inl e ↦
-            let P : ℕ → Type 0 = λ k. description_of (next s images k) ≡ (plane planes k).desc in
-            subst P (sym e)
+        | inl e ↦ rw e
             (ap description_of (there s.output (step_image tables s images (images s.output)) images)
             ∙ made_description s (images s.first) (second_in tables images s.second) (plane planes s.output).desc (images s.output) can format)
         | inr other ↦ ap description_of (elsewhere s.output c (step_image tables s images (images s.output)) images other) ∙ described c
@@ -90,12 +71,12 @@ module _ (tables : ℕ → Option ObjectValue) where
         let here : IsImage (next s images s.output) = next_is s images (suits s (inl refl)) described (λ k r. live k (inl r)) in
         images_are later (next s images) (λ t i. suits t (inr i)) (described_next s images (suits s (inl refl)) described)
         (λ k l. elim (same_or_other k s.output) [
-          | inl e ↦ (let P : ℕ → Type 0 = λ j. IsImage (next s images j) in subst P (sym e) here)
+          | inl e ↦ rw e here
           | inr other ↦ subst IsImage (sym (elsewhere s.output k (step_image tables s images (images s.output)) images other)) (live k (inr (other, l)))
         ])
         c
         (elim (same_or_other c s.output) [
-          | inl e ↦ inl (let P : ℕ → Type 0 = λ j. IsImage (next s images j) in subst P (sym e) here)
+          | inl e ↦ inl (rw e here)
           | inr other ↦ elim h [
             | inl is ↦ inl (subst IsImage (sym (elsewhere s.output c (step_image tables s images (images s.output)) images other)) is)
             | inr w ↦ elim w.1 [

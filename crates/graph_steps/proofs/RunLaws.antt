@@ -1,33 +1,10 @@
 -- Band after band.
-use Rattle.std.proofs.Common.{◌≡◌, ℕ, ◌+◌, ◌-◌, ◌*◌, ◌<◌, ◌≤◌, ◌^◌, min, true, false, List, [], ◌∷◌, length, nat_lt, ◌||◌, refl, sym, ◌∙◌, ap, subst, inl, inr, arith, Option}
-use Rattle.std.specs.Prelude.{◌⊎◌}
-use Rattle.std.proofs.lemmas.Bool.{cases_Bool}
-use Rattle.std.proofs.lemmas.Bool.Decides.{nat_tests}
-use Rattle.vx_base.specs.declared.format.Format.{Format}
-use Rattle.vx_base.specs.declared.function.Function.{Function}
-use Rattle.vx_base.specs.Description.{Description}
-use Rattle.vx_base.specs.Function.{accumulates}
-use Rattle.vx_base.specs.Image.{ImageValue, IsImage, pixel_at, band as samples_in_band}
-use Rattle.vx_base.specs.Object.{ObjectValue}
-use Rattle.vx_base.proofs.TableLaws.{band-same}
-use Rattle.vx_base.proofs.ImageLaws.{same_parts, samples_are_band}
-use Rattle.image_core.specs.declared.band.Band.{Band}
-use Rattle.image_core.specs.Bands.{IsInRows, all_rows, has_row}
-use Rattle.node_rows.specs.Rows.{AreAlike}
-use Rattle.graph_steps.specs.declared.step.Reduction.{Reduction}
-use Rattle.graph_steps.specs.declared.step.Step.{Step}
-use Rattle.graph_steps.specs.declared.step.Task.{Task}
-use Rattle.graph_steps.specs.declared.step.Task.TheVariants.{Write, Reduce}
-use Rattle.graph_steps.specs.Planes.{PlaneValue, plane, plane_image, block_image, block_images, read_images, with_halo, IsReadable, IsWhole}
-use Rattle.graph_steps.specs.Steps.{Suits, is_integral, reads_output, second_plane, capacities, blocks_after_step}
-use Rattle.graph_steps.specs.Program.{IsStepOf, Reduces, IsUnwritten, halo, band_rows, after_tasks, KeepsBlock, IsLive, HaveCapacity, blocks_after_tasks, NamesPlanes, IsClient, IsProgram, SolvesSteps}
-use Rattle.graph_steps.specs.declared.tally.Tally.{Tally}
-use Rattle.graph_steps.specs.Tallies.{IsNew, TakesFormat, IsBounded, with_rows_added, tally_of, tally_at, all_tallies_after}
-use Rattle.graph_steps.specs.Runs.{CanReduceBand, CanRunBand}
+use Rattle.std.proofs.Common.{◌≡◌, ℕ, ◌+◌, ◌-◌, ◌*◌, ◌<◌, ◌≤◌, ◌^◌, min, true, false, List, length, ◌||◌, refl, sym, ◌∙◌, ap, subst, inl, inr, arith, Option}
+use Rattle.graph_steps.proofs.Common.{AreAlike, Band, CanReduceBand, CanRunBand, Description, Function, HaveCapacity, ImageValue, IsClient, IsInRows, IsLive, IsNew, IsProgram, IsReadable, IsStepOf, IsUnwritten, IsWhole, KeepsBlock, ObjectValue, PlaneValue, Reduces, Reduction, SolvesSteps, Step, Tally, Task, accumulates, after_tasks, all_rows, all_tallies_after, band-same, band_rows, block_image, block_images, blocks_after_tasks, capacities, cases_Bool, halo, has_row, is_integral, nat_tests, pixel_at, plane, plane_image, read_images, reads_output, same_parts, samples_are_band, second_plane, tally_at, tally_of, with_halo, with_rows_added, ◌⊎◌}
 use Rattle.graph_steps.proofs.TallyLaws.{tally_above, added_above, none_above, all_above, bounded_more, bounded_less, format_kept}
 use Rattle.graph_steps.proofs.ReduceLaws.{Adds, AgreesWith, band_adds, band_adds_whole, tallies_length}
-use Rattle.graph_steps.proofs.PlaneLaws.{read_at, all_read}
-use Rattle.graph_steps.proofs.BandLaws.{room_same, halo_within, band_next, band_count, band_desc, band_capacities, band_leaves, band_keeps}
+use Rattle.graph_steps.proofs.PlaneLaws.{sides_of, read_at, all_read}
+use Rattle.graph_steps.proofs.BandLaws.{Ran, room_less, halo_within, band_runs}
 use Rattle.graph_steps.proofs.AgreeLaws.{agree_same, halo_has, HasRowAbove, Known, Knows, IsOwn, band_knows}
 
 -- a client's image can be read
@@ -36,51 +13,33 @@ client_readable p c = record {
   format = c.whole.format;
   rows = subst (IsInRows p.desc.height) (sym c.rows) (omega arith);
   top = (let t = c.whole.top in omega arith);
-  room =
-      (let t = c.whole.top in
-      let n : p.rows.start - p.top + p.rows.count ≡ p.desc.height = ap (λ (r : Band). r.start - p.top + r.count) c.rows ∙ omega arith in
-      let m : (p.rows.start - p.top + p.rows.count) * p.desc.width ≡ p.desc.height * p.desc.width = ap (λ k. k * p.desc.width) n in
-      let s = c.whole.size in
-      omega arith);
-  image = subst IsImage (sym (all_read p c.whole c.rows)) c.image;
+  room = rw (c.rows, c.whole.top, c.whole.size) (omega arith);
+  image = rw (all_read p c.whole c.rows) c.image;
 }
-
--- blocks that are large enough for a band are large enough for a smaller one
-room_less : (size less : ℕ) (halos : List ℕ) (descs : ℕ → Description) (steps : List Task) (blocks : List (Format × ℕ)) → less ≤ size → HaveCapacity size halos descs steps blocks → HaveCapacity less halos descs steps blocks
-room_less size less halos descs [] blocks h room = room
-room_less size less halos descs (Reduce r ∷ later) blocks h room = room_less size less halos descs later blocks h room
-room_less size less halos descs (Write s ∷ later) blocks h room = (
-  (λ t e.
-      let k = room.0 t e in
-      let d = descs s.output in
-      let more = halo halos s.output in
-      let m = fewer (min d.height (less + more + more)) (min d.height (size + more + more)) d.width (omega arith) in
-      let r = k.1 in
-      (k.0, omega arith)),
-  room_less size less halos descs later (blocks_after_step s blocks) h room.1,
-)
-  where
-    fewer : (a b c : ℕ) → a ≤ b → a * c ≤ b * c
-    fewer a b c h = grind arith
 
 -- a client's image equals an image with which it agrees in all rows
 same_image : (p : PlaneValue) (b : ImageValue) → length p.samples ≡ p.desc.height * p.desc.width → length b.samples ≡ b.height * b.width → AreAlike (block_image p) b
     → ((x y : ℕ) → x < p.desc.width → y < p.desc.height → pixel_at (block_image p) x y ≡ pixel_at b x y) → block_image p ≡ b
 same_image p b size long alike same =
-    same_parts (block_image p) b wide tall (ap (λ (d : Description). d.format) alike.description) alike.valid
+    let sides = sides_of alike.description in
+    same_parts (block_image p) b sides.wide sides.tall (ap (λ (d : Description). d.format) alike.description) alike.valid
     (sym (samples_are_band p.samples p.desc.width p.desc.height size)
     ∙ band-same p.desc.width 0 p.desc.height (pixel_at (block_image p)) (pixel_at b) (λ x y across from low. same x y across (omega arith))
-    ∙ ap (λ n. samples_in_band n 0 p.desc.height (pixel_at b)) wide
-    ∙ ap (λ n. samples_in_band b.width 0 n (pixel_at b)) tall
-    ∙ samples_are_band b.samples b.width b.height long)
-  where
-    wide : p.desc.width ≡ b.width
-    wide = ap (λ (d : Description). d.width) alike.description
+    ∙ rw (sides.wide, sides.tall) (samples_are_band b.samples b.width b.height long))
 
-    tall : p.desc.height ≡ b.height
-    tall = ap (λ (d : Description). d.height) alike.description
+-- the next band of a run: none of it was run, and it is as high as the size, or goes to the end
+pub record IsNext (high size : ℕ) (band : Band) : Type 0 where
+  pub fits : band.start + band.count < 2 ^ 16
+  pub less : band.count ≤ size
+  pub some : 1 ≤ band.count
+  pub ends : band.start + band.count ≤ high
+  pub wide : min size high ≤ band.start + band.count
+  pub begun : (band.start ≡ 0) ⊎ (min size high ≤ band.start)
 
-module _ (tables : ℕ → Option ObjectValue) (high size : ℕ) (halos : List ℕ) (steps : List Task) (origin : List PlaneValue) (program : IsProgram tables high size halos steps origin) where
+pub is_next : {high size : ℕ} {band : Band} → high < 2 ^ 16 → 0 < size → band.start < high → band.count ≡ min size (high - band.start) → (band.start ≡ 0) ⊎ (min size high ≤ band.start) → IsNext high size band
+is_next fit forward below is begun = record { fits = omega arith; less = omega arith; some = omega arith; ends = omega arith; wide = omega arith; begun = begun }
+
+module _ {tables : ℕ → Option ObjectValue} {high size : ℕ} {halos : List ℕ} {steps : List Task} {origin : List PlaneValue} (program : IsProgram tables high size halos steps origin) where
   abbrev kept : ℕ → Type 0
   kept = KeepsBlock (length origin) steps
 
@@ -102,76 +61,60 @@ module _ (tables : ℕ → Option ObjectValue) (high size : ℕ) (halos : List �
   }
 
   -- a band can run
-  pub can_run : (band : Band) (planes : List PlaneValue) → band.start + band.count < 2 ^ 16 → band.count ≤ size → Remains planes → CanRunBand tables high halos band kept steps planes
-  can_run band planes fits less r = record {
-    fits = fits;
+  pub can_run : (band : Band) (planes : List PlaneValue) → IsNext high size band → Remains planes → CanRunBand tables high halos band kept steps planes
+  can_run band planes next r = record {
+    fits = next.fits;
     halo_count = program.halo_count ∙ sym r.count;
-    within = λ s i. subst (λ n. NamesPlanes n s) (sym r.count) (program.within s i);
-    suits = λ s i.
-        subst (λ d. Suits tables high s d (plane planes (second_plane s.second)).desc (plane planes s.output).desc) (sym (r.desc s.first))
-        (subst (λ d. Suits tables high s (plane origin s.first).desc d (plane planes s.output).desc) (sym (r.desc (second_plane s.second)))
-        (subst (Suits tables high s (plane origin s.first).desc (plane origin (second_plane s.second)).desc) (sym (r.desc s.output)) (program.suits s i)));
-    reads = λ c live. let b = program.begins c live in subst IsReadable (sym (r.unwritten c b.1 b.0)) (client_readable (plane origin c) (program.clients c b.1));
+    within = λ s i. rw r.count (program.within s i);
+    suits = λ s i. rw (r.desc s.first, r.desc (second_plane s.second), r.desc s.output) (program.suits s i);
+    reads = λ c live. let b = program.begins c live in rw (r.unwritten c b.1 b.0) (client_readable (plane origin c) (program.clients c b.1));
     whole = r.whole;
     written = program.written;
     keeps = λ c k s i t e. k.1 s i t e;
     free = program.free;
     room =
         subst (HaveCapacity band.count halos (λ c. (plane planes c).desc) steps) (sym r.blocks)
-        (room_same band.count halos (λ c. (plane origin c).desc) (λ c. (plane planes c).desc) steps (capacities origin) (λ c. sym (r.desc c))
-        (room_less size band.count halos (λ c. (plane origin c).desc) steps (capacities origin) less program.room));
+        (room_less size band.count halos (λ c. (plane origin c).desc) (λ c. (plane planes c).desc) steps (capacities origin) next.less (λ c. sym (r.desc c)) program.room);
   }
 
-  module _ (band : Band) (planes : List PlaneValue) (fits : band.start + band.count < 2 ^ 16) (less : band.count ≤ size) (r : Remains planes) where
-    can : CanRunBand tables high halos band kept steps planes
-    can = can_run band planes fits less r
-
-    abbrev after : List PlaneValue
-    after = after_tasks tables halos band steps planes
-
-    pub remains_next : Remains after
-    remains_next = record {
-      count = band_count tables high halos band kept steps planes can ∙ r.count;
-      blocks = band_capacities tables high halos band kept steps planes can ∙ ap (blocks_after_tasks steps) r.blocks ∙ program.again;
-      desc = λ c. band_desc tables high halos band kept steps planes can c ∙ r.desc c;
-      whole = λ c k. (band_next tables high halos band kept steps planes can).whole c k;
-      unwritten = λ c k u. band_leaves tables high halos band kept steps planes can c k u ∙ r.unwritten c k u;
-    }
+  pub remains_next : (band : Band) (planes : List PlaneValue) → IsNext high size band → Remains planes → Remains (after_tasks tables halos band steps planes)
+  remains_next band planes next r =
+      let ran = band_runs steps planes (can_run band planes next r) in
+      record {
+        count = ran.count ∙ r.count;
+        blocks = ran.blocks ∙ ap (blocks_after_tasks steps) r.blocks ∙ program.again;
+        desc = λ c. ran.desc c ∙ r.desc c;
+        whole = ran.can.whole;
+        unwritten = λ c k u. ran.leaves c k u ∙ r.unwritten c k u;
+      }
 
   -- ---- reductions
 
-  pub reduces_after : (band : Band) (planes : List PlaneValue) (tallies : List Tally) → band.start + band.count < 2 ^ 16 → band.count ≤ size → Remains planes → CanReduceBand band.start steps planes tallies
+  pub reduces_after : (band : Band) (planes : List PlaneValue) (tallies : List Tally) → IsNext high size band → Remains planes → CanReduceBand band.start steps planes tallies
       → CanReduceBand (band.start + band.count) steps (after_tasks tables halos band steps planes) (all_tallies_after tables halos band steps planes tallies)
-  reduces_after band planes tallies fits less r reduces =
-      let can = can_run band planes fits less r in
+  reduces_after band planes tallies next r reduces =
+      let can = can_run band planes next r in
       record {
         apart = reduces.apart;
         reduces = λ q i.
             let c = reduces.reduces q i in
-            let a = band_adds tables high halos band kept steps planes tallies can reduces q i in
+            let a = band_adds steps planes tallies can reduces q i in
             let rows : Band = with_halo 0 (plane planes q.input).desc.height band in
             record {
-              input = (let n = band_count tables high halos band kept steps planes can in let k = c.input in omega arith);
-              tally = (let n = tallies_length tables high halos band kept steps planes tallies in let k = c.tally in omega arith);
+              input = (let n = (band_runs steps planes can).count in let k = c.input in omega arith);
+              tally = (let n = tallies_length tables halos band steps planes tallies in let k = c.tally in omega arith);
               format =
-                  subst (TakesFormat (plane (after_tasks tables halos band steps planes) q.input).desc.format) (sym a.is)
-                  (format_kept _ rows a.image (tally_at tallies q.tally) (subst (λ (d : Description). TakesFormat d.format (tally_at tallies q.tally)) (sym (band_desc tables high halos band kept steps planes can q.input)) c.format));
+                  rw (a.is, (band_runs steps planes can).desc q.input) (format_kept _ rows a.image (tally_at tallies q.tally) c.format);
               bounded =
-                  subst (IsBounded ((band.start + band.count) * 8192)) (sym a.is)
-                  (bounded_less (band.start * 8192 + rows.count * 8192) ((band.start + band.count) * 8192) (with_rows_added rows a.image (tally_at tallies q.tally)) (more band.start rows.count band.count (few (plane planes q.input).desc.height))
+                  rw a.is
+                  (bounded_less (band.start * 8192 + rows.count * 8192) ((band.start + band.count) * 8192) (with_rows_added rows a.image (tally_at tallies q.tally)) (omega arith)
                   (bounded_more (band.start * 8192) rows a.image (tally_at tallies q.tally) a.holds c.bounded));
             };
       }
-    where
-      few : (height : ℕ) → (with_halo 0 height band).count ≤ band.count
-      few height = omega arith
-
-      more : (a b c : ℕ) → b ≤ c → a * 8192 + b * 8192 ≤ (a + c) * 8192
-      more a b c h = omega arith
 
   -- ---- a solution
 
-  module _ (whole : ℕ → ImageValue) (solves : SolvesSteps tables (length origin) steps (block_images origin) whole) where
+  module _ {whole : ℕ → ImageValue} (solves : SolvesSteps tables (length origin) steps (block_images origin) whole) where
     -- before the band that begins with row `first`: the rows above it of each client's image are those of the solution, and where a step
     -- accumulates the others are as before the run
     pub record Stands (first : ℕ) (planes : List PlaneValue) : Type 0 where
@@ -189,13 +132,12 @@ module _ (tables : ℕ → Option ObjectValue) (high size : ℕ) (halos : List �
       own_valid = λ s i e. inl refl;
     }
 
-    module _ (band : Band) (planes : List PlaneValue) (fits : band.start + band.count < 2 ^ 16) (less : band.count ≤ size) (some : 1 ≤ band.count) (ends : band.start + band.count ≤ high) (wide : min size high ≤ band.start + band.count)
-        (begun : (band.start ≡ 0) ⊎ (min size high ≤ band.start)) (r : Remains planes) (stands : Stands band.start planes) where
+    module _ (band : Band) (planes : List PlaneValue) (is_next : IsNext high size band) (r : Remains planes) (stands : Stands band.start planes) where
       pub below : band.start < high
       below = omega arith
 
       runs : CanRunBand tables high halos band kept steps planes
-      runs = can_run band planes fits less r
+      runs = can_run band planes is_next r
 
       abbrev next : List PlaneValue
       next = after_tasks tables halos band steps planes
@@ -208,7 +150,7 @@ module _ (tables : ℕ → Option ObjectValue) (high size : ℕ) (halos : List �
 
       -- in a run of one band that is the first
       alone : high ≤ size → band.start ≡ 0
-      alone one = elim begun [ inl z ↦ z | inr k ↦ absurd (omega arith) ]
+      alone one = elim is_next.begun [ inl z ↦ z | inr k ↦ absurd (omega arith) ]
 
       -- a step that accumulates writes no row above the band, and none below it
       once_from : (s : Step) → IsStepOf s steps → accumulates s.node.function ≡ true → (height y : ℕ) → has_row (with_halo (halo halos s.output) height band) y ≡ true → band.start ≤ y
@@ -224,15 +166,11 @@ module _ (tables : ℕ → Option ObjectValue) (high size : ℕ) (halos : List �
       ]
         where
           past_last : (n : ℕ) → n ≡ 0 → has_row (with_halo n height band) y ≡ false
-          past_last n none =
-              let b : min (band.start + band.count + n) height - min (band.start - n) height ≤ y - min (band.start - n) height = omega arith in
-              grind (arith, nat_tests)
+          past_last n none = grind (arith, nat_tests)
 
-      own_is : (s : Step) → IsStepOf s steps → accumulates s.node.function ≡ true → IsOwn tables high halos band some below kept (block_images origin) whole (length origin) solves.images planes s
+      own_is : (s : Step) → IsStepOf s steps → accumulates s.node.function ≡ true → IsOwn halos band (block_images origin) whole planes s
       own_is s i e =
-          let d = r.desc s.output in
-          let w : (plane planes s.output).desc.width ≡ (plane origin s.output).desc.width = ap (λ (d : Description). d.width) d in
-          let h : (plane planes s.output).desc.height ≡ (plane origin s.output).desc.height = ap (λ (d : Description). d.height) d in
+          let sides = sides_of (r.desc s.output) in
           record {
             row = λ x y across near.
                 let low = (halo_has (halo halos s.output) (plane planes s.output).desc.height band y near).1 in
@@ -241,21 +179,19 @@ module _ (tables : ℕ → Option ObjectValue) (high size : ℕ) (halos : List �
             valid = stands.own_valid s i e;
           }
 
-      above_is : (s : Step) → IsStepOf s steps → is_integral s.node.function ≡ true → HasRowAbove tables high halos band some below kept (block_images origin) whole (length origin) solves.images planes s
+      above_is : (s : Step) → IsStepOf s steps → is_integral s.node.function ≡ true → HasRowAbove halos band whole planes s
       above_is s i e = elim (program.once s i (reads_above s.node.function e)) [
         | inr one ↦ inl (let z = alone one in omega arith)
         | inl (none, own) ↦
             inr (
               own,
               (λ x y across before low.
-                  let d = r.desc s.output in
-                  let w : (plane planes s.output).desc.width ≡ (plane origin s.output).desc.width = ap (λ (d : Description). d.width) d in
-                  let h : (plane planes s.output).desc.height ≡ (plane origin s.output).desc.height = ap (λ (d : Description). d.height) d in
+                  let sides = sides_of (r.desc s.output) in
                   stands.above s.output (program.written s i own) x y (omega arith) (omega arith) (omega arith)),
             )
       ]
 
-      knows : (c : ℕ) → IsLive kept steps c → Knows tables high halos band some below kept (block_images origin) whole (length origin) solves.images planes c
+      knows : (c : ℕ) → IsLive kept steps c → Knows halos band whole planes c
       knows c live =
           let b = program.begins c live in
           let same = r.unwritten c b.1 b.0 in
@@ -273,7 +209,7 @@ module _ (tables : ℕ → Option ObjectValue) (high size : ℕ) (halos : List �
           in_all : (height y : ℕ) → y < height → has_row (all_rows height) y ≡ true
           in_all height y low = grind (arith, nat_tests)
 
-      known : Known tables high halos band some below kept (block_images origin) whole (length origin) solves.images steps planes
+      known : Known tables high halos band kept (block_images origin) whole (length origin) steps planes
       known = record {
         can = runs;
         meets = record {
@@ -289,59 +225,42 @@ module _ (tables : ℕ → Option ObjectValue) (high size : ℕ) (halos : List �
         known = knows;
       }
 
-      solved : (c : ℕ) → kept c → Knows tables high halos band some below kept (block_images origin) whole (length origin) solves.images next c
-      solved = band_knows tables high halos band some below kept (block_images origin) whole (length origin) solves.images steps planes known
+      solved : (c : ℕ) → kept c → Knows halos band whole next c
+      solved = band_knows is_next.some below solves.images steps planes known
 
-      ends_with : CanRunBand tables high halos band kept [] next
-      ends_with = band_next tables high halos band kept steps planes runs
-
-      desc_next : (c : ℕ) → (plane next c).desc ≡ (plane planes c).desc
-      desc_next = band_desc tables high halos band kept steps planes runs
+      ran : Ran tables high halos band kept steps planes next
+      ran = band_runs steps planes runs
 
       pub stands_next : Stands (band.start + band.count) next
       stands_next = record {
-        alike = λ c k. inr (alike_block (plane next c) (whole c) (solved c k).agrees.alike);
+        alike = λ c k. inr (let a = (solved c k).agrees.alike in record { description = a.description; valid = a.valid });
         above = λ c k x y across below low.
-            let d = desc_next c ∙ r.desc c in
-            let w : (plane next c).desc.width ≡ (plane origin c).desc.width = ap (λ (d : Description). d.width) d in
-            let h : (plane next c).desc.height ≡ (plane origin c).desc.height = ap (λ (d : Description). d.height) d in
-            let v : (plane planes c).desc.width ≡ (plane origin c).desc.width = ap (λ (d : Description). d.width) (r.desc c) in
-            let g : (plane planes c).desc.height ≡ (plane origin c).desc.height = ap (λ (d : Description). d.height) (r.desc c) in
+            let d = ran.desc c ∙ r.desc c in
+            let sides = sides_of d in
+            let sides_before = sides_of (r.desc c) in
             elim (cases_Bool (has_row (band_rows next halos band c) y)) [
               | inl near ↦
                   let k2 = solved c k in
-                  let readable = ends_with.reads c k in
+                  let readable = ran.can.reads c k in
                   let has = halo_has (halo halos c) (plane next c).desc.height band y near in
-                  sym (read_at (plane next c) (ends_with.whole c k) (plane next c).rows readable.rows x y (omega arith) (k2.covers y near))
+                  sym (read_at (plane next c) (ran.can.whole c k) (plane next c).rows readable.rows x y (omega arith) (k2.covers y near))
                   ∙ k2.agrees.samples x y (omega arith) (omega arith) has.0 (omega (arith, has.2))
               | inr elsewhere ↦
-                  let before = subst (λ (e : Description). has_row (with_halo (halo halos c) e.height band) y ≡ false) (desc_next c) elsewhere in
-                  band_keeps tables high halos band kept steps planes runs c k x y (omega arith) (omega arith) before
+                  let before = subst (λ (e : Description). has_row (with_halo (halo halos c) e.height band) y ≡ false) (ran.desc c) elsewhere in
+                  ran.keeps c k x y (omega arith) (omega arith) before
                   ∙ stands.above c k x y across (above_first (halo halos c) (plane planes c).desc.height y before below (omega arith)) low
             ];
         own = λ s i e x y across from low.
             let k = program.written s i ((program.within s i).own e) in
-            let d = r.desc s.output in
-            let v : (plane planes s.output).desc.width ≡ (plane origin s.output).desc.width = ap (λ (d : Description). d.width) d in
-            let g : (plane planes s.output).desc.height ≡ (plane origin s.output).desc.height = ap (λ (d : Description). d.height) d in
+            let sides_before = sides_of (r.desc s.output) in
             let t = program.tall s.output in
-            band_keeps tables high halos band kept steps planes runs s.output k x y (omega arith) (omega arith) (once_below s i e (plane planes s.output).desc.height y (omega arith) (omega arith) from)
+            ran.keeps s.output k x y (omega arith) (omega arith) (once_below s i e (plane planes s.output).desc.height y (omega arith) (omega arith) from)
             ∙ stands.own s i e x y across (omega arith) low;
         own_valid = λ s i e. inr (solved s.output (program.written s i ((program.within s i).own e))).agrees.alike.valid;
       }
         where
-          alike_block : (p : PlaneValue) (image : ImageValue) → AreAlike (plane_image p) image → AreAlike (block_image p) image
-          alike_block p image a = record { description = a.description; valid = a.valid }
-
           above_first : (more height y : ℕ) → has_row (with_halo more height band) y ≡ false → y < band.start + band.count → y < height → y < band.start
-          above_first more height y elsewhere below low = elim (cases_Bool (nat_lt y band.start)) [
-            | inl e ↦ grind (arith, nat_tests)
-            | inr e ↦
-                let from : band.start ≤ y = grind (arith, nat_tests) in
-                let a : min (band.start - more) height ≤ y = omega arith in
-                let b : y - min (band.start - more) height < min (band.start + band.count + more) height - min (band.start - more) height = omega arith in
-                absurd (grind (arith, nat_tests))
-          ]
+          above_first more height y elsewhere below low = grind (arith, nat_tests)
 
     -- the tallies before the band that begins with row `first`
     pub record Tallied (first : ℕ) (old tallies : List Tally) : Type 0 where
@@ -351,14 +270,10 @@ module _ (tables : ℕ → Option ObjectValue) (high size : ℕ) (halos : List �
     pub tallied_first : (old : List Tally) → Tallied 0 old old
     tallied_first old = record {
       height = λ r i. inl refl;
-      is = λ r i new. none_above (whole r.input) (tally_at old r.tally) new ∙ ap (λ n. tally_above n (whole r.input) (tally_at old r.tally)) (zero_rows (plane origin r.input).desc.height);
+      is = λ r i new. none_above (whole r.input) (tally_at old r.tally) new ∙ ap (λ n. tally_above n (whole r.input) (tally_at old r.tally)) {x = 0} {y = min 0 (plane origin r.input).desc.height} (omega arith);
     }
-      where
-        zero_rows : (height : ℕ) → 0 ≡ min 0 height
-        zero_rows height = omega arith
 
-    module _ (band : Band) (planes : List PlaneValue) (fits : band.start + band.count < 2 ^ 16) (less : band.count ≤ size) (some : 1 ≤ band.count) (ends : band.start + band.count ≤ high) (wide : min size high ≤ band.start + band.count)
-        (begun : (band.start ≡ 0) ⊎ (min size high ≤ band.start)) (r : Remains planes) (stands : Stands band.start planes) where
+    module _ (band : Band) (planes : List PlaneValue) (is_next : IsNext high size band) (r : Remains planes) (stands : Stands band.start planes) where
       pub tallied_next : (old tallies : List Tally) → CanReduceBand band.start steps planes tallies → Tallied band.start old tallies → Tallied (band.start + band.count) old (all_tallies_after tables halos band steps planes tallies)
       tallied_next old tallies reduces before = record {
         height = λ q i. inr (tall q i);
@@ -369,27 +284,18 @@ module _ (tables : ℕ → Option ObjectValue) (high size : ℕ) (halos : List �
             let same = ap (λ (d : Description). with_halo 0 d.height band) (r.desc q.input) in
             a.is
             ∙ ap (λ b. with_rows_added b a.image (tally_at tallies q.tally)) same
-            ∙ ap (with_rows_added rows a.image) (before.is q i new ∙ ap (λ n. tally_above n (whole q.input) (tally_at old q.tally)) (starts height))
+            ∙ ap (with_rows_added rows a.image) (before.is q i new ∙ ap (λ n. tally_above n (whole q.input) (tally_at old q.tally)) (omega arith))
             ∙ added_above rows (band.start - halo halos q.input) (band.start + band.count - 1 + halo halos q.input) a.image (whole q.input) (tally_at old q.tally)
-            (solves.images q.input (let k = (reduces.reduces q i).input in let n = r.count in omega arith)) a.holds (near (halo halos q.input) height) (subst (λ n. IsInRows n rows) (sym (tall q i)) (halo_within 0 height band))
-            ∙ ap (λ n. tally_above n (whole q.input) (tally_at old q.tally)) (lasts height);
+            (solves.images q.input (let k = (reduces.reduces q i).input in let n = r.count in omega arith)) a.holds (λ y from to. (omega arith, omega arith)) (subst (λ n. IsInRows n rows) (sym (tall q i)) (halo_within 0 height band))
+            ∙ ap (λ n. tally_above n (whole q.input) (tally_at old q.tally)) (omega arith);
       }
         where
           adds : (q : Reduction) → Reduces q steps
-              → Adds tables high halos band kept (AgreesWith tables high halos band some (below band planes fits less some ends wide begun r stands) kept (block_images origin) whole (length origin) solves.images) planes tallies (all_tallies_after tables halos band steps planes tallies) q
-          adds q i = band_adds_whole tables high halos band some (below band planes fits less some ends wide begun r stands) kept (block_images origin) whole (length origin) solves.images steps planes tallies (known band planes fits less some ends wide begun r stands) reduces q i
+              → Adds band (AgreesWith halos band whole) planes tallies (all_tallies_after tables halos band steps planes tallies) q
+          adds q i = band_adds_whole is_next.some (below band planes is_next r stands) solves.images steps planes tallies (known band planes is_next r stands) reduces q i
 
           tall : (q : Reduction) → Reduces q steps → (whole q.input).height ≡ (plane origin q.input).desc.height
           tall q i = let a = adds q i in sym (ap (λ (d : Description). d.height) a.holds.alike.description) ∙ a.height ∙ ap (λ (d : Description). d.height) (r.desc q.input)
-
-          starts : (height : ℕ) → min band.start height ≡ (with_halo 0 height band).start
-          starts height = omega arith
-
-          lasts : (height : ℕ) → (with_halo 0 height band).start + (with_halo 0 height band).count ≡ min (band.start + band.count) height
-          lasts height = omega arith
-
-          near : (more height y : ℕ) → (with_halo 0 height band).start ≤ y → y < (with_halo 0 height band).start + (with_halo 0 height band).count → (band.start - more ≤ y) × (y ≤ band.start + band.count - 1 + more)
-          near more height y from to = (omega arith, omega arith)
 
     pub tallied_last : (first : ℕ) (old tallies : List Tally) → high ≤ first → Tallied first old tallies → (r : Reduction) → Reduces r steps → r.input < length origin → IsNew (tally_at old r.tally)
         → tally_at tallies r.tally ≡ tally_of (whole r.input) (tally_at old r.tally)
@@ -404,14 +310,34 @@ module _ (tables : ℕ → Option ObjectValue) (high size : ℕ) (halos : List �
 
     -- after the last band
     pub stands_last : (first : ℕ) (planes : List PlaneValue) → high ≤ first → Remains planes → Stands first planes → (c : ℕ) → kept c → block_image (plane planes c) ≡ whole c
-    stands_last first planes end r stands c k = same_image (plane planes c) (whole c) (r.whole c k).size (solves.images c k.0).size (alike_last (stands.alike c k))
+    stands_last first planes end r stands c k = same_image (plane planes c) (whole c) (r.whole c k).size (solves.images c k.0).size (elim (stands.alike c k) [ inl z ↦ absurd (let f = program.some in omega arith) | inr a ↦ a ])
         (λ x y across low.
-        let d = r.desc c in
-        let w : (plane planes c).desc.width ≡ (plane origin c).desc.width = ap (λ (d : Description). d.width) d in
-        let h : (plane planes c).desc.height ≡ (plane origin c).desc.height = ap (λ (d : Description). d.height) d in
+        let sides = sides_of (r.desc c) in
         let t = program.tall c in
         stands.above c k x y (omega arith) (omega arith) (omega arith))
-      where
-        alike_last : (first ≡ 0) ⊎ AreAlike (block_image (plane planes c)) (whole c) → AreAlike (block_image (plane planes c)) (whole c)
-        alike_last (inl z) = absurd (let f = program.some in omega arith)
-        alike_last (inr a) = a
+
+  -- ---- between two bands
+
+  -- before the band that begins with row `first`
+  pub record Between (first : ℕ) (planes : List PlaneValue) (old tallies : List Tally) : Type 0 where
+    pub remains : Remains planes
+    pub reduces : CanReduceBand first steps planes tallies
+    pub stands : (whole : ℕ → ImageValue) (solves : SolvesSteps tables (length origin) steps (block_images origin) whole) → Stands solves first planes
+    pub tallied : (whole : ℕ → ImageValue) (solves : SolvesSteps tables (length origin) steps (block_images origin) whole) → Tallied solves first old tallies
+
+  pub between_first : (old : List Tally) → CanReduceBand 0 steps origin old → Between 0 origin old old
+  between_first old reduces = record {
+    remains = remains_first;
+    reduces = reduces;
+    stands = λ whole solves. stands_first solves;
+    tallied = λ whole solves. tallied_first solves old;
+  }
+
+  pub between_next : (band : Band) (planes : List PlaneValue) (old tallies : List Tally) → IsNext high size band → Between band.start planes old tallies
+      → Between (band.start + band.count) (after_tasks tables halos band steps planes) old (all_tallies_after tables halos band steps planes tallies)
+  between_next band planes old tallies is_next b = record {
+    remains = remains_next band planes is_next b.remains;
+    reduces = reduces_after band planes tallies is_next b.remains b.reduces;
+    stands = λ whole solves. stands_next solves band planes is_next b.remains (b.stands whole solves);
+    tallied = λ whole solves. tallied_next solves band planes is_next b.remains (b.stands whole solves) old tallies b.reduces (b.tallied whole solves);
+  }

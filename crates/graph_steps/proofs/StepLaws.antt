@@ -1,41 +1,12 @@
 -- One step: the block that its output takes, and the rows that are written then.
-use Rattle.std.proofs.Common.{◌≡◌, ◌≢◌, ℕ, ◌+◌, ◌-◌, ◌*◌, ◌<◌, ◌≤◌, true, false, Bool, List, length, get_or, set, Option, Some, None, IfSome, IsTrue, refl, sym, ◌∙◌, ap, subst, inl, inr, arith, eqb, cond, min, max}
-use Rattle.std.specs.Prelude.{◌⊎◌}
-use Rattle.std.specs.Option.{option_and_then}
-use Rattle.std.proofs.lemmas.Bool.{cases_Bool, eqb-true, eqb-false}
-use Rattle.std.proofs.lemmas.List.{get_or-set_same, get_or-set_other, length-set, map-set, set-get_or, set-set, get_or_default}
-use Rattle.std.proofs.Math.ListN.{get_or-map}
-use Rattle.vx_base.specs.declared.format.Format.{Format}
-use Rattle.vx_base.specs.declared.node.Node.{Node}
-use Rattle.vx_base.specs.declared.output.Output.{Output}
-use Rattle.vx_base.specs.Description.{Description, same_size}
-use Rattle.vx_base.specs.Formats.{takes_formats}
-use Rattle.vx_base.specs.declared.format.Format.TheVariants.{U8}
-use Rattle.vx_base.specs.Function.{parameters, accumulates}
-use Rattle.vx_base.specs.Image.{ImageValue, IsImage, description_of, pixel_at}
-use Rattle.vx_base.specs.Object.{ObjectValue, ImageObject, IsObject, object_kind, object_format}
-use Rattle.vx_base.specs.Outputs.{node_image}
-use Rattle.vx_base.specs.Pixelwise.{formula_of_two}
+use Rattle.std.proofs.Common.{◌≡◌, ◌≢◌, ℕ, ◌+◌, ◌-◌, ◌*◌, ◌<◌, ◌≤◌, true, false, List, length, get_or, set, Option, Some, None, IfSome, IsTrue, refl, sym, ◌∙◌, ap, subst, inl, inr, arith, eqb, min, max}
+use Rattle.graph_steps.proofs.Common.{Band, CanMake, CanStep, CanWrite, Description, Format, ImageObject, ImageValue, IsCanonical, IsImage, IsInRows, IsObject, IsReadable, IsWhole, IsWithin, Node, Nothing, ObjectValue, Output, Plane, PlaneValue, ReadsPlane, SecondInput, SecondSource, Step, Suits, Table, TakesRows, U8, accumulates, after_step, blank_image, block_image, blocks_after_step, blocks_with_move, capacities, capacity, cases_Bool, description_of, eqb-false, eqb-true, formula_of_two, get_or-map, get_or-set_other, get_or-set_same, get_or_default, has_row, held_in_is, image_from_inputs, is_integral, length-set, made_image, map-set, matrix_in, meet_of, no_plane, node_image, object_format, object_kind, option_and_then, parameters, pixel_at, plane, plane_image, read_images, rows_image, same_size, scan_image, second_in, second_object, second_plane, set-get_or, set-set, step_image, sum_on, sums_above, with_block, with_moved_block, with_output_block, with_read_rows, with_rows, without_block, written_among, zero_outside_rows, ◌⊎◌}
 use Rattle.vx_base.specs.Sample.{IsSample}
-use Rattle.vx_base.specs.Rectangle.{meet_of, IsCanonical, IsWithin}
-use Rattle.vx_base.proofs.ImageLaws.{made_image}
 use Rattle.vx_base.proofs.NodeLaws.{node_image_is}
 use Rattle.vx_base.proofs.RectangleLaws.{bounded_canonical, bounded_within}
 use Rattle.vx_base.proofs.ResultLaws.{accumulated_is}
-use Rattle.image_core.specs.declared.band.Band.{Band}
-use Rattle.image_core.specs.declared.second.SecondInput.{SecondInput}
-use Rattle.image_core.specs.Bands.{IsInRows, has_row, zero_outside_rows}
 use Rattle.image_core.specs.Fits.{SecondHasSize}
-use Rattle.image_core.specs.Second.{second_object}
-use Rattle.image_core.proofs.HeldRows.{held_in_is}
-use Rattle.stat_kernels.specs.Sums.{sum_on}
 use Rattle.stat_kernels.proofs.ScanLaws.{scan_sample}
-use Rattle.node_rows.specs.Radius.{matrix_in}
-use Rattle.graph_steps.specs.declared.step.Step.{Step}
-use Rattle.graph_steps.specs.declared.step.SecondSource.{SecondSource}
-use Rattle.graph_steps.specs.declared.step.SecondSource.TheVariants.{Nothing, Plane, Table}
-use Rattle.graph_steps.specs.Planes.{PlaneValue, plane, no_plane, read_images, plane_image, block_image, with_read_rows, with_rows, with_block, without_block, written_among, IsReadable, IsWhole, TakesRows}
-use Rattle.graph_steps.specs.Steps.{ReadsPlane, second_in, image_from_inputs, is_integral, rows_image, scan_image, step_image, sums_above, CanMake, Suits, CanStep, CanWrite, blank_image, second_plane, with_moved_block, with_output_block, after_step, capacities, capacity, blocks_with_move, blocks_after_step}
 use Rattle.graph_steps.proofs.KernelLaws.{integral_formats, made_description, scan_description}
 use Rattle.graph_steps.proofs.PlaneLaws.{written_plane, written_size, written_elsewhere}
 
@@ -45,9 +16,6 @@ same_or_other a b = elim (cases_Bool (eqb a b)) [ inl e ↦ inl (eqb-true a b e)
 pub none_or_some : (o : Option ℕ) → (o ≡ None) ⊎ ((t : ℕ) × (o ≡ Some t))
 none_or_some None = inl refl
 none_or_some (Some t) = inr (t, refl)
-
-pub none_not_some : (o : Option ℕ) (t : ℕ) → o ≡ None → o ≡ Some t → ⊥
-none_not_some o t a b = let k : None ≡ Some t = sym a ∙ b in cc
 
 -- ---- the inputs of a step
 
@@ -94,13 +62,10 @@ module _ (tables : ℕ → Option ObjectValue) (b : Description) (images : ℕ �
       record {
         node = m.node;
         kind = kind_told s.node s.second m.kind;
-        formats = subst (λ f. takes f) (format_told s.second same) (subst (λ (d : Description). IsTrue (takes_formats s.node.function d.format (option_and_then object_format (told s.second)) (Some out.format))) (sym is) m.formats);
+        formats = (let format : first.format ≡ a.format = ap (λ (d : Description). d.format) is in rw (format, ← format_told s.second same) m.formats);
         size = subst (λ d. IsTrue (same_size out d)) (sym is) m.size;
         second_size = size_told first a s.second is same m.second_size;
       }
-    where
-      takes : Option Format → Type 0
-      takes f = IsTrue (takes_formats s.node.function first.format f (Some out.format))
 
 -- ---- the image that a step makes
 
@@ -122,12 +87,8 @@ accumulated_any n which format a own sums is =
 pub made_is : (s : Step) (first : ImageValue) (second : Option ObjectValue) (out : Description) (own : ImageValue) → CanMake s first second out → own.format ≡ out.format → IsImage first → IfSome second IsObject
     → IsImage (image_from_inputs s first second own)
 made_is s first second out own can same is object = elim (cases_Bool (accumulates s.node.function)) [
-  | inl sums ↦
-      let P : Bool → Type 0 = λ b. IsImage (node_image s.node s.which own.format first (cond b (Some (ImageObject own)) second)) in
-      subst P (sym sums) (accumulated_any s.node s.which own.format first own sums is)
-  | inr plain ↦
-      let P : Bool → Type 0 = λ b. IsImage (node_image s.node s.which own.format first (cond b (Some (ImageObject own)) second)) in
-      subst P (sym plain) (node_image_is s.node own.format first can.node is s.which second object can.kind (subst (λ f. IsTrue (takes_formats s.node.function first.format (option_and_then object_format second) (Some f))) (sym same) can.formats))
+  | inl sums ↦ rw sums (accumulated_any s.node s.which own.format first own sums is)
+  | inr plain ↦ rw plain (node_image_is s.node own.format first can.node is s.which second object can.kind (rw same can.formats))
 ]
 
 -- a step's image follows from the images that it reads
@@ -137,9 +98,7 @@ second_same tables (Plane c) a b same = ap (λ i. Some (ImageObject i)) (same c 
 second_same tables (Table k) a b same = refl
 
 pub step_image_same : (tables : ℕ → Option ObjectValue) (s : Step) (a b : ℕ → ImageValue) → ((c : ℕ) → ReadsPlane s c → a c ≡ b c) → (own : ImageValue) → step_image tables s a own ≡ step_image tables s b own
-step_image_same tables s a b same own =
-    ap (λ i. image_from_inputs s i (second_in tables a s.second) own) (same s.first (inl refl))
-    ∙ ap (λ o. image_from_inputs s (b s.first) o own) (second_same tables s.second a b (λ c e. same c (inr e)))
+step_image_same tables s a b same own = let second = second_same tables s.second a b (λ c e. same c (inr e)) in rw (same s.first (inl refl), second)
 
 -- ---- the image of which it writes rows
 
@@ -156,35 +115,27 @@ module _ (tables : ℕ → Option ObjectValue) (s : Step) (rows : Band) (out : P
   own_rows = plane_image (with_read_rows rows out)
 
   pub rows_image_same : (a b : ℕ → ImageValue) → ((c : ℕ) → ReadsPlane s c → a c ≡ b c) → rows_image tables s rows a out ≡ rows_image tables s rows b out
-  rows_image_same a b same =
-      ap (λ i. cond (is_integral s.node.function) (scan_image rows.start i out) (step_image tables s a own_rows)) (same s.first (inl refl))
-      ∙ ap (cond (is_integral s.node.function) (scan_image rows.start (b s.first) out)) (step_image_same tables s a b same own_rows)
+  rows_image_same a b same = let first = same s.first (inl refl) in rw (step_image_same tables s a b same own_rows, first)
 
   pub by_scan : (images : ℕ → ImageValue) (first : ImageValue) → is_integral s.node.function ≡ true → first ≡ images s.first → scan_image rows.start first out ≡ rows_image tables s rows images out
-  by_scan images first scans is =
-      ap (λ i. scan_image rows.start i out) is ∙ ap (λ b. cond b (scan_image rows.start (images s.first) out) (step_image tables s images own_rows)) (sym scans)
+  by_scan images first scans is = rw (is, scans)
 
   pub by_kernel : (images : ℕ → ImageValue) (first : ImageValue) (second : Option ObjectValue) → is_integral s.node.function ≡ false → first ≡ images s.first → second ≡ second_in tables images s.second
       → image_from_inputs s first second own_rows ≡ rows_image tables s rows images out
-  by_kernel images first second other is second_is =
-      ap (λ i. image_from_inputs s i second own_rows) is
-      ∙ ap (λ o. image_from_inputs s (images s.first) o own_rows) second_is
-      ∙ ap (λ b. cond b (scan_image rows.start (images s.first) out) (step_image tables s images own_rows)) (sym other)
+  by_kernel images first second other is second_is = rw (is, second_is, other)
 
   pub rows_description : (images : ℕ → ImageValue) → CanMake s (images s.first) (second_in tables images s.second) out.desc → description_of (rows_image tables s rows images out) ≡ out.desc
   rows_description images can =
-      let of : Bool → Description = λ b. description_of (cond b (scan_image rows.start (images s.first) out) (step_image tables s images own_rows)) in
       elim (cases_Bool (is_integral s.node.function)) [
-        | inl scans ↦ ap of scans ∙ scan_description rows.start s (images s.first) (second_in tables images s.second) out can
-        | inr other ↦ ap of other ∙ made_description s (images s.first) (second_in tables images s.second) out.desc own_rows can refl
+        | inl scans ↦ rw scans (scan_description rows.start s (images s.first) (second_in tables images s.second) out can)
+        | inr other ↦ rw other (made_description s (images s.first) (second_in tables images s.second) out.desc own_rows can refl)
       ]
 
   pub rows_image_is : (images : ℕ → ImageValue) → CanMake s (images s.first) (second_in tables images s.second) out.desc → IsImage (images s.first) → IfSome (second_in tables images s.second) IsObject → IsImage (rows_image tables s rows images out)
   rows_image_is images can is object =
-      let P : Bool → Type 0 = λ b. IsImage (cond b (scan_image rows.start (images s.first) out) (step_image tables s images own_rows)) in
       elim (cases_Bool (is_integral s.node.function)) [
-        | inl scans ↦ subst P (sym scans) (scan_is rows.start s (images s.first) (second_in tables images s.second) out can scans is)
-        | inr other ↦ subst P (sym other) (made_is s (images s.first) (second_in tables images s.second) out.desc own_rows can refl is object)
+        | inl scans ↦ rw scans (scan_is rows.start s (images s.first) (second_in tables images s.second) out can scans is)
+        | inr other ↦ rw other (made_is s (images s.first) (second_in tables images s.second) out.desc own_rows can refl is object)
       ]
 
 -- an element that is read
@@ -206,7 +157,7 @@ table_lent tables images source k t is there = there ∙ ap (second_in tables im
 
 -- a step's premise, by inputs that are read
 pub can_read : (s : Step) (a b : ImageValue) (o q : Option ObjectValue) (out : Description) → a ≡ b → o ≡ q → CanMake s b q out → CanMake s a o out
-can_read s a b o q out first second can = subst (λ k. CanMake s a k out) (sym second) (subst (λ i. CanMake s i q out) (sym first) can)
+can_read s a b o q out first second can = rw (first, second) can
 
 -- ---- blocks
 
@@ -240,7 +191,7 @@ module _ (t c top : ℕ) (planes : List PlaneValue) (from : t < length planes) (
 
   left_desc : (k : ℕ) → (plane left k).desc ≡ (plane planes k).desc
   left_desc k = elim (same_or_other k t) [
-    | inl e ↦ (let P : ℕ → Type 0 = λ j. (plane left j).desc ≡ (plane planes j).desc in subst P (sym e) (ap (λ (p : PlaneValue). p.desc) left_taken))
+    | inl e ↦ rw e (ap (λ (p : PlaneValue). p.desc) left_taken)
     | inr other ↦ ap (λ (p : PlaneValue). p.desc) (left_same k other)
   ]
 
@@ -252,7 +203,7 @@ module _ (t c top : ℕ) (planes : List PlaneValue) (from : t < length planes) (
 
   pub moved_desc : (k : ℕ) → (plane ready k).desc ≡ (plane planes k).desc
   moved_desc k = elim (same_or_other k c) [
-    | inl e ↦ (let P : ℕ → Type 0 = λ j. (plane ready j).desc ≡ (plane planes j).desc in subst P (sym e) (ap (λ (p : PlaneValue). p.desc) moved_at ∙ left_desc c))
+    | inl e ↦ rw e (ap (λ (p : PlaneValue). p.desc) moved_at ∙ left_desc c)
     | inr other ↦ ap (λ (p : PlaneValue). p.desc) (moved_elsewhere k other) ∙ left_desc k
   ]
 
@@ -274,7 +225,7 @@ pub record IsReady (s : Step) (rows : Band) (planes ready : List PlaneValue) : T
 pub not_more : (a b c : ℕ) → a ≤ b → a * c ≤ b * c
 not_more a b c h = grind arith
 
-module _ (tables : ℕ → Option ObjectValue) (high : ℕ) (s : Step) (rows : Band) (planes : List PlaneValue) (fits : CanStep tables high s rows planes) where
+module _ {tables : ℕ → Option ObjectValue} {high : ℕ} {s : Step} {rows : Band} {planes : List PlaneValue} (fits : CanStep tables high s rows planes) where
   own_ready : s.takes ≡ None → IsReady s rows planes planes
   own_ready none =
       let w = fits.whole none in
@@ -300,29 +251,21 @@ module _ (tables : ℕ → Option ObjectValue) (high : ℕ) (s : Step) (rows : B
   taken_ready t some =
       let b = fits.block t some in
       let to = fits.output in
-      let ready : List PlaneValue = with_moved_block t s.output rows.start planes in
-      let at_output : plane ready s.output ≡ with_block (plane planes t).format (plane planes t).samples rows.start (plane (set planes t (without_block (plane planes t))) s.output) = moved_at t s.output rows.start planes b.0 to in
-      let desc = moved_desc t s.output rows.start planes b.0 to s.output in
+      let at_output : plane (with_moved_block t s.output rows.start planes) s.output ≡ with_block (plane planes t).format (plane planes t).samples rows.start (plane (set planes t (without_block (plane planes t))) s.output) = moved_at t s.output rows.start planes b.0 to in
+      let desc : (plane (set planes t (without_block (plane planes t))) s.output).desc ≡ (plane planes s.output).desc = left_desc t s.output rows.start planes b.0 to s.output in
       record {
         count = moved_long t s.output rows.start planes b.0 to;
         desc = moved_desc t s.output rows.start planes b.0 to;
         others = λ k a untaken. moved_same t s.output rows.start planes b.0 to k a (λ e. untaken (some ∙ ap Some (sym e)));
-        own = λ none. absurd (none_not_some s.takes t none some);
+        own = λ none. absurd (cc);
         capacities = moved_capacities t s.output rows.start planes b.0 to ∙ ap (λ o. blocks_with_move o s.output (capacities planes)) (sym some);
-        output = record {
-          format = ap (λ (p : PlaneValue). p.format) at_output ∙ b.1 ∙ sym (ap (λ (d : Description). d.format) desc);
-          within = subst (λ (d : Description). IsInRows d.height rows) (sym desc) fits.within;
-          valid = subst (λ (p : PlaneValue). IsWithin p.valid p.desc.width p.desc.height) (sym at_output) (record { columns = omega arith; rows = omega arith });
-          top = (let e : (plane ready s.output).top ≡ rows.start = ap (λ (p : PlaneValue). p.top) at_output in omega arith);
-          room =
-              (let e : (plane ready s.output).top ≡ rows.start = ap (λ (p : PlaneValue). p.top) at_output in
-              let l : length (plane ready s.output).samples ≡ length (plane planes t).samples = ap (λ (p : PlaneValue). length p.samples) at_output in
-              let w : (plane planes s.output).desc.width ≡ (plane ready s.output).desc.width = sym (ap (λ (d : Description). d.width) desc) in
-              let r : rows.count * (plane ready s.output).desc.width ≤ length (plane planes t).samples = subst (λ n. rows.count * n ≤ length (plane planes t).samples) w b.2 in
-              let n : rows.start - (plane ready s.output).top + rows.count ≡ rows.count = omega arith in
-              let m : (rows.start - (plane ready s.output).top + rows.count) * (plane ready s.output).desc.width ≡ rows.count * (plane ready s.output).desc.width = ap (λ k. k * (plane ready s.output).desc.width) n in
-              omega (arith, m, r, l));
-        };
+        output = subst (TakesRows rows) (sym at_output) (record {
+          format = rw desc b.1;
+          within = rw desc fits.within;
+          valid = record { columns = omega arith; rows = omega arith };
+          top = omega arith;
+          room = rw desc (let same : rows.start - rows.start + rows.count ≡ rows.count = omega arith in rw same b.2);
+        });
       }
 
   pub ready_is : IsReady s rows planes (with_output_block s.takes s.output rows.start planes)
@@ -333,7 +276,7 @@ module _ (tables : ℕ → Option ObjectValue) (high : ℕ) (s : Step) (rows : B
 
 -- ---- after the step
 
-module _ (tables : ℕ → Option ObjectValue) (high : ℕ) (s : Step) (rows : Band) (planes : List PlaneValue) (fits : CanStep tables high s rows planes) where
+module _ {tables : ℕ → Option ObjectValue} {high : ℕ} {s : Step} {rows : Band} {planes : List PlaneValue} (fits : CanStep tables high s rows planes) where
   abbrev before : List PlaneValue
   before = with_output_block s.takes s.output rows.start planes
 
@@ -344,7 +287,7 @@ module _ (tables : ℕ → Option ObjectValue) (high : ℕ) (s : Step) (rows : B
   out = plane before s.output
 
   is : IsReady s rows planes before
-  is = ready_is tables high s rows planes fits
+  is = ready_is fits
 
   -- inputs are read as they were
   pub input_same : (c : ℕ) → ReadsPlane s c → plane before c ≡ plane planes c
@@ -423,7 +366,7 @@ module _ (tables : ℕ → Option ObjectValue) (high : ℕ) (s : Step) (rows : B
 
   pub after_desc : (k : ℕ) → (plane after k).desc ≡ (plane planes k).desc
   after_desc k = elim (same_or_other k s.output) [
-    | inl e ↦ (let P : ℕ → Type 0 = λ j. (plane after j).desc ≡ (plane planes j).desc in subst P (sym e) (ap (λ (p : PlaneValue). p.desc) after_output ∙ is.desc s.output))
+    | inl e ↦ rw e (ap (λ (p : PlaneValue). p.desc) after_output ∙ is.desc s.output)
     | inr other ↦ ap (λ (p : PlaneValue). p.desc) (get_or-set_other before s.output k _ no_plane other) ∙ is.desc k
   ]
 

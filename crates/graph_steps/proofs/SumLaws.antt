@@ -1,20 +1,7 @@
 -- Rows of an integral image in a block.
-use Rattle.std.proofs.Common.{◌≡◌, ℕ, ℤ, pos, ◌+◌, ◌-◌, ◌*◌, ◌<◌, ◌≤◌, true, false, List, ◌++◌, map, take, drop, length, get_or, get_or-take, get_or-drop, Some, None, refl, ap, ◌∙◌, sym, inl, inr, arith, ◌==◌, if◌then◌else◌, unsigned_abs}
-use Rattle.std.proofs.lemmas.Bool.{cases_lt}
-use Rattle.std.proofs.lemmas.Bool.Decides.{nat_tests}
-use Rattle.std.proofs.Math.ListN.{get_or-map}
-use Rattle.vx_base.specs.Description.{Description}
-use Rattle.vx_base.specs.declared.format.Format.{Format}
-use Rattle.vx_base.specs.declared.format.Format.TheVariants.{U32}
-use Rattle.vx_base.specs.Rectangle.{Rectangle}
-use Rattle.vx_base.specs.Image.{ImageValue, band, image_from, zero_outside, image_over}
-use Rattle.vx_base.proofs.TableLaws.{band-same}
-use Rattle.image_core.specs.declared.band.Band.{Band}
-use Rattle.image_core.specs.Bands.{IsInRows, rows_in}
+use Rattle.std.proofs.Common.{◌≡◌, ℕ, ℤ, pos, ◌+◌, ◌-◌, ◌*◌, ◌<◌, ◌≤◌, true, false, List, ◌++◌, map, take, drop, length, get_or, get_or-take, get_or-drop, refl, ap, ◌∙◌, sym, inl, inr, arith, ◌==◌, unsigned_abs}
+use Rattle.graph_steps.proofs.Common.{Band, Description, Format, ImageValue, IsInRows, PlaneValue, Rectangle, U32, band, band-same, cases_lt, get_or-map, image_from, image_over, last_row, nat_tests, row_sums, rows_in, scan_image, sum_on, sums_above, with_rows, written_among, zero_outside}
 use Rattle.image_core.proofs.BandLaws.{rows_made}
-use Rattle.stat_kernels.specs.Sums.{last_row, row_sums, sum_on}
-use Rattle.graph_steps.specs.Planes.{PlaneValue, with_rows, written_among}
-use Rattle.graph_steps.specs.Steps.{scan_image, sums_above}
 use Rattle.graph_steps.proofs.PlaneLaws.{rows_among}
 
 -- the sums in the row above, read from the block
@@ -27,19 +14,16 @@ lent_sums w top start from x front items across low from_is long is = elim (case
       let below : (start - top - 1) * w + x < from * w = omega (arith, more) in
       let not_top : (start == top) ≡ false = grind (arith, nat_tests) in
       let at_row : length front - w ≡ (start - top - 1) * w = omega (arith, long, more) in
-      ap (λ b. row_sums (if b then None else Some (drop (length front - w) front)) x) not_none
-      ∙ ap (λ n. get_or (drop n front) x 0) at_row
-      ∙ get_or-drop ((start - top - 1) * w) front x 0
+      rw (not_none, at_row, not_top)
+      (get_or-drop ((start - top - 1) * w) front x 0
       ∙ ap (λ l. get_or l ((start - top - 1) * w + x) 0) is
       ∙ get_or-take (from * w) items ((start - top - 1) * w + x) 0 below
-      ∙ ap unsigned_abs (sym (get_or-map pos items ((start - top - 1) * w + x) 0))
-      ∙ sym (ap (λ b. if b then 0 else unsigned_abs (get_or (map pos items) ((start - top - 1) * w + x) (pos 0))) not_top)
+      ∙ ap unsigned_abs (sym (get_or-map pos items ((start - top - 1) * w + x) 0)))
   | inr none ↦
       let nothing : from ≡ 0 = omega arith in
       let empty : length front ≡ 0 = long ∙ ap (λ n. n * w) nothing ∙ omega arith in
       let at_top : (start == top) ≡ true = grind (arith, nat_tests) in
-      ap (λ n. row_sums (if n == 0 then None else Some (drop (n - w) front)) x) empty
-      ∙ sym (ap (λ b. if b then 0 else unsigned_abs (get_or (map pos items) ((start - top - 1) * w + x) (pos 0))) at_top)
+      rw (empty, at_top)
 ]
   where
     times : (k n : ℕ) → n ≡ k + 1 → n * w ≡ k * w + w
@@ -80,10 +64,4 @@ sums_written image top rows from n w front back items out count room low from_is
 pub plane_summed : (p : PlaneValue) (image : ImageValue) (rows : Band) (valid : Rectangle) (format : Format) (width : ℕ) (samples new : List ℤ) → valid ≡ image.valid → format ≡ p.format → samples ≡ p.samples → width ≡ p.desc.width
     → new ≡ written_among p.top rows (image_from image.width image.height U32 image.valid (sum_on image rows.start (sums_above width p.top rows.start samples))) samples
     → (let q : PlaneValue = record { desc = p.desc; valid = valid; top = p.top; rows = rows; format = format; samples = new } in q) ≡ with_rows rows (scan_image rows.start image p) p
-plane_summed p image rows valid format width samples new valid_is format_is samples_are wide is =
-    ap (λ v. let q : PlaneValue = record { desc = p.desc; valid = v; top = p.top; rows = rows; format = format; samples = new } in q) valid_is
-    ∙ ap (λ f. let q : PlaneValue = record { desc = p.desc; valid = image.valid; top = p.top; rows = rows; format = f; samples = new } in q) format_is
-    ∙ ap (λ l. let q : PlaneValue = record { desc = p.desc; valid = image.valid; top = p.top; rows = rows; format = p.format; samples = l } in q)
-    (is
-    ∙ ap (λ l. written_among p.top rows (image_from image.width image.height U32 image.valid (sum_on image rows.start (sums_above width p.top rows.start l))) l) samples_are
-    ∙ ap (λ w. written_among p.top rows (image_from image.width image.height U32 image.valid (sum_on image rows.start (sums_above w p.top rows.start p.samples))) p.samples) wide)
+plane_summed p image rows valid format width samples new valid_is format_is samples_are wide is = rw (is, valid_is, format_is, samples_are, wide)

@@ -1,83 +1,35 @@
 -- Tallies that add rows of images band after band.
-use Rattle.std.proofs.Common.{◌≡◌, ℕ, ℤ, ◌+◌, ◌-◌, ◌*◌, ◌<◌, ◌≤◌, ◌^◌, zero, suc, Bool, List, [], ◌∷◌, ◌++◌, length, length-append, map, slice_index, cond, nat_le, nat_lt, ◌&&◌, ◌==◌, refl, sym, ◌∙◌, ap, subst, inl, inr, arith, replicate}
-use Rattle.std.specs.List.{range_with_len}
-use Rattle.std.specs.Ordering.{int_eq}
-use Rattle.std.specs.Prelude.{int_lt}
-use Rattle.std.proofs.lemmas.Bool.{cases_Bool, cases_lt}
-use Rattle.std.proofs.lemmas.Bool.Decides.{nat_tests}
-use Rattle.std.proofs.lemmas.List.{map-append, length-map, get_or_past, get_or-replicate, length-replicate}
+use Rattle.std.proofs.Common.{◌≡◌, ℕ, ℤ, ◌+◌, ◌-◌, ◌*◌, ◌<◌, ◌≤◌, ◌^◌, zero, suc, Bool, List, length, slice_index, refl, sym, ◌∙◌, ap, subst, arith, replicate}
+use Rattle.graph_steps.proofs.PlaneLaws.{sides_of}
+use Rattle.graph_steps.proofs.Common.{AgreeInRows, Band, CanAdd, Description, Format, ImageValue, IsBounded, IsImage, IsInRows, IsNew, Rectangle, TakesFormat, Tally, all_rows, band_of, bin_sums, cases_lt, extremes, get_or-replicate, get_or_past, has_pixel, histogram, int_lt, length-map, length-replicate, nat_tests, no_extremes, pixel_at, rectangle_pixels, run-same, samples_in, tallies, tally_of, valid_in, valid_samples, with_rows_added}
 use Rattle.std.proofs.lemmas.List.FromFn.{get_or-map-range_with_len, length-map-range_with_len}
-use Rattle.vx_base.specs.declared.format.Format.{Format}
-use Rattle.vx_base.specs.Description.{Description}
-use Rattle.vx_base.specs.Image.{ImageValue, IsImage, pixel_at}
-use Rattle.vx_base.specs.Object.{no_extremes}
-use Rattle.vx_base.specs.Rectangle.{Rectangle, has_pixel}
-use Rattle.vx_base.specs.Statistics.{extremes, histogram, rectangle_pixels, row_pixels, samples_in, tallies, valid_samples}
 use Rattle.vx_base.proofs.PictureLaws.{side}
-use Rattle.vx_base.proofs.TableLaws.{run-same}
-use Rattle.vx_base.specs.Image.{run}
-use Rattle.std.specs.List.{flat_map}
-use Rattle.image_core.specs.declared.band.Band.{Band}
-use Rattle.image_core.specs.Bands.{IsInRows, all_rows}
-use Rattle.node_rows.specs.Rows.{AgreeInRows}
 use Rattle.stat_kernels.specs.declared.extreme.Extreme.{Extreme}
-use Rattle.stat_kernels.specs.Counts.{bin_sums}
 use Rattle.stat_kernels.specs.Extreme.{merge, shift_down, found_of}
-use Rattle.stat_kernels.specs.Part.{band_of, valid_in}
 use Rattle.stat_kernels.proofs.AlikeLaws.{parts_located}
-use Rattle.stat_kernels.proofs.BandLaws.{all_valid, bands_counted, extremes_few, few_samples, no_places, none_counted, none_located, one_row, row_of, rows_at, tally_few}
-use Rattle.graph_steps.specs.declared.tally.Tally.{Tally}
+use Rattle.std.proofs.lemmas.Nat.{mul-le}
+use Rattle.stat_kernels.proofs.PlaceLaws.{length-rows, samples_joined}
+use Rattle.stat_kernels.specs.Part.{columns_in}
+use Rattle.stat_kernels.proofs.BandLaws.{all_valid, bands_counted, extremes_few, few_samples, none_counted, none_located, rows_at, tally_few, rows_more, samples_none}
 use Rattle.graph_steps.specs.declared.tally.Tally.TheVariants as tally
-use Rattle.graph_steps.specs.Tallies.{with_rows_added, tally_of, IsNew, TakesFormat, CanAdd, IsBounded}
 
 -- ---- samples of images that agree
-
-row_samples : (f : ℕ → ℕ → ℤ) (x n y : ℕ) → map (λ p. f p.0 p.1) (row_pixels x n y) ≡ run x n (λ k. f k y)
-row_samples f x zero y = refl
-row_samples f x (suc n) y = ap (λ l. f x y ∷ l) (row_samples f (x + 1) n y)
-
-length-row : (x n y : ℕ) → length (row_pixels x n y) ≡ n
-length-row x zero y = refl
-length-row x (suc n) y = ap suc (length-row (x + 1) n y)
-
-length-rows : (x n y m : ℕ) → length (flat_map (row_pixels x n) (range_with_len y m)) ≡ m * n
-length-rows x n y zero = omega arith
-length-rows x n y (suc m) =
-    length-append (row_pixels x n y) (flat_map (row_pixels x n) (range_with_len (y + 1) m))
-    ∙ omega (arith, length-row x n y, length-rows x n (y + 1) m)
 
 length-samples : (r : Rectangle) (image : ImageValue) → length (samples_in r image) ≡ (r.y1 - r.y0) * (r.x1 - r.x0)
 length-samples r image = length-map (rectangle_pixels r) (λ p. pixel_at image p.0 p.1) ∙ length-rows r.x0 (r.x1 - r.x0) r.y0 (r.y1 - r.y0)
 
-row_same : (f g : ℕ → ℕ → ℤ) (r : Rectangle) (y : ℕ) → ((x : ℕ) → r.x0 ≤ x → x < r.x1 → r.y0 ≤ y → y < r.y1 → f x y ≡ g x y) → map (λ p. f p.0 p.1) (row_of r y) ≡ map (λ p. g p.0 p.1) (row_of r y)
-row_same f g r y same = elim (cases_Bool (nat_le r.y0 y && nat_lt y r.y1)) [
-  | inl e ↦
-      let is : row_of r y ≡ row_pixels r.x0 (r.x1 - r.x0) y = ap (λ b. cond b (row_pixels r.x0 (r.x1 - r.x0) y) []) e in
-      let top : r.y0 ≤ y = grind (arith, nat_tests) in
-      let bottom : y < r.y1 = grind (arith, nat_tests) in
-      ap (map (λ p. f p.0 p.1)) is
-      ∙ row_samples f r.x0 (r.x1 - r.x0) y
-      ∙ run-same (λ k. f k y) (λ k. g k y) r.x0 (r.x1 - r.x0) (λ k a b. same k a (omega arith) top bottom)
-      ∙ sym (row_samples g r.x0 (r.x1 - r.x0) y)
-      ∙ ap (map (λ p. g p.0 p.1)) (sym is)
-  | inr e ↦
-      let is : row_of r y ≡ [] = ap (λ b. cond b (row_pixels r.x0 (r.x1 - r.x0) y) []) e in
-      ap (map (λ p. f p.0 p.1)) is ∙ ap (map (λ p. g p.0 p.1)) (sym is)
-]
-
 rows_same : (a b : ImageValue) (r : Rectangle) (start count : ℕ) → ((x y : ℕ) → r.x0 ≤ x → x < r.x1 → r.y0 ≤ y → y < r.y1 → start ≤ y → y < start + count → pixel_at a x y ≡ pixel_at b x y)
     → samples_in (band_of (rows_at start count) r) a ≡ samples_in (band_of (rows_at start count) r) b
-rows_same a b r start zero same = ap (map (λ p. pixel_at a p.0 p.1)) (no_places r start) ∙ ap (map (λ p. pixel_at b p.0 p.1)) (sym (no_places r start))
+rows_same a b r start zero same = samples_none r a start ∙ sym (samples_none r b start)
 rows_same a b r start (suc count) same =
+    let y = start + count in
     let next : suc count ≡ count + 1 = omega arith in
-    let before = rectangle_pixels (band_of (rows_at start count) r) in
+    let rows = rows_same a b r start count (λ x y i j k l m n. same x y i j k l m (omega arith)) in
+    let row = run-same (λ k. pixel_at a k y) (λ k. pixel_at b k y) r.x0 (columns_in r y) (λ k low high. same k y low (grind (arith, nat_tests)) (grind (arith, nat_tests)) (grind (arith, nat_tests)) (omega arith) (omega arith)) in
     ap (λ n. samples_in (band_of (rows_at start n) r) a) next
-    ∙ ap (map (λ p. pixel_at a p.0 p.1)) (one_row r start count)
-    ∙ map-append (λ p. pixel_at a p.0 p.1) before (row_of r (start + count))
-    ∙ ap (λ l. l ++ map (λ p. pixel_at a p.0 p.1) (row_of r (start + count))) (rows_same a b r start count (λ x y i j k l m n. same x y i j k l m (omega arith)))
-    ∙ ap (λ l. map (λ p. pixel_at b p.0 p.1) before ++ l) (row_same (pixel_at a) (pixel_at b) r (start + count) (λ x i j k l. same x (start + count) i j k l (omega arith) (omega arith)))
-    ∙ sym (map-append (λ p. pixel_at b p.0 p.1) before (row_of r (start + count)))
-    ∙ ap (map (λ p. pixel_at b p.0 p.1)) (sym (one_row r start count))
+    ∙ samples_joined (pixel_at a) _ _ r.x0 (columns_in r y) y (rows_more r start count)
+    ∙ cc (rows, row)
+    ∙ sym (samples_joined (pixel_at b) _ _ r.x0 (columns_in r y) y (rows_more r start count))
     ∙ ap (λ n. samples_in (band_of (rows_at start n) r) b) (sym next)
 
 -- ---- one tally
@@ -92,10 +44,7 @@ band_few : (image : ImageValue) → IsImage image → (rows : Band) → length (
 band_few image is rows =
     let r = band_of rows image.valid in
     let high : r.y1 - r.y0 ≤ rows.count = grind (arith, nat_tests) in
-    omega (arith, length-samples r image, product (r.y1 - r.y0) (r.x1 - r.x0) rows.count high (omega (arith, side image.width is.sides.width, is.room.columns)))
-  where
-    product : (m k n : ℕ) → m ≤ n → k ≤ 8192 → m * k ≤ n * 8192
-    product m k n rows columns = grind arith
+    omega (arith, length-samples r image, mul-le (r.y1 - r.y0) (r.x1 - r.x0) rows.count 8192 high (omega (arith, side image.width is.sides.width, is.room.columns)))
 
 -- rows can be added where the rows above them were
 pub can_add : (first : ℕ) (rows : Band) (image : ImageValue) (t : Tally) → first < 2 ^ 16 → IsImage image → TakesFormat image.format t → IsBounded (first * 8192) t → CanAdd rows image t
@@ -113,32 +62,10 @@ can_add first rows image (tally.Extremes e) low is format bounded =
     record { format = format; room = (omega arith, omega arith) }
 
 added_most : (counts more : List ℕ) (k : ℕ) → slice_index (bin_sums counts more) k ≤ slice_index counts k + slice_index more k
-added_most counts more k = elim (cases_Bool (nat_lt k (length counts))) [
-  | inl e ↦
-      let below : k < length counts = grind (arith, nat_tests) in
-      let is = get_or-map-range_with_len (λ i. slice_index counts i + slice_index more i) 0 (length counts) k k 0 below (omega arith) in
-      omega arith
-  | inr e ↦
-      let past : length counts ≤ k = grind (arith, nat_tests) in
-      let long = length-map-range_with_len (λ i. slice_index counts i + slice_index more i) 0 (length counts) in
-      let is = get_or_past (bin_sums counts more) k 0 (omega arith) in
-      omega arith
-]
+added_most counts more k = grind (arith, nat_tests, cases_lt k (length counts), get_or-map-range_with_len, get_or_past, length-map-range_with_len)
 
 joined_most : (beyond : ℤ → ℤ → Bool) (a b : Extreme) → (merge beyond a b).count ≤ a.count + b.count
-joined_most beyond a b = elim (cases_Bool (b.count == 0)) [
-  | inl e ↦ rw e (omega arith)
-  | inr e ↦ elim (cases_Bool (a.count == 0)) [
-    | inl f ↦ rw (e, f) (omega arith)
-    | inr f ↦ elim (cases_Bool (beyond b.value a.value)) [
-      | inl g ↦ rw (e, f, g) (omega arith)
-      | inr g ↦ elim (cases_Bool (int_eq b.value a.value)) [
-        | inl h ↦ rw (e, f, g, h) (omega arith)
-        | inr h ↦ rw (e, f, g, h) (omega arith)
-      ]
-    ]
-  ]
-]
+joined_most beyond a b = grind (arith, nat_tests)
 
 -- rows that are added leave a bounded tally, of the same kind
 pub bounded_more : (most : ℕ) (rows : Band) (image : ImageValue) (t : Tally) → IsImage image → IsBounded most t → IsBounded (most + rows.count * 8192) (with_rows_added rows image t)
@@ -181,8 +108,7 @@ added_above rows first last a image (tally.Histogram d) is agree near room =
     (λ x y left right top bottom low high.
     let across = is.room.columns in
     let down = is.room.rows in
-    let w : a.width ≡ image.width = ap (λ (e : Description). e.width) agree.alike.description in
-    let h : a.height ≡ image.height = ap (λ (e : Description). e.height) agree.alike.description in
+    let sides = sides_of agree.alike.description in
     let n = near y low high in
     agree.samples x y (omega arith) (omega arith) n.0 n.1) in
     let counts : bin_sums (histogram b (valid_in (all_rows rows.start) image)) (histogram b (valid_in rows a)) ≡ histogram b (valid_in (all_rows (rows.start + rows.count)) image) =
@@ -197,8 +123,7 @@ added_above rows first last a image (tally.Extremes e) is agree near room =
         width = ap (λ (e : Description). e.width) agree.alike.description;
         valid = λ x. ap (λ r. has_pixel r x (rows.start + k)) agree.alike.valid ∙ ap (has_pixel image.valid x) (omega arith);
         samples = λ x across.
-            let w : a.width ≡ image.width = ap (λ (e : Description). e.width) agree.alike.description in
-            let h : a.height ≡ image.height = ap (λ (e : Description). e.height) agree.alike.description in
+            let sides = sides_of agree.alike.description in
             let n = near (rows.start + k) (omega arith) (omega arith) in
             agree.samples x (rows.start + k) (omega arith) (omega arith) n.0 n.1 ∙ ap (pixel_at image x) (omega arith);
       };
@@ -216,10 +141,7 @@ all_above image (tally.Extremes e) is = ap (λ i. tally.Extremes (extremes i)) (
 -- ---- all rows together
 
 zero_at : (n k : ℕ) → slice_index (replicate n 0) k ≡ 0
-zero_at n k = elim (cases_lt k n) [
-  | inl below ↦ get_or-replicate n k 0 0 below
-  | inr past ↦ get_or_past (replicate n 0) k 0 (omega (arith, length-replicate {A = ℕ} n 0, past))
-]
+zero_at n k = grind (arith, cases_lt k n, get_or-replicate, get_or_past, length-replicate)
 
 -- a new tally has no samples
 pub new_bounded : (t : Tally) → IsNew t → IsBounded (0 * 8192) t

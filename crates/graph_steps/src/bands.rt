@@ -22,6 +22,7 @@ use image_core::Band;
 
 /// Returns the output rows that a step writes for a band: the rows of the band and of the output's
 /// halo.
+#[tactic(auto, using(crate::proofs::StepLaws::plane_read))]
 fn rows_for(step: &Step, halos: &[u16], band: Band, planes: &[Plane]) -> Band
     requires fits { band.start + band.count < 2 ^ 16 }
     requires halo { step.now.output < length halos.now }

@@ -1,9 +1,6 @@
-use Rattle.std.proofs.Common.{get_or, ◌≡◌, ◌<◌, ◌^◌, ◌∙◌, ap, sym, subst, arith}
-use Rattle.std.proofs.lemmas.List.{get_or_default}
-use Rattle.vx_base.specs.Object.{no_extremes}
+use Rattle.std.proofs.Common.{◌≡◌, ◌<◌, ◌^◌, ◌∙◌, ap, arith}
+use Rattle.graph_steps.proofs.Common.{get_or_default, no_extremes, plane, plane_image, tally_at}
 use Rattle.graph_steps.specs.declared.tally.Tally.TheVariants as tally
-use Rattle.graph_steps.specs.Planes.{plane, plane_image}
-use Rattle.graph_steps.specs.Tallies.{CanAdd, tally_at}
 use Rattle.graph_steps.proofs.StepLaws.{plane_read}
 use Rattle.graph_steps.proofs.TallyLaws.{can_add}
 use Rattle.graph_steps.proofs.bands.reduce.Goals as goal
@@ -17,6 +14,5 @@ add-requires-clause-can c =
     let low : c.args.band.start < 2 ^ 16 = omega arith in
     let image : c.image.result ≡ plane_image (plane planes r.input) = c.image.ensures ∙ ap plane_image (plane_read planes r.input c.index-planes-reduction.result can.input c.index-planes-reduction.is) in
     let same = get_or_default c.args.tallies.now r.tally (tally.Extremes no_extremes) c.index-tallies-reduction.result can.tally in
-    subst (λ i. CanAdd c.with_halo-rows.result i (get_or c.args.tallies.now r.tally c.index-tallies-reduction.result)) (sym image)
-    (subst (CanAdd c.with_halo-rows.result (plane_image (plane planes r.input))) same
-    (can_add c.args.band.start c.with_halo-rows.result (plane_image (plane planes r.input)) (tally_at c.args.tallies.now r.tally) low c.requires.reads.image can.format can.bounded))
+    rw (image, ← same)
+    (can_add c.args.band.start c.with_halo-rows.result (plane_image (plane planes r.input)) (tally_at c.args.tallies.now r.tally) low c.requires.reads.image can.format can.bounded)

@@ -1,6 +1,5 @@
 use Rattle.std.proofs.Common.{◌∷◌, ◌∙◌, ap, refl, subst, sym}
-use Rattle.graph_steps.specs.declared.step.Task.{Task}
-use Rattle.graph_steps.specs.Steps.{CanStep, after_step}
+use Rattle.graph_steps.proofs.Common.{CanStep, Task, after_step}
 use Rattle.graph_steps.proofs.BandLaws.{task_can}
 use Rattle.graph_steps.proofs.ReduceLaws.{task_done}
 use Rattle.graph_steps.proofs.bands.run_band.Goals as goal

@@ -1,7 +1,5 @@
 use Rattle.std.proofs.Common.{◌≡◌, ℕ, length}
-use Rattle.graph_steps.specs.Program.{KeepsBlock, after_tasks}
-use Rattle.graph_steps.specs.Runs.{CanRunBand, CanReduceBand}
-use Rattle.graph_steps.specs.Tallies.{all_tallies_after}
+use Rattle.graph_steps.proofs.Common.{CanReduceBand, CanRunBand, KeepsBlock, after_tasks, all_tallies_after}
 use Rattle.graph_steps.proofs.bands.run_band.Given as goal
 
 abbrev pub invariant-loop-task : goal.invariant-loop-task

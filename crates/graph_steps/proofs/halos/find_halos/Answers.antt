@@ -1,5 +1,5 @@
 use Rattle.std.proofs.Common.{◌≡◌, ◌+◌, ◌-◌, ◌<◌, ◌∷◌, ◌∙◌, sym, subst, arith, length, drop}
-use Rattle.graph_steps.specs.Program.{AreInOrder, Suffice}
+use Rattle.graph_steps.proofs.Common.{AreInOrder, Suffice}
 use Rattle.graph_steps.proofs.HaloLaws.{in_read, later_in_order, one_more, from_one_before}
 use Rattle.graph_steps.proofs.halos.find_halos.Goals as goal
 

@@ -1,5 +1,5 @@
 use Rattle.std.proofs.Common.{ℕ, ◌≡◌, ◌-◌, ◌≤◌, length, drop}
-use Rattle.graph_steps.specs.Program.{halo, Suffice, IsUnread}
+use Rattle.graph_steps.proofs.Common.{IsUnread, Suffice, halo}
 use Rattle.graph_steps.proofs.halos.find_halos.Given as goal
 
 abbrev pub invariant-loop-k : goal.invariant-loop-k

@@ -1,6 +1,5 @@
 use Rattle.std.proofs.Common.{◌≡◌, ◌+◌, ◌<◌, ◌≤◌, ◌^◌, ◌∙◌, min, length, ap, inl, inr, refl, arith}
-use Rattle.std.proofs.lemmas.List.{length-set}
-use Rattle.graph_steps.specs.Program.{halo}
+use Rattle.graph_steps.proofs.Common.{halo, length-set}
 use Rattle.graph_steps.proofs.HaloLaws.{raised_one, raised_two}
 use Rattle.graph_steps.proofs.halos.raise_inputs.Goals as goal
 

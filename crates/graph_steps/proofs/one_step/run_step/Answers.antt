@@ -1,8 +1,5 @@
 use Rattle.std.proofs.Common.{List, ◌≡◌, ◌∙◌, ap, inl, inr, refl, slice_set, subst, sym}
-use Rattle.vx_base.specs.Image.{ImageValue}
-use Rattle.image_core.specs.Bands.{IsInRows}
-use Rattle.graph_steps.specs.Planes.{IsReadable, PlaneValue, read_images, with_rows}
-use Rattle.graph_steps.specs.Steps.{rows_image}
+use Rattle.graph_steps.proofs.Common.{ImageValue, IsInRows, PlaneValue, read_images, rows_image, with_rows}
 use Rattle.graph_steps.proofs.KernelLaws.{can_sum}
 use Rattle.graph_steps.proofs.StepLaws.{after_is, by_kernel, by_scan, can_read, can_write, image_read, plane_read}
 use Rattle.graph_steps.proofs.one_step.run_step.Goals as goal
@@ -16,26 +13,21 @@ make_ready-requires-clause-to g c = c.requires.1.output
 
 pub image-first-requires : goal.image-first-requires
 image-first-requires g c =
-    let tables = g.T.Tables.tables c.args.tables.now in
     let s = c.args.step.now in
-    let w = can_write tables c.requires.0 s c.args.rows c.args.planes.now c.requires.1 c.make_ready.new.planes c.make_ready.ensures c.index-planes-step.result c.take_out-output.new.self c.take_out-output.result c.take_out-output.ensures.value in
+    let w = can_write c.requires.1 _ c.make_ready.ensures _ c.take_out-output.new.self _ c.take_out-output.ensures.value in
     let reads = w.reads s.first (inl refl) in
-    subst IsReadable (sym (plane_read (slice_set c.make_ready.new.planes s.output c.take_out-output.new.self) s.first c.index-inputs-step.result reads.0 c.index-inputs-step.is)) reads.1
+    rw (plane_read _ s.first _ reads.0 c.index-inputs-step.is) reads.1
 
 pub second_input-second-requires : goal.second_input-second-requires
 second_input-second-requires g c =
-    let tables = g.T.Tables.tables c.args.tables.now in
-    let s = c.args.step.now in
-    let w = can_write tables c.requires.0 s c.args.rows c.args.planes.now c.requires.1 c.make_ready.new.planes c.make_ready.ensures c.index-planes-step.result c.take_out-output.new.self c.take_out-output.result c.take_out-output.ensures.value in
-    λ k e. w.reads k (inr e)
+    λ k e. (can_write c.requires.1 _ c.make_ready.ensures _ c.take_out-output.new.self _ c.take_out-output.ensures.value).reads k (inr e)
 
 pub write_sums-requires : goal.write_sums-requires
 write_sums-requires g c =
-    let tables = g.T.Tables.tables c.args.tables.now in
     let s = c.args.step.now in
-    let w = can_write tables c.requires.0 s c.args.rows c.args.planes.now c.requires.1 c.make_ready.new.planes c.make_ready.ensures c.index-planes-step.result c.take_out-output.new.self c.take_out-output.result c.take_out-output.ensures.value in
+    let w = can_write c.requires.1 _ c.make_ready.ensures _ c.take_out-output.new.self _ c.take_out-output.ensures.value in
     let others : List PlaneValue = slice_set c.make_ready.new.planes s.output c.take_out-output.new.self in
-    let first = image_read others s.first c.index-inputs-step.result c.image-first.result (w.reads s.first (inl refl)).0 c.index-inputs-step.is c.image-first.ensures in
+    let first = image_read others s.first _ _ (w.reads s.first (inl refl)).0 c.index-inputs-step.is c.image-first.ensures in
     let can = can_sum s (read_images others s.first) _ c.take_out-output.result.desc (sym c.is_integral.ensures ∙ c.if-is_integral.true) w.makes in
     record {
       input = ap (λ (i : ImageValue). i.format) first ∙ can.0;
@@ -48,11 +40,10 @@ write_sums-requires g c =
 
 pub write-requires : goal.write-requires
 write-requires g c =
-    let tables = g.T.Tables.tables c.args.tables.now in
     let s = c.args.step.now in
-    let w = can_write tables c.requires.0 s c.args.rows c.args.planes.now c.requires.1 c.make_ready.new.planes c.make_ready.ensures c.index-planes-step.result c.take_out-output.new.self c.take_out-output.result c.take_out-output.ensures.value in
+    let w = can_write c.requires.1 _ c.make_ready.ensures _ c.take_out-output.new.self _ c.take_out-output.ensures.value in
     let others : List PlaneValue = slice_set c.make_ready.new.planes s.output c.take_out-output.new.self in
-    let first = image_read others s.first c.index-inputs-step.result c.image-first.result (w.reads s.first (inl refl)).0 c.index-inputs-step.is c.image-first.ensures in
+    let first = image_read others s.first _ _ (w.reads s.first (inl refl)).0 c.index-inputs-step.is c.image-first.ensures in
     record {
       format = w.output.format;
       can = can_read s _ _ _ _ c.take_out-output.result.desc first c.second_input-second.ensures w.makes;
@@ -66,9 +57,9 @@ pub returns : goal.returns
 returns g c =
     let tables = g.T.Tables.tables c.args.tables.now in
     let s = c.args.step.now in
-    let w = can_write tables c.requires.0 s c.args.rows c.args.planes.now c.requires.1 c.make_ready.new.planes c.make_ready.ensures c.index-planes-step.result c.take_out-output.new.self c.take_out-output.result c.take_out-output.ensures.value in
+    let w = can_write c.requires.1 _ c.make_ready.ensures _ c.take_out-output.new.self _ c.take_out-output.ensures.value in
     let others : List PlaneValue = slice_set c.make_ready.new.planes s.output c.take_out-output.new.self in
-    let first = image_read others s.first c.index-inputs-step.result c.image-first.result (w.reads s.first (inl refl)).0 c.index-inputs-step.is c.image-first.ensures in
+    let first = image_read others s.first _ _ (w.reads s.first (inl refl)).0 c.index-inputs-step.is c.image-first.ensures in
     let out = c.take_out-output.result in
     let written : c.if-is_integral.output ≡ with_rows c.args.rows (rows_image tables s c.args.rows (read_images others) out) out = elim c.if-is_integral.branch [
       | then-is_integral b ↦
@@ -79,4 +70,4 @@ returns g c =
           ∙ ap (λ i. with_rows c.args.rows i out)
           (by_kernel tables s c.args.rows out (read_images others) c.image-first.result _ (sym c.is_integral.ensures ∙ b.if-is_integral.false) first b.second_input-second.ensures)
     ] in
-    after_is tables c.requires.0 s c.args.rows c.args.planes.now c.requires.1 c.make_ready.new.planes c.make_ready.ensures c.index-planes-step.result c.take_out-output.new.self out c.take_out-output.ensures.value c.if-is_integral.output written
+    after_is c.requires.1 _ c.make_ready.ensures _ _ _ c.take_out-output.ensures.value _ written

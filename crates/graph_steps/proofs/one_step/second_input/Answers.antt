@@ -1,5 +1,5 @@
 use Rattle.std.proofs.Common.{rules, sym, subst}
-use Rattle.graph_steps.specs.Planes.{read_images, IsReadable}
+use Rattle.graph_steps.proofs.Common.{IsReadable, read_images}
 use Rattle.graph_steps.proofs.StepLaws.{plane_lent, plane_read, table_lent}
 use Rattle.graph_steps.proofs.one_step.second_input.Goals as goal
 

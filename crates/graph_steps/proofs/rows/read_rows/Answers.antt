@@ -1,6 +1,5 @@
 use Rattle.std.proofs.Common.{◌∙◌, ap, sym, subst, refl}
-use Rattle.vx_base.specs.Image.{IsImage}
-use Rattle.image_core.specs.Bands.{image_over_rows}
+use Rattle.graph_steps.proofs.Common.{IsImage, image_over_rows}
 use Rattle.graph_steps.proofs.PlaneLaws.{lent_rows}
 use Rattle.graph_steps.proofs.rows.read_rows.Goals as goal
 

@@ -1,9 +1,5 @@
 use Rattle.std.proofs.Common.{◌≡◌, ◌∙◌, ◌*◌, ap, sym, arith, map, pos}
-use Rattle.vx_base.specs.declared.format.Format.TheVariants.{U32}
-use Rattle.vx_base.specs.Image.{band, image_from, zero_outside}
-use Rattle.stat_kernels.specs.Sums.{row_sums, sum_on}
-use Rattle.graph_steps.specs.Planes.{written_among}
-use Rattle.graph_steps.specs.Steps.{sums_above}
+use Rattle.graph_steps.proofs.Common.{U32, band, image_from, row_sums, sum_on, sums_above, written_among, zero_outside}
 use Rattle.graph_steps.proofs.SumLaws.{sums_written}
 use Rattle.graph_steps.proofs.rows.write_sums.Goals as goal
 

@@ -1,6 +1,5 @@
 use Rattle.std.proofs.Common.{refl, rules}
-use Rattle.vx_base.specs.declared.format.Format.TheVariants.{U8, S16}
-use Rattle.graph_steps.specs.Steps.{held_image}
+use Rattle.graph_steps.proofs.Common.{S16, U8, held_image}
 use Rattle.graph_steps.proofs.KernelLaws.{held_rows, written_by_function}
 use Rattle.graph_steps.proofs.kernel.Kernel.run.Goals as goal
 

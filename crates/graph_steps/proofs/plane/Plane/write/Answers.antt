@@ -1,6 +1,5 @@
 use Rattle.std.proofs.Common.{◌∙◌, ap, sym, refl, map, map-id, pos}
-use Rattle.vx_base.specs.Picture.{samples_format, values}
-use Rattle.graph_steps.specs.contracts.plane.Plane.{the_view}
+use Rattle.graph_steps.proofs.Common.{samples_format, the_view, values}
 use Rattle.graph_steps.proofs.KernelLaws.{plane_written}
 use Rattle.graph_steps.proofs.plane.Plane.write.Goals as goal
 

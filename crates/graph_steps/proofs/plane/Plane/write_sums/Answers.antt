@@ -1,8 +1,5 @@
 use Rattle.std.proofs.Common.{◌∙◌, ap, sym, map, pos, drop, length, take_at}
-use Rattle.vx_base.specs.Picture.{samples_format, values}
-use Rattle.graph_steps.specs.Planes.{with_rows}
-use Rattle.graph_steps.specs.Steps.{scan_image}
-use Rattle.graph_steps.specs.contracts.plane.Plane.{the_view}
+use Rattle.graph_steps.proofs.Common.{samples_format, scan_image, the_view, values, with_rows}
 use Rattle.graph_steps.proofs.SumLaws.{plane_summed}
 use Rattle.graph_steps.proofs.plane.Plane.write_sums.Goals as goal
 

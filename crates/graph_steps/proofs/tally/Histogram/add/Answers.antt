@@ -1,9 +1,5 @@
 use Rattle.std.proofs.Common.{◌≡◌, ◌≤◌, ◌∙◌, ap, length, length-take-le, take, take_at, arith}
-use Rattle.vx_base.specs.Object.{DistributionValue}
-use Rattle.vx_base.specs.Statistics.{histogram}
-use Rattle.stat_kernels.specs.Counts.{bin_sums}
-use Rattle.stat_kernels.specs.Part.{valid_in}
-use Rattle.graph_steps.specs.Tallies.{with_rows_counted}
+use Rattle.graph_steps.proofs.Common.{DistributionValue, bin_sums, histogram, valid_in, with_rows_counted}
 use Rattle.graph_steps.proofs.tally.Histogram.add.Goals as goal
 
 pub returns : goal.returns

@@ -1,6 +1,5 @@
 use Rattle.std.proofs.Common.{◌≤◌, ap, arith}
-use Rattle.std.proofs.lemmas.List.{take-replicate}
-use Rattle.vx_base.specs.Object.{DistributionValue}
+use Rattle.graph_steps.proofs.Common.{DistributionValue, take-replicate}
 use Rattle.graph_steps.proofs.tally.Histogram.new.Goals as goal
 
 pub returns : goal.returns

@@ -1,8 +1,5 @@
 use Rattle.std.proofs.Common.{◌≡◌, ◌∙◌, ap, arith}
-use Rattle.vx_base.specs.Description.{Description}
-use Rattle.image_core.specs.declared.band.Band.{Band}
-use Rattle.image_core.specs.Bands.{all_rows}
-use Rattle.graph_steps.specs.Tallies.{with_rows_added}
+use Rattle.graph_steps.proofs.Common.{Band, Description, all_rows, with_rows_added}
 use Rattle.graph_steps.proofs.TallyLaws.{can_add, new_bounded, whole_added}
 use Rattle.graph_steps.proofs.tally.Tally.add_all.Goals as goal
 
