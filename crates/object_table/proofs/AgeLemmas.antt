@@ -23,7 +23,7 @@ module _ (t : Context) (next : ℕ) (entries : List (ℕ × Entry)) (view : ◌�
 
   -- where nothing is held under the name, nothing ages
   pub none_to_age : lookup (is_at (nat_cmp name)) entries ≡ None → t ≡ with_objects t (aged_under (name ∷ []) t.objects)
-  none_to_age none = ap (with_objects t) (sym (objects_are t next entries view) ∙ sym (none_aged entries name none) ∙ ap (aged_under (name ∷ [])) (objects_are t next entries view))
+  none_to_age none = grind (arith, objects_are t next entries view, none_aged entries name none)
 
   -- what ages shows
   pub shown_aged : (old : Entry) (object : ObjectValue) (after : List (ℕ × Entry)) → lookup (is_at (nat_cmp name)) entries ≡ Some old → InOrder entries
@@ -72,9 +72,8 @@ graph_aged names objects name = grind (arith, held_aged names objects name)
 -- names apart, of which some are left out, and one more
 pub apart_and : (names : List ℕ) (p : ℕ → Bool) (name : ℕ) → AllPairs (λ a b. a ≢ b) names → list_any (λ n. n == name) names ≡ false → AllPairs (λ a b. a ≢ b) (filter p names ++ name ∷ [])
 apart_and names p name apart none =
-    all_pairs_push (λ a b. a ≢ b) (filter p names) name (AllPairs-filter (λ a b. a ≢ b) p names apart)
-    (All-filter p (λ n. n ≢ name) names (others names none))
+    all_pairs_push (λ a b. a ≢ b) (filter p names) name (AllPairs-filter (λ a b. a ≢ b) p names apart) (All-filter p (λ n. n ≢ name) names (others names none))
   where
     others : (l : List ℕ) → list_any (λ n. n == name) l ≡ false → All (λ n. n ≢ name) l
     others [] h = All-nil (λ n. n ≢ name)
-    others (n ∷ l) h = All-cons (λ m. m ≢ name) n l (eqb-false n name (grind arith)) (others l (grind arith))
+    others (n ∷ l) h = grind (arith, All-cons (λ m. m ≢ name) n l, eqb-false n name, others l)

@@ -11,8 +11,7 @@ blocks_of_skeleton other format = refl
 
 -- objects of one skeleton have as many
 pub same_blocks : (one other : ObjectValue) (format : Format) → skeleton one ≡ skeleton other → object_blocks one format ≡ object_blocks other format
-same_blocks one other format same =
-    sym (blocks_of_skeleton one format) ∙ ap (λ object. object_blocks object format) same ∙ blocks_of_skeleton other format
+same_blocks one other format same = cc (blocks_of_skeleton one format, blocks_of_skeleton other format)
 
 -- ---- of several
 

@@ -1,6 +1,6 @@
 -- Delays: images of one description.
-use Rattle.std.proofs.Common.{◌≡◌, ℕ, ◌*◌, ◌≤◌, List, [], ◌∷◌, length, map, refl, arith, sum_by, All, nat_le, IsTrue, leb-true}
-use Rattle.object_table.proofs.Common.{AllPairs, and_parts, length-map, get_or-map, All-head, All-tail, sum_by-cons, Description, ImageValue, IsImage, new_image, description_of, IsDelay, image_bytes, new_image_is, new_delay, All-replicate, IsDescription, byte_count, length-replicate}
+use Rattle.std.proofs.Common.{◌≡◌, ℕ, ◌*◌, ◌≤◌, List, [], ◌∷◌, length, map, refl, arith, sum_by, All, IsTrue}
+use Rattle.object_table.proofs.Common.{AllPairs, nat_tests, length-map, get_or-map, All-head, All-tail, sum_by-cons, Description, ImageValue, IsImage, new_image, description_of, IsDelay, image_bytes, new_image_is, new_delay, All-replicate, IsDescription, byte_count, length-replicate}
 use Rattle.vx_base.specs.Slots.{is_slot_count}
 
 -- images of one description take as many bytes as one of them, times their number
@@ -17,7 +17,7 @@ alike d images h i j default less within =
     grind (arith, length-map images description_of, each i, each j, made i, made j)
 
 pub count_is : (n : ℕ) → IsTrue (is_slot_count n) → (1 ≤ n) × (n ≤ 16)
-count_is n h = let both = and_parts (nat_le 1 n) (nat_le n 16) h in (leb-true 1 n both.0, leb-true n 16 both.1)
+count_is n h = grind (arith, nat_tests, h)
 
 -- a new delay is one
 pub new_delay_is : (d : Description) (slots : ℕ) → IsDescription d → 1 ≤ slots → slots ≤ 16 → IsDelay (new_delay d slots)

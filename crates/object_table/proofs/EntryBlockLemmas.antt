@@ -1,7 +1,6 @@
 -- In how many blocks of a pool the entries of a map have their samples.
 use Rattle.std.proofs.Common.{◌≡◌, ℕ, ◌+◌, List, [], ◌∷◌, map, Some, refl, arith, rules, sum_by}
-use Rattle.object_table.proofs.Common.{lookup, set_value, remove_entry, is_at, nat_cmp, sum_by-cons, Format, Entry, GraphValue, ObjectValue, GraphObject, object_kind, object_blocks, blocks_in, LendsAtLeast, Balances, NamedObject, entry_object, Kind}
-use Rattle.pixel_pool.specs.declared.pool.Pool.{Pool}
+use Rattle.object_table.proofs.Common.{lookup, set_value, remove_entry, is_at, nat_cmp, sum_by-cons, Format, Entry, GraphValue, ObjectValue, GraphObject, object_kind, object_blocks, blocks_in, NamedObject, entry_object, Kind}
 use Rattle.object_table.proofs.EntryLemmas.{sum-written, sum-removed}
 
 -- in how many blocks of a format they have theirs
@@ -23,24 +22,11 @@ pub blocks-removed : (entries : List (ℕ × Entry)) (name : ℕ) (old : Entry) 
 blocks-removed entries name old found format =
     omega (arith, blocks_is entries format, blocks_is (remove_entry (is_at (nat_cmp name)) entries) format, sum-removed (λ e. object_blocks e.1.object format) entries name old found)
 
--- ---- what is lent as the entries change
-
--- an entry that is written with an object of as many blocks
-module _ (entries : List (ℕ × Entry)) (name : ℕ) (old new : Entry) (written : List (ℕ × Entry))
-    (found : lookup (is_at (nat_cmp name)) entries ≡ Some old) (is : written ≡ set_value (is_at (nat_cmp name)) entries new) (same : (format : Format) → object_blocks new.object format ≡ object_blocks old.object format) where
-  as_many : (format : Format) → entry_blocks written format ≡ entry_blocks entries format
-  as_many format =
-      rw is (omega (arith, same format, blocks_is entries format, blocks_is (set_value (is_at (nat_cmp name)) entries new) format, sum-written (λ e. object_blocks e.1.object format) entries name old new found))
-
-  pub owns-written : (pool : Pool) → LendsAtLeast pool (blocks_in (map entry_object entries)) → LendsAtLeast pool (blocks_in (map entry_object written))
-  owns-written pool owns format = omega (arith, as_many format, owns format)
-
-  pub Balances-written : (pool : Pool) → Balances pool pool (map entry_object entries) (map entry_object written)
-  Balances-written pool format = omega (arith, as_many format)
-
-  -- and a change after it
-  pub Balances-written_then : (pool changed : Pool) (after : List (ℕ × Entry)) → Balances pool changed (map entry_object written) (map entry_object after) → Balances pool changed (map entry_object entries) (map entry_object after)
-  Balances-written_then pool changed after balances format = omega (arith, as_many format, balances format)
+-- an entry that is written leaves those of the others
+pub blocks-written : (entries : List (ℕ × Entry)) (name : ℕ) (old new : Entry) → lookup (is_at (nat_cmp name)) entries ≡ Some old
+    → (format : Format) → blocks_in (map entry_object (set_value (is_at (nat_cmp name)) entries new)) format + object_blocks old.object format ≡ blocks_in (map entry_object entries) format + object_blocks new.object format
+blocks-written entries name old new found format =
+    omega (arith, blocks_is entries format, blocks_is (set_value (is_at (nat_cmp name)) entries new) format, sum-written (λ e. object_blocks e.1.object format) entries name old new found)
 
 -- ---- graphs
 

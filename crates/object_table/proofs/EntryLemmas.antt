@@ -1,6 +1,6 @@
 -- Entries of a map by name, and what they show.
-use Rattle.std.proofs.Common.{◌≡◌, ℕ, ◌+◌, ◌<◌, ◌≤◌, true, cond, List, [], ◌∷◌, ◌++◌, ◌*◌, length, map, Option, Some, None, refl, sym, ap, subst, ◌∙◌, arith, rules, ◌==◌, nat_lt, ◌||◌, sum_by, unwrap_or, length-append, All, IsTrue}
-use Rattle.object_table.proofs.Common.{nat_cmp, keys_of, lookup, set_value, remove_entry, is_at, option_map, IsStrictlyIncreasing, cases_lt, and_parts, length-map, All-cons, All-head, All-tail, All-weaker, sum_by-cons, sum_by-le, sum_by_push, keys-set_value, length-set_value, sorted_tail, Kind, Reference, ImageValue, new_image, ObjectValue, ImageObject, object_bytes, object_kind, Entry, Context, object_named, charge_of, with_objects, object_in, with_slot, HasImage, object_held, with_object, image_value, IsUnder, entry_object, is_kept, IsTable, nodes_in, names_used_by, names_used, name_count, GREATEST_SLOTS, GREATEST_BYTES, All-push, HoldsImage, IsDistinct-from_sorted, IsStrictlySortedBy, can_insert, cell_object, image_held, insert_entry, lookup-none, none_past_head, object_under, reference_to, sorted_from_strictly_increasing, Format}
+use Rattle.std.proofs.Common.{◌≡◌, ℕ, ◌+◌, ◌<◌, ◌≤◌, true, cond, List, [], ◌∷◌, ◌++◌, ◌*◌, length, map, Option, Some, None, refl, ap, arith, rules, ◌==◌, nat_lt, sum_by, unwrap_or, All}
+use Rattle.object_table.proofs.Common.{nat_cmp, keys_of, lookup, set_value, remove_entry, is_at, option_map, IsStrictlyIncreasing, cases_lt, and_parts, length-map, All-cons, All-head, All-tail, sum_by-cons, sum_by-le, sorted_tail, Kind, Reference, ImageValue, new_image, ObjectValue, ImageObject, object_bytes, object_kind, Entry, Context, object_named, charge_of, with_objects, object_in, with_slot, HasImage, object_held, with_object, image_value, IsUnder, entry_object, IsTable, nodes_in, name_count, GREATEST_SLOTS, GREATEST_BYTES, HoldsImage, IsDistinct-from_sorted, IsStrictlySortedBy, can_insert, cell_object, image_held, insert_entry, lookup-none, none_past_head, object_under, reference_to, sorted_from_strictly_increasing, Format}
 use Rattle.std.proofs.lemmas.Cmp.{nat_cmp_total, eq_by_cmp_equiv}
 
 -- ---- keys
@@ -77,12 +77,6 @@ pub charge_is : (entries : List (ℕ × Entry)) → charge_of (map entry_object 
 charge_is [] = refl
 charge_is (e ∷ entries) = search (rules, charge_is entries, sum_by-cons)
 
--- names that the written object's nodes use as the old one's did
-used-written : (entries : List (ℕ × Entry)) (name : ℕ) (old new : Entry) → lookup (is_at (nat_cmp name)) entries ≡ Some old → new.live ≡ old.live → nodes_in new.object ≡ nodes_in old.object
-    → names_used (map entry_object (set_value (is_at (nat_cmp name)) entries new)) ≡ names_used (map entry_object entries)
-used-written [] name old new found live nodes = cc
-used-written (e ∷ entries) name old new found live nodes = grind (arith, used-written entries name old new)
-
 -- a new name goes last
 pub insert_last : (entries : List (ℕ × Entry)) (name : ℕ) (new : Entry) → All (λ e. e.0 < name) entries → insert_entry nat_cmp entries name new ≡ entries ++ (name, new) ∷ []
 insert_last [] name new h = refl
@@ -99,51 +93,6 @@ times_none name (other ∷ names) h = grind (arith, times_none name names (All-t
 pub charge_limit : (next charge : ℕ) (entries : List (ℕ × Entry)) → IsTable next charge entries → charge ≤ 1024 * (GREATEST_SLOTS * GREATEST_BYTES)
 charge_limit next charge entries t = omega (arith, t.charged, charge_is entries, t.count, sum_by-le (λ e. object_bytes e.1.object) (GREATEST_SLOTS * GREATEST_BYTES) entries t.each)
 
--- an object of as many bytes and the same nodes
-pub IsTable-written : (next charge : ℕ) (entries : List (ℕ × Entry)) (name : ℕ) (old : Entry) (object : ObjectValue) (after : List (ℕ × Entry)) → IsTable next charge entries
-    → lookup (is_at (nat_cmp name)) entries ≡ Some old → after ≡ set_value (is_at (nat_cmp name)) entries (record old { object = object })
-    → nodes_in object ≡ nodes_in old.object → object_bytes object ≡ object_bytes old.object → IsTable next charge after
-IsTable-written next charge entries name old object after t found then nodes bytes =
-    let new : Entry = record old { object = object } in
-    rw then (grind (
-      arith,
-      used-written entries name old new found refl nodes,
-      sum-written (λ e. object_bytes e.1.object) entries name old new found,
-      bytes,
-      All-written (λ e. e.0 < next) entries name old new found (λ k h. h) t.below,
-      All-written (λ e. object_bytes e.1.object ≤ GREATEST_SLOTS * GREATEST_BYTES) entries name old new found (λ k h. omega (arith, h, bytes)) t.each,
-      All-written (λ e. length (nodes_in e.1.object) ≤ 256) entries name old new found (λ k h. subst (λ l. length l ≤ 256) (sym nodes) h) t.nodes,
-      All-written (λ e. e.1.uses ≡ name_count e.0 (names_used (map entry_object entries))) entries name old new found (λ k h. h) t.uses,
-      All-written (λ e. IsTrue (is_kept e)) entries name old new found (λ k h. h) t.held,
-      keys-set_value,
-      length-set_value,
-      charge_is,
-    ))
-
--- one object more, under the next name
-pub IsTable-inserted : (next charge : ℕ) (entries : List (ℕ × Entry)) (new : Entry) → IsTable next charge entries → next < 4294967296 → length entries < 1024
-    → new.live ≡ true → new.uses ≡ 0 → nodes_in new.object ≡ [] → object_bytes new.object ≤ GREATEST_SLOTS * GREATEST_BYTES → IsStrictlyIncreasing (keys_of (entries ++ (next, new) ∷ []))
-    → IsTable (next + 1) (charge + object_bytes new.object) (entries ++ (next, new) ∷ [])
-IsTable-inserted next charge entries new t left capacity live uses nodes limit increasing =
-    let one : List (ℕ × Entry) = (next, new) ∷ [] in
-    let used : names_used (map entry_object (entries ++ one)) ≡ names_used (map entry_object entries) = map_used entries in
-    record {
-      names = increasing;
-      below = All-push (λ e. e.0 < next + 1) entries (next, new) (All-weaker (λ e. e.0 < next) (λ e. e.0 < next + 1) (λ e h. omega (arith, h)) entries t.below) (omega arith);
-      left = omega (arith, left);
-      count = omega (arith, capacity, length-append entries one);
-      each = All-push (λ e. object_bytes e.1.object ≤ GREATEST_SLOTS * GREATEST_BYTES) entries (next, new) t.each limit;
-      nodes = All-push (λ e. length (nodes_in e.1.object) ≤ 256) entries (next, new) t.nodes (subst (λ l. length l ≤ 256) (sym nodes) (omega arith));
-      charged = omega (arith, t.charged, charge_is entries, charge_is (entries ++ one), sum_by_push (λ e. object_bytes e.1.object) entries (next, new));
-      uses = subst (λ l. All (λ e. e.1.uses ≡ name_count e.0 l) (entries ++ one)) (sym used) (All-push (λ e. e.1.uses ≡ name_count e.0 (names_used (map entry_object entries))) entries (next, new) t.uses (uses ∙ times_none next (names_used (map entry_object entries)) t.given));
-      held = All-push (λ e. IsTrue (is_kept e)) entries (next, new) t.held (ap (λ b. b || nat_lt 0 new.uses) live);
-      given = subst (All (λ n. n < next + 1)) (sym used) (All-weaker (λ n. n < next) (λ n. n < next + 1) (λ n h. omega (arith, h)) (names_used (map entry_object entries)) t.given);
-    }
-  where
-    map_used : (l : List (ℕ × Entry)) → names_used (map entry_object (l ++ (next, new) ∷ [])) ≡ names_used (map entry_object l)
-    map_used [] = grind (arith, nodes)
-    map_used (e ∷ l) = ap (λ names. names_used_by (entry_object e) ++ names) (map_used l)
-
 -- ---- a table that shows a context
 
 module _ (t : Context) (next : ℕ) (entries : List (ℕ × Entry)) (view : ◌≡◌ {A = Context} (record { next = next; objects = map entry_object entries }) t) where
@@ -156,11 +105,11 @@ module _ (t : Context) (next : ℕ) (entries : List (ℕ × Entry)) (view : ◌�
 
   -- nothing is held under a name that isn't found
   pub none_held : (name : ℕ) → lookup (is_at (nat_cmp name)) entries ≡ None → object_held t.objects name ≡ None
-  none_held name none = ap (λ l. object_held l name) (sym objects_are) ∙ held_is entries name ∙ ap (option_map (λ (e : Entry). e.object)) none
+  none_held name none = grind (arith, objects_are, held_is entries name)
 
   module _ (name : ℕ) (old : Entry) (found : lookup (is_at (nat_cmp name)) entries ≡ Some old) where
     pub held_under : object_held t.objects name ≡ Some old.object
-    held_under = ap (λ l. object_held l name) (sym objects_are) ∙ held_is entries name ∙ ap (option_map (λ (e : Entry). e.object)) found
+    held_under = grind (arith, objects_are, held_is entries name)
 
     pub under_is : object_under t.objects name ≡ old.object
     under_is = ap (λ o. unwrap_or o (ImageObject (new_image 0 0 Format.U8))) held_under
@@ -173,13 +122,13 @@ module _ (t : Context) (next : ℕ) (entries : List (ℕ × Entry)) (view : ◌�
   -- what a cell holds, of which the name and the slot were read
   module _ (cell : Reference) (name : ℕ) (slot : Option ℕ) (at : name ≡ cell.name) (in_it : slot ≡ cell.slot) (old : Entry) (found : lookup (is_at (nat_cmp name)) entries ≡ Some old) where
     pub found_under : object_under t.objects cell.name ≡ old.object
-    found_under = ap (object_under t.objects) (sym at) ∙ under_is name old found
+    found_under = grind (arith, under_is name old found)
 
     pub cell_is : cell_object t.objects cell ≡ object_in slot old.object
     cell_is = grind (arith, held_under name old found)
 
     pub image_is : image_held t.objects cell ≡ image_value (object_in slot old.object)
-    image_is = ap image_value cell_is
+    image_is = grind (arith, cell_is)
 
     pub image_there : HoldsImage t.objects cell → HasImage slot old.object
     image_there h = grind (arith, held_under name old found)

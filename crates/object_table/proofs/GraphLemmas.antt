@@ -1,6 +1,6 @@
 -- Nodes that are added and removed, the names that they use, and the objects held after that.
-use Rattle.std.proofs.Common.{inl, inr, ◌≡◌, ◌↔◌, ℕ, Option, ◌+◌, ◌-◌, ◌*◌, ◌<◌, ◌≤◌, zero, suc, Bool, true, false, cond, List, [], ◌∷◌, ◌++◌, Some, None, length, map, IsTrue, refl, sym, ap, subst, ◌∙◌, arith, rules, ◌==◌, ◌||◌, nat_lt, find, sum_by, is_some, eqb-true, ne_eqb, length-append, All, ◌&&◌, not, filter, ltb-true, take_at, drop_at}
-use Rattle.object_table.proofs.Common.{map-map, keys_of, lookup, set_value, list_any, flat_map, AllPairs, IsStrictlyIncreasing, is_at, nat_cmp, cases_Bool, and_parts, map-append, length-map, All-nil, All-cons, All-head, All-tail, All-map, All-weaker, All-filter, filter_passes, AllPairs-from_increasing, sum_by-cons, sum_by-le, count_by-le-length, keys-set_value, length-set_value, Kind, Node, Numbered, Reference, GraphValue, can_add, with_node, without_node, optional_cells, ObjectValue, GraphObject, object_bytes, object_kind, Entry, Context, charge_of, object_named, still_held, NamedObject, object_held, HasImage, graph_value, entry_object, used_more, used_less, is_kept, kept_entries, IsTable, used_names, nodes_in, names_used_by, names_used, name_count, GREATEST_SLOTS, GREATEST_BYTES, nat_tests, All-append, All-drop, All-take, AllPairs-cons, IsGraph, false≢true, flat_map-map, is_used, length-filter, list_any-append, nodes_of, operands, uses}
+use Rattle.std.proofs.Common.{get_or, rules, inl, inr, ◌≡◌, ◌↔◌, ℕ, Option, ◌+◌, ◌-◌, ◌*◌, ◌<◌, ◌≤◌, zero, suc, Bool, true, false, cond, List, [], ◌∷◌, ◌++◌, Some, None, length, map, IsTrue, refl, sym, ap, subst, ◌∙◌, arith, ◌==◌, ◌||◌, nat_lt, find, sum_by, is_some, eqb-true, ne_eqb, length-append, All, ◌&&◌, not, filter, take_at, drop_at}
+use Rattle.object_table.proofs.Common.{All-push, sum_by_push, map-map, keys_of, lookup, set_value, list_any, flat_map, AllPairs, IsStrictlyIncreasing, is_at, nat_cmp, cases_Bool, map-append, length-map, All-nil, All-cons, All-head, All-tail, All-map, All-weaker, All-filter, filter_passes, AllPairs-from_increasing, sum_by-cons, sum_by-le, count_by-le-length, keys-set_value, length-set_value, Kind, Node, Numbered, Reference, GraphValue, can_add, with_node, without_node, optional_cells, ObjectValue, GraphObject, object_bytes, object_kind, Entry, Context, charge_of, object_named, still_held, NamedObject, object_held, HasImage, graph_value, entry_object, used_more, used_less, is_kept, kept_entries, IsTable, used_names, nodes_in, names_used_by, names_used, name_count, GREATEST_SLOTS, GREATEST_BYTES, nat_tests, All-append, All-drop, All-take, AllPairs-cons, IsGraph, false≢true, flat_map-map, is_used, length-filter, list_any-append, nodes_of, operands, uses}
 use Rattle.std.proofs.lemmas.Grind.{flat_map-append}
 use Rattle.std.proofs.lemmas.List.Concat.{length-flat_map}
 use Rattle.std.proofs.lemmas.Map.Steps.{set_value_same}
@@ -9,7 +9,7 @@ use Rattle.graph_verify.proofs.MemberLemmas.{any-map}
 use Rattle.object_table.proofs.HeldLemmas.{All-from_map, increasing_from_pairs, increasing_head, increasing_tail}
 use Rattle.object_table.proofs.SlotLemmas.{graph_of_kind}
 use Rattle.object_table.proofs.UseLemmas.{times-append}
-use Rattle.object_table.proofs.EntryLemmas.{none_named, in_order, named_is, if_live, image_there, held_under, All-written, sum-written, charge_is}
+use Rattle.object_table.proofs.EntryLemmas.{none_named, in_order, named_is, if_live, image_there, held_under, All-written, sum-written, charge_is, times_none}
 
 -- ---- how often a name occurs in a list
 
@@ -38,14 +38,14 @@ module _ {X : Type 0} (f : X → List ℕ) where
 
   any-flat_map : (p : ℕ → Bool) (xs : List X) → list_any p (flat_map f xs) ≡ list_any (λ x. list_any p (f x)) xs
   any-flat_map p [] = refl
-  any-flat_map p (x ∷ xs) = list_any-append p (f x) (flat_map f xs) ∙ ap (λ b. list_any p (f x) || b) (any-flat_map p xs)
+  any-flat_map p (x ∷ xs) = grind (arith, list_any-append, any-flat_map p xs)
 
 any_map : {X Y : Type 0} (p : Y → Bool) (f : X → Y) (xs : List X) → list_any p (map f xs) ≡ list_any (λ x. p (f x)) xs
 any_map p f xs = sym (any-map f p xs)
 
 pub any_alike : {X : Type 0} (p q : X → Bool) (xs : List X) → All (λ x. p x ≡ q x) xs → list_any p xs ≡ list_any q xs
 any_alike p q [] h = refl
-any_alike p q (x ∷ xs) h = ap (λ b. b || list_any p xs) (All-head (λ x. p x ≡ q x) x xs h) ∙ ap (λ b. q x || b) (any_alike p q xs (All-tail (λ x. p x ≡ q x) x xs h))
+any_alike p q (x ∷ xs) h = grind (arith, any_alike p q xs (All-tail (λ x. p x ≡ q x) x xs h), All-tail, All-head (λ x. p x ≡ q x) x xs h)
 
 -- ---- the names of a node's operands
 
@@ -64,7 +64,7 @@ times-with_node g n name = simp (map-append, flat_map-append, times-append) (ome
 
 All-with_node : (P : ℕ → Type 0) (g : GraphValue) (n : Node) → All P (names_in (GraphObject g)) → All P (used_names n) → All P (names_in (GraphObject (with_node g n)))
 All-with_node P g n h new =
-    grind (arith, flat_map-append used_names (nodes_of g) (n ∷ []), All-append P (names_in (GraphObject g)) (used_names n ++ []) h (All-append P (used_names n) [] new (All-nil P)), All-append P (used_names n), All-nil P, map-append, flat_map-append, All-append, All-nil)
+    grind (arith, All-append P (names_in (GraphObject g)) (used_names n ++ []) h (All-append P (used_names n) [] new (All-nil P)), map-append, flat_map-append)
 
 -- without the node of a number
 times_left : (number : ℕ) (nodes : List Numbered) (node : Node) (name : ℕ) → AllPairs (λ a b. a.number < b.number) nodes → find (λ n. n.number == number) nodes ≡ Some (record { number = number; node = node })
@@ -133,19 +133,45 @@ used_is entries = flat_map-map names_used_by entry_object entries
 used_when_live : (k : ℕ) (e : Entry) → e.live ≡ true → used_by (k, e) ≡ names_in e.object
 used_when_live k e live = ap (λ b. cond b (names_in e.object) []) live
 
--- what a table keeps of its entries, but for their charge and how often they are used
+-- what a table keeps of an entry, but for how often it is used
+pub record IsEntry (next : ℕ) (e : ℕ × Entry) : Type 0 where
+  pub below : e.0 < next
+  pub bytes : object_bytes e.1.object ≤ GREATEST_SLOTS * GREATEST_BYTES
+  pub nodes : length (nodes_in e.1.object) ≤ 256
+  pub given : All (λ name. name < next) (used_by e)
+
+-- and of its entries, but for their charge
 pub record AreEntries (next : ℕ) (entries : List (ℕ × Entry)) : Type 0 where
   pub names : IsStrictlyIncreasing (map (λ e. e.0) entries)
-  pub below : All (λ e. e.0 < next) entries
   pub left : next ≤ 4294967296
   pub count : length entries ≤ 1024
-  pub each : All (λ e. object_bytes e.1.object ≤ GREATEST_SLOTS * GREATEST_BYTES) entries
-  pub nodes : All (λ e. length (nodes_in e.1.object) ≤ 256) entries
-  pub given : All (λ e. All (λ name. name < next) (used_by e)) entries
+  pub each : All (IsEntry next) entries
 
 table_of : (next charge : ℕ) (entries : List (ℕ × Entry)) → AreEntries next entries → charge ≡ charge_of (map entry_object entries) → All (λ e. e.1.uses ≡ name_count e.0 (names_used (map entry_object entries))) entries
     → All (λ e. IsTrue (is_kept e)) entries → IsTable next charge entries
-table_of next charge entries h charged uses held = grind (arith, used_is entries, All-flat_map used_by (λ name. name < next) entries h.given)
+table_of next charge entries h charged uses held =
+    record {
+      names = h.names;
+      below = λ k d below. (h.each k d below).below;
+      left = h.left;
+      count = h.count;
+      each = λ k d below. (h.each k d below).bytes;
+      nodes = λ k d below. (h.each k d below).nodes;
+      charged = charged;
+      uses = uses;
+      held = held;
+      given = rw (used_is entries) (All-flat_map used_by (λ name. name < next) entries (λ k d below. (h.each k d below).given));
+    }
+
+are_entries : (next charge : ℕ) (entries : List (ℕ × Entry)) → IsTable next charge entries → AreEntries next entries
+are_entries next charge entries h =
+    let given = All-parts used_by (λ name. name < next) entries (rw (← used_is entries) h.given) in
+    record {
+      names = h.names;
+      left = h.left;
+      count = h.count;
+      each = λ k d below. record { below = h.below k d below; bytes = h.each k d below; nodes = h.nodes k d below; given = given k d below };
+    }
 
 -- all names that are used are few enough
 used_limit : (entries : List (ℕ × Entry)) → length entries ≤ 1024 → All (λ e. length (nodes_in e.1.object) ≤ 256) entries → length (names_used (map entry_object entries)) ≤ 1024 * 1024
@@ -180,7 +206,7 @@ module _ (next charge : ℕ) (entries : List (ℕ × Entry)) (h : IsTable next c
 
   -- and held
   pub held-after : new.live ≡ old.live → All (λ e. IsTrue (is_kept e)) after
-  held-after still = All-written (λ e. IsTrue (is_kept e)) entries name old new found (λ k h. ap (λ b. b || nat_lt 0 new.uses) still ∙ ap (λ n. old.live || nat_lt 0 n) same ∙ h) h.held
+  held-after still = All-written (λ e. IsTrue (is_kept e)) entries name old new found (λ k h. grind (arith, h)) h.held
 
   -- but other names are used
   times-after : (n : ℕ) → name_count n (names_used (map entry_object after)) + name_count n (used_by (name, old)) ≡ name_count n (names_used (map entry_object entries)) + name_count n (used_by (name, new))
@@ -188,19 +214,57 @@ module _ (next charge : ℕ) (entries : List (ℕ × Entry)) (h : IsTable next c
       grind (arith, sum-written (λ e. name_count n (used_by e)) entries name old new found, used_is after, times-flat_map used_by n after, used_is entries, times-flat_map used_by n entries)
 
   entries-after : (length (nodes_in old.object) ≤ 256 → length (nodes_in new.object) ≤ 256) → object_bytes new.object ≡ object_bytes old.object → ((k : ℕ) → All (λ n. n < next) (used_by (k, old)) → All (λ n. n < next) (used_by (k, new))) → AreEntries next after
-  entries-after few bytes optional_cells =
-      let t : AreEntries next entries =
-      grind (arith, All-parts used_by (λ name. name < next) entries (subst (All (λ name. name < next)) (used_is entries) h.given), used_is entries) in
+  entries-after few bytes names_given =
       let test = is_at (nat_cmp name) in
       record {
-        names = subst IsStrictlyIncreasing (sym (keys-set_value test entries new)) t.names;
-        below = All-written (λ e. e.0 < next) entries name old new found (λ k h. h) t.below;
-        left = t.left;
-        count = omega (arith, t.count, length-set_value test entries new);
-        each = All-written (λ e. object_bytes e.1.object ≤ GREATEST_SLOTS * GREATEST_BYTES) entries name old new found (λ k h. omega (arith, h, bytes)) t.each;
-        nodes = All-written (λ e. length (nodes_in e.1.object) ≤ 256) entries name old new found (λ k h. few h) t.nodes;
-        given = All-written (λ e. All (λ n. n < next) (used_by e)) entries name old new found optional_cells t.given;
+        names = rw (keys-set_value test entries new) h.names;
+        left = h.left;
+        count = rw (length-set_value test entries new) h.count;
+        each = All-written (IsEntry next) entries name old new found
+            (λ k e. record { below = e.below; bytes = omega (arith, e.bytes, bytes); nodes = few e.nodes; given = names_given k e.given })
+            (are_entries next charge entries h).each;
       }
+
+-- an object of as many bytes and the same nodes
+pub IsTable-written : (next charge : ℕ) (entries : List (ℕ × Entry)) (name : ℕ) (old : Entry) (object : ObjectValue) (after : List (ℕ × Entry)) → IsTable next charge entries
+    → lookup (is_at (nat_cmp name)) entries ≡ Some old → after ≡ set_value (is_at (nat_cmp name)) entries (record old { object = object })
+    → nodes_in object ≡ nodes_in old.object → object_bytes object ≡ object_bytes old.object → IsTable next charge after
+IsTable-written next charge entries name old object after t found then nodes bytes =
+    let new : Entry = record old { object = object } in
+    let all = set_value (is_at (nat_cmp name)) entries new in
+    let each = uses-after next charge entries t name old new found refl in
+    let times = times-after next charge entries t name old new found refl in
+    let same : used_by (name, new) ≡ used_by (name, old) = ap (λ l. cond old.live (flat_map used_names l) []) nodes in
+    rw then (table_of next charge all
+    (entries-after next charge entries t name old new found refl (λ few. rw nodes few) bytes (λ k given. rw nodes given)) (charged-after next charge entries t name old new found refl bytes)
+    (λ k d below. let n = (get_or all k d).0 in omega (arith, each k d below, times n, ap (name_count n) same)) (held-after next charge entries t name old new found refl refl))
+
+-- one object more, under the next name
+pub IsTable-inserted : (next charge : ℕ) (entries : List (ℕ × Entry)) (new : Entry) → IsTable next charge entries → next < 4294967296 → length entries < 1024
+    → new.live ≡ true → new.uses ≡ 0 → nodes_in new.object ≡ [] → object_bytes new.object ≤ GREATEST_SLOTS * GREATEST_BYTES → IsStrictlyIncreasing (keys_of (entries ++ (next, new) ∷ []))
+    → IsTable (next + 1) (charge + object_bytes new.object) (entries ++ (next, new) ∷ [])
+IsTable-inserted next charge entries new t left capacity live uses nodes limit increasing =
+    let are = are_entries next charge entries t in
+    let more : (names : List ℕ) → All (λ n. n < next) names → All (λ n. n < next + 1) names = λ names h k d below. omega (arith, h k d below) in
+    let each = λ (k : ℕ) (d : ℕ × Entry) (below : k < length entries). are.each k d below in
+    let one : List (ℕ × Entry) = (next, new) ∷ [] in
+    let used : names_used (map entry_object (entries ++ one)) ≡ names_used (map entry_object entries) = map_used entries in
+    table_of (next + 1) (charge + object_bytes new.object) (entries ++ one)
+    (record {
+      names = increasing;
+      left = omega (arith, left);
+      count = omega (arith, capacity, length-append entries one);
+      each = All-push (IsEntry (next + 1)) entries (next, new)
+          (λ k d below. record { below = omega (arith, (each k d below).below); bytes = (each k d below).bytes; nodes = (each k d below).nodes; given = more _ (each k d below).given })
+          (record { below = omega arith; bytes = limit; nodes = grind (arith, nodes); given = rw (live, nodes) (All-nil (λ n. n < next + 1)) });
+    })
+    (omega (arith, t.charged, charge_is entries, charge_is (entries ++ one), sum_by_push (λ e. object_bytes e.1.object) entries (next, new)))
+    (rw used (All-push (λ e. e.1.uses ≡ name_count e.0 (names_used (map entry_object entries))) entries (next, new) t.uses (uses ∙ times_none next (names_used (map entry_object entries)) t.given)))
+    (All-push (λ e. IsTrue (is_kept e)) entries (next, new) t.held (ap (λ b. b || nat_lt 0 new.uses) live))
+  where
+    map_used : (l : List (ℕ × Entry)) → names_used (map entry_object (l ++ (next, new) ∷ [])) ≡ names_used (map entry_object l)
+    map_used [] = grind (arith, nodes)
+    map_used (e ∷ l) = ap (λ names. names_used_by (entry_object e) ++ names) (map_used l)
 
 -- ---- entries whose uses are counted anew
 
@@ -216,13 +280,10 @@ module _ (f : ℕ → ℕ → ℕ) where
   entries-recounted next entries h =
       let step : ℕ × Entry → ℕ × Entry = λ e. let n : Entry = e.1 in (e.0, record n { uses = f e.0 n.uses }) in
       record {
-        names = subst IsStrictlyIncreasing (sym (map-map (λ (e : ℕ × Entry). e.0) step entries)) h.names;
-        below = All-map (λ (e : ℕ × Entry). e.0 < next) step entries h.below;
+        names = rw (map-map (λ (e : ℕ × Entry). e.0) step entries) h.names;
         left = h.left;
-        count = omega (arith, h.count, length-map entries step);
-        each = All-map (λ (e : ℕ × Entry). object_bytes e.1.object ≤ GREATEST_SLOTS * GREATEST_BYTES) step entries h.each;
-        nodes = All-map (λ (e : ℕ × Entry). length (nodes_in e.1.object) ≤ 256) step entries h.nodes;
-        given = All-map (λ (e : ℕ × Entry). All (λ name. name < next) (used_by e)) step entries h.given;
+        count = rw (length-map entries step) h.count;
+        each = All-map (IsEntry next) step entries (λ k d below. grind (arith, h.each k d below));
       }
 
   -- they are used so often
@@ -234,7 +295,7 @@ module _ (f : ℕ → ℕ → ℕ) where
 held-more : (names : List ℕ) (entries : List (ℕ × Entry)) → All (λ e. IsTrue (is_kept e)) entries → All (λ e. IsTrue (is_kept e)) (used_more names entries)
 held-more names entries h =
     All-map {X = ℕ × Entry} (λ e. IsTrue (is_kept e)) {Y = ℕ × Entry} (λ e. let n : Entry = e.1 in (e.0, record n { uses = n.uses + name_count e.0 names })) entries
-    (All-weaker (λ e. IsTrue (is_kept e)) (λ e. (e.1.live || nat_lt 0 (e.1.uses + name_count e.0 names)) ≡ true) (λ e is. grind (arith, nat_tests, cases_Bool e.1.live)) entries h)
+    (λ k d below. grind (arith, nat_tests, h k d below))
 
 -- ---- the objects that are still held
 
@@ -265,18 +326,15 @@ shown-kept entries uses = grind (arith, named-kept, All-weaker, is_used_there)
 IsTable-kept : (next : ℕ) (entries : List (ℕ × Entry)) → AreEntries next entries → All (λ e. e.1.uses ≡ name_count e.0 (names_used (map entry_object entries))) entries
     → IsTable next (charge_of (map entry_object (kept_entries entries))) (kept_entries entries)
 IsTable-kept next entries h uses =
-    let used : names_used (map entry_object entries) ≡ names_used (map entry_object (kept_entries entries)) = used_is entries ∙ sym (used-kept entries) ∙ sym (used_is (kept_entries entries)) in
+    let used : names_used (map entry_object entries) ≡ names_used (map entry_object (kept_entries entries)) = grind (arith, used_is, used-kept) in
     table_of next (charge_of (map entry_object (kept_entries entries))) (kept_entries entries)
     (record {
       names = increasing-kept is_kept entries h.names;
-      below = All-filter is_kept (λ e. e.0 < next) entries h.below;
       left = h.left;
       count = omega (arith, h.count, length-filter is_kept entries, count_by-le-length is_kept entries);
-      each = All-filter is_kept (λ e. object_bytes e.1.object ≤ GREATEST_SLOTS * GREATEST_BYTES) entries h.each;
-      nodes = All-filter is_kept (λ e. length (nodes_in e.1.object) ≤ 256) entries h.nodes;
-      given = All-filter is_kept (λ e. All (λ name. name < next) (used_by e)) entries h.given;
+      each = All-filter is_kept (IsEntry next) entries h.each;
     }) refl
-    (subst (λ (l : List ℕ). All (λ e. e.1.uses ≡ name_count e.0 l) (kept_entries entries)) used (All-filter is_kept (λ e. e.1.uses ≡ name_count e.0 (names_used (map entry_object entries))) entries uses))
+    (rw (← used) (All-filter is_kept (λ e. e.1.uses ≡ name_count e.0 (names_used (map entry_object entries))) entries uses))
     (filter_passes is_kept entries)
 
 -- ---- one node more
@@ -294,25 +352,15 @@ module _ (next charge : ℕ) (entries : List (ℕ × Entry)) (h : IsTable next c
       → IsTable next charge (used_more (used_names node) (set_value (is_at (nat_cmp name)) entries new))
   IsTable-added is capacity below =
       let g = graph_value old.object in
-      let added : Numbered = record { number = g.next; node = node } in
       let then : List (ℕ × Entry) = set_value (is_at (nat_cmp name)) entries new in
       let f : ℕ → ℕ → ℕ = λ k u. u + name_count k (used_names node) in
-      let few : length (nodes_in new.object) ≤ 256 =
-      omega (
-        arith,
-        ltb-true (length g.nodes) 256 (and_parts (nat_lt g.next 4294967296) (nat_lt (length g.nodes) 256) capacity).1,
-        ap (λ o. length (nodes_in o)) is,
-        length-map (g.nodes ++ added ∷ []) (λ (n : Numbered). n.node),
-        length-append g.nodes (added ∷ []),
-      ) in
+      let few : length (nodes_in new.object) ≤ 256 = grind (arith, capacity, is, nat_tests, length-map, length-append) in
       let are = entries-after next charge entries h name old new found same (λ _. few) bytes
-      (λ k optional_cells. subst (All (λ n. n < next)) (sym (now_is k (with_node g node) is)) (All-with_node (λ n. n < next) g node (subst (All (λ n. n < next)) (before_is k) optional_cells) below)) in
-      let more : (n : ℕ) → name_count n (names_used (map entry_object then)) ≡ name_count n (names_used (map entry_object entries)) + name_count n (used_names node) = λ n.
-      omega (arith, times-after next charge entries h name old new found same n, ap (name_count n) (before_is name), ap (name_count n) (now_is name (with_node g node) is), times-with_node g node n) in
+      (λ k given. rw (now_is k (with_node g node) is) (All-with_node (λ n. n < next) g node (rw (← before_is k) given) below)) in
+      let each = uses-after next charge entries h name old new found same in
       table_of next charge (recounted f then) (entries-recounted f next then are) (charged-after next charge entries h name old new found same bytes ∙ ap charge_of (sym (named-recounted f then)))
-      (uses-recounted f then
-      (All-weaker (λ e. e.1.uses ≡ name_count e.0 (names_used (map entry_object entries))) (λ e. e.1.uses + name_count e.0 (used_names node) ≡ name_count e.0 (names_used (map entry_object then)))
-      (λ e uses. omega (arith, uses, more e.0)) then (uses-after next charge entries h name old new found same)))
+      (uses-recounted f then (λ k d below. let n = (get_or then k d).0 in
+      omega (arith, each k d below, times-after next charge entries h name old new found same n, ap (name_count n) (before_is name), ap (name_count n) (now_is name (with_node g node) is), times-with_node g node n)))
       (held-more (used_names node) then (held-after next charge entries h name old new found same still))
 
   -- ---- one node less
@@ -329,7 +377,7 @@ module _ (next charge : ℕ) (entries : List (ℕ × Entry)) (h : IsTable next c
         let few : length (nodes_in new.object) ≤ 256 =
         omega (arith, graph_holds.count, ap (λ o. length (nodes_in o)) is, length-map (filter test g.nodes) (λ (n : Numbered). n.node), length-filter test g.nodes, count_by-le-length test g.nodes) in
         entries-after next charge entries h name old new found same (λ _. few) bytes
-        (λ k optional_cells. subst (All (λ n. n < next)) (sym (now_is k (without_node g number) is)) (All-without_node (λ n. n < next) g number (subst (All (λ n. n < next)) (before_is k) optional_cells)))
+        (λ k given. rw (now_is k (without_node g number) is) (All-without_node (λ n. n < next) g number (rw (← before_is k) given)))
 
 -- ---- the objects that are held after uses end
 
@@ -349,16 +397,15 @@ module _ (next charge : ℕ) (entries : List (ℕ × Entry)) (h : IsTable next c
 
   uses-less : All (λ e. e.1.uses ≡ name_count e.0 (names_used (map entry_object less))) less
   uses-less =
-      rw is (uses-recounted anew then
-      (All-weaker (λ e. e.1.uses ≡ name_count e.0 (names_used (map entry_object entries))) (λ e. e.1.uses - name_count e.0 gone ≡ name_count e.0 (names_used (map entry_object then)))
-      (λ e uses. omega (arith, uses, fewer e.0)) then (uses-after next charge entries h name old new found same)))
+      let before = uses-after next charge entries h name old new found same in
+      rw is (uses-recounted anew then (λ k d below. omega (arith, before k d below, fewer (get_or then k d).0)))
 
   -- the entries that are left
   pub are-left : AreLeft next then less
   are-left =
       record {
-        table = IsTable-kept next less (subst (AreEntries next) (sym is) (entries-recounted anew next then are)) uses-less;
-        shown = shown-kept less uses-less ∙ ap (λ l. still_held (map entry_object l)) is ∙ ap still_held (named-recounted anew then);
+        table = IsTable-kept next less (rw is (entries-recounted anew next then are)) uses-less;
+        shown = grind (arith, shown-kept less uses-less, named-recounted anew then);
       }
 
 module _ (next charge : ℕ) (entries : List (ℕ × Entry)) (h : IsTable next charge entries) (name : ℕ) (old : Entry) (found : lookup (is_at (nat_cmp name)) entries ≡ Some old) (live : old.live ≡ true) (less : List (ℕ × Entry)) where
@@ -376,10 +423,6 @@ module _ (next charge : ℕ) (entries : List (ℕ × Entry)) (h : IsTable next c
       (λ n. omega (arith, times-after next charge entries h name old ended found refl n, ap (name_count n) (used_when_live name old live)))
       (entries-after next charge entries h name old ended found refl (λ few. few) refl (λ k optional_cells. All-nil (λ n. n < next))) less is
 
--- the same table, where its parts are the same
-pub IsTable-same : (next more charge sum : ℕ) (entries others : List (ℕ × Entry)) → more ≡ next → sum ≡ charge → others ≡ entries → IsTable next charge entries → IsTable more sum others
-IsTable-same next more charge sum entries others n c e t = grind arith
-
 -- ---- a table that shows a context
 
 -- an entry that is as it was
@@ -390,11 +433,11 @@ unchanged t next entries view name old found object after is then = grind (arith
 module _ (t : Context) (next charge : ℕ) (entries : List (ℕ × Entry)) (view : ◌≡◌ {A = Context} (record { next = next; objects = map entry_object entries }) t) (h : IsTable next charge entries) where
   -- nothing has a name that isn't found
   pub none_there : (name : ℕ) → lookup (is_at (nat_cmp name)) entries ≡ None → object_named t.objects name ≡ None
-  none_there name none = ap (λ (c : Context). object_named c.objects name) (sym view) ∙ none_named entries name none
+  none_there name none = grind (arith, none_named entries name none)
 
   -- the object of a live name
   pub named_there : (name : ℕ) (old : Entry) → lookup (is_at (nat_cmp name)) entries ≡ Some old → object_named t.objects name ≡ if_live old
-  named_there name old found = ap (λ (c : Context). object_named c.objects name) (sym view) ∙ named_is entries name old (in_order entries h.names) found
+  named_there name old found = grind (arith, named_is entries name old, in_order)
 
   pub live_there : (name : ℕ) (old : Entry) → lookup (is_at (nat_cmp name)) entries ≡ Some old → IsTrue (is_some (object_named t.objects name)) → old.live ≡ true
   live_there name old found some = grind (arith, named_there name old found, if_live old)

@@ -1,7 +1,8 @@
 -- Entries that are held, and those that are left when uses and names end.
-use Rattle.std.proofs.Common.{◌≡◌, ℕ, ◌+◌, ◌-◌, true, false, cond, List, [], ◌∷◌, ◌++◌, length, map, IsTrue, Option, Some, None, refl, sym, ap, ◌∙◌, arith, ◌==◌, nat_lt, ◌||◌, unwrap_or, All}
+use Rattle.std.proofs.Common.{◌≡◌, ℕ, ◌+◌, ◌-◌, true, false, cond, List, [], ◌∷◌, ◌++◌, length, map, IsTrue, Some, None, refl, ap, ◌∙◌, arith, ◌==◌, nat_lt, ◌||◌, All}
 use Rattle.object_table.proofs.Common.{keys_of, lookup, set_value, remove_entry, is_at, nat_cmp, option_map, cases_Bool, length-map, All-head, All-tail, filter_passes, sorted_tail, Numbered, object_bytes, object_kind, Entry, charge_of, without_name, entry_object, is_kept, kept_entries, nodes_at, used_less, entries_without_name, nodes_in, name_count, nat_tests, or_left, or_parts}
 use Rattle.object_table.proofs.EntryLemmas.{InOrder, same_name, past_head, charge_is, All-written, sum-written, sum-removed}
+use Rattle.object_table.proofs.EntryBlockLemmas.{blocks-written, blocks-removed}
 use Rattle.object_table.proofs.UseLemmas.{with_uses, less, less_is, used-append, used-nil, shown-used}
 
 -- ---- the entries that are kept
@@ -27,7 +28,8 @@ kept-live (e ∷ entries) name live = grind (arith, kept-live entries name, or_l
 pub held-written : (entries : List (ℕ × Entry)) (name : ℕ) (old new : Entry) → lookup (is_at (nat_cmp name)) entries ≡ Some old → All (λ e. IsTrue (is_kept e)) entries
     → (new.live || nat_lt 0 new.uses) ≡ true → set_value (is_at (nat_cmp name)) entries new ≡ kept_entries (set_value (is_at (nat_cmp name)) entries new)
 held-written entries name old new found held is =
-    sym (all_kept (set_value (is_at (nat_cmp name)) entries new) (All-written (λ e. IsTrue (is_kept e)) entries name old new found (λ k h. is) held))
+    let each = All-written (λ e. IsTrue (is_kept e)) entries name old new found (λ k h. is) held in
+    cc (all_kept (set_value (is_at (nat_cmp name)) entries new) each)
 
 -- all but the written one are
 pub dropped : (entries : List (ℕ × Entry)) (name : ℕ) (old new : Entry) → lookup (is_at (nat_cmp name)) entries ≡ Some old → All (λ e. IsTrue (is_kept e)) entries
@@ -37,11 +39,11 @@ dropped (e ∷ entries) name old new found held none =
     let others = All-tail (λ e. IsTrue (is_kept e)) e entries held in
     grind (arith, dropped entries name old new, others, all_kept entries others, All-head (λ e. IsTrue (is_kept e)) e entries held)
 
--- an entry of the same object leaves the charge
-pub charge-written : (charge : ℕ) (entries written : List (ℕ × Entry)) (name : ℕ) (old new : Entry) → charge ≡ charge_of (map entry_object entries) → lookup (is_at (nat_cmp name)) entries ≡ Some old
-    → written ≡ set_value (is_at (nat_cmp name)) entries new → new.object ≡ old.object → charge ≡ charge_of (map entry_object written)
-charge-written charge entries written name old new charged found is same =
-    rw is (omega (arith, charged, charge_is entries, charge_is (set_value (is_at (nat_cmp name)) entries new), sum-written (λ e. object_bytes e.1.object) entries name old new found, ap object_bytes same))
+-- what is written is charged in place of what was there
+pub charge-written : (entries : List (ℕ × Entry)) (name : ℕ) (old new : Entry) → lookup (is_at (nat_cmp name)) entries ≡ Some old
+    → charge_of (map entry_object (set_value (is_at (nat_cmp name)) entries new)) + object_bytes old.object ≡ charge_of (map entry_object entries) + object_bytes new.object
+charge-written entries name old new found =
+    omega (arith, charge_is entries, charge_is (set_value (is_at (nat_cmp name)) entries new), sum-written (λ e. object_bytes e.1.object) entries name old new found)
 
 -- what is dropped isn't charged
 pub charge-removed : (entries : List (ℕ × Entry)) (name : ℕ) (old : Entry) → lookup (is_at (nat_cmp name)) entries ≡ Some old
@@ -60,7 +62,7 @@ pub held-left : (names : List ℕ) (entries others : List (ℕ × Entry)) → ot
 held-left names entries others is = rw is (filter_passes is_kept (used_less names entries))
 
 pub left-nil : (entries : List (ℕ × Entry)) → All (λ e. IsTrue (is_kept e)) entries → entries ≡ left_of [] entries
-left-nil entries held = sym (all_kept entries held) ∙ ap kept_entries (sym (used-nil less less_is entries))
+left-nil entries held = grind (arith, all_kept, used-nil less less_is entries)
 
 pub left-append : (first second : List ℕ) (entries : List (ℕ × Entry)) → left_of second (left_of first entries) ≡ left_of (first ++ second) entries
 left-append first second entries =
@@ -75,19 +77,15 @@ module _ (graph : ℕ) (names : List ℕ) (old now : List (ℕ × Entry)) (then 
 
   -- the object that is held under the name keeps its kind
   pub kind_kept : option_map (λ e. object_kind e.object) (lookup (is_at (nat_cmp graph)) now) ≡ option_map (λ e. object_kind e.object) (lookup (is_at (nat_cmp graph)) old)
-  kind_kept = ap (option_map (λ (e : Entry). object_kind e.object)) found-left ∙ shown-used less less_is (λ live object. object_kind object) graph names old
+  kind_kept = grind (arith, found-left, shown-used less less_is (λ live object. object_kind object) graph names old)
 
   -- and keeps its nodes
   pub nodes_kept : nodes_at graph now ≡ nodes_at graph old
-  nodes_kept =
-      ap (λ (o : Option Entry). unwrap_or (option_map (λ e. nodes_in e.object) o) []) found-left
-      ∙ ap (λ o. unwrap_or o []) (shown-used less less_is (λ live object. nodes_in object) graph names old)
+  nodes_kept = grind (arith, found-left, shown-used less less_is (λ live object. nodes_in object) graph names old)
 
   -- which are as many as before
   pub count_kept : (counted found : List Numbered) → map (λ n. n.node) counted ≡ nodes_at graph old → map (λ n. n.node) found ≡ nodes_at graph now → length found ≡ length counted
-  count_kept counted found before after =
-      let same : map (λ n. n.node) found ≡ map (λ n. n.node) counted = after ∙ nodes_kept ∙ sym before in
-      sym (length-map found (λ n. n.node)) ∙ ap length same ∙ length-map counted (λ n. n.node)
+  count_kept counted found before after = grind (arith, nodes_kept, length-map counted (λ n. n.node), length-map found (λ n. n.node))
 
 -- ---- a name that ends
 
@@ -115,7 +113,8 @@ ended-less name names (e ∷ entries) = grind (arith, ended-less name names entr
 pub left-ended : (entries now next : List (ℕ × Entry)) (names : List ℕ) (name : ℕ) (old : Entry) → InOrder entries → lookup (is_at (nat_cmp name)) entries ≡ Some old
     → now ≡ left_of names entries → next ≡ kept_entries (entries_without_name name now) → next ≡ left_of names (set_value (is_at (nat_cmp name)) entries (record old { live = false }))
 left-ended entries now next names name old order found so_far then =
-    then ∙ ap (λ l. kept_entries (entries_without_name name l)) so_far
-    ∙ kept-map (λ e. let n : Entry = e.1 in cond (e.0 == name) (e.0, record n { live = false }) e) (λ e is. grind (arith, cases_Bool e.1.live)) (used_less names entries)
-    ∙ ap kept_entries (ended-less name names entries)
-    ∙ ap (left_of names) (sym (ended-one entries name old order found))
+    let ended = kept-map (λ e. let n : Entry = e.1 in cond (e.0 == name) (e.0, record n { live = false }) e) (λ e is. grind (arith, cases_Bool e.1.live)) (used_less names entries) in
+    cc (then, so_far, ended, ended-less name names entries, ended-one entries name old order found)
+
+-- what ends, and what that leaves
+pub ruleset end_steps = (charge-written, blocks-written, charge-removed, blocks-removed, all_kept, held-written, held-left, dropped, ended-none, ended-one, nat_tests)

@@ -1,5 +1,5 @@
 -- How often nodes use each object.
-use Rattle.std.proofs.Common.{◌≡◌, ℕ, ◌+◌, ◌-◌, ◌<◌, ◌≤◌, Bool, cond, List, [], ◌∷◌, ◌++◌, length, map, get_or, take, Option, Some, None, refl, sym, ap, ◌∙◌, arith, ◌==◌, All}
+use Rattle.std.proofs.Common.{◌≡◌, ℕ, ◌+◌, ◌-◌, ◌<◌, ◌≤◌, Bool, cond, List, [], ◌∷◌, ◌++◌, length, map, get_or, take, Option, Some, None, refl, ap, arith, ◌==◌, All}
 use Rattle.object_table.proofs.Common.{nat_cmp, keys_of, lookup, set_value, is_at, flat_map, option_map, map-append, length-map, get_or-map, All-map, sum_by-append, count_by-le-length, sorted_tail, Node, Numbered, Reference, optional_cells, ObjectValue, Entry, used_more, used_names, name_count, flat_map_more, take_more}
 use Rattle.object_table.proofs.EntryLemmas.{InOrder, same_name, past_head}
 
@@ -80,11 +80,10 @@ module _ (after : List ℕ → List (ℕ × Entry) → List (ℕ × Entry)) (twi
       → next ≡ after (flat_map used_names (take (k + 1) nodes)) old
   node_more nodes found k item node old now next so_far nodes_found there is then =
       let within : k < length nodes = omega (arith, there, ap length nodes_found, length-map found (λ n. n.node)) in
-      let at : get_or nodes k node ≡ node = ap (λ l. get_or l k node) (sym nodes_found) ∙ get_or-map (λ (n : Numbered). n.node) found k item node there ∙ sym is in
+      let at : get_or nodes k node ≡ node = grind (arith, nodes_found, get_or-map (λ (n : Numbered). n.node) found k item node there) in
       let names : flat_map used_names (take k nodes) ++ used_names node ≡ flat_map used_names (take (k + 1) nodes) =
-      flat_map_more used_names [] (take k nodes) node
-      ∙ ap (flat_map used_names) (ap (λ n. take k nodes ++ n ∷ []) (sym at) ∙ sym (take_more nodes k node within)) in
-      then ∙ ap (after (used_names node)) so_far ∙ twice (flat_map used_names (take k nodes)) (used_names node) old ∙ ap (λ l. after l old) names
+      cc (flat_map_more used_names [] (take k nodes) node, at, take_more nodes k node within) in
+      cc (then, so_far, twice (flat_map used_names (take k nodes)) (used_names node) old, names)
 
 -- more uses are no more than there are names
 pub uses_within : (limit : ℕ) (names : List ℕ) (entries : List (ℕ × Entry)) → All (λ e. e.1.uses ≤ limit) entries → All (λ e. e.1.uses ≤ limit + length names) (used_more names entries)
@@ -95,5 +94,4 @@ uses_within limit names entries h =
 pub uses_after : (limit : ℕ) (operand : Option Reference) (entries after : List (ℕ × Entry)) → All (λ e. e.1.uses ≤ limit) entries → after ≡ used_more (map (λ cell. cell.name) (optional_cells operand)) entries
     → All (λ e. e.1.uses ≤ limit + 1) after
 uses_after limit operand entries after h then =
-    let within = uses_within limit (map (λ cell. cell.name) (optional_cells operand)) entries h in
-    rw then (λ k d below. grind (arith, within k d below))
+    rw then (λ k d below. grind (arith, uses_within limit (map (λ cell. cell.name) (optional_cells operand)) entries h k d below))

@@ -153,6 +153,7 @@ fn begin_use(entries: &mut BTreeMap<u32, Entry>, operand: Option<ObjRef>)
 
 /// Removes one use for each operand of a node. Objects that then have neither a live name nor a use
 /// are dropped. Returns the charge of the remaining objects.
+#[tactic(auto, using(crate::proofs::KeptLemmas::end_steps))]
 fn end_uses(entries: &mut BTreeMap<u32, Entry>, charge: u64, node: &Node, pool: &mut Pool) -> u64
     requires held { All (λ e. IsTrue (is_kept e)) entries.old.entries }
     requires charge { charge ≡ charge_of (map entry_object entries.old.entries) }
@@ -171,6 +172,7 @@ fn end_uses(entries: &mut BTreeMap<u32, Entry>, charge: u64, node: &Node, pool: 
 
 /// Removes one use for an operand, if the node has that operand. Drops objects and returns the
 /// charge as `end_uses` does.
+#[tactic(auto, using(crate::proofs::KeptLemmas::end_steps))]
 fn end_use(
     entries: &mut BTreeMap<u32, Entry>,
     charge: u64,
@@ -228,6 +230,7 @@ fn end_all_uses(entries: &mut BTreeMap<u32, Entry>, charge: u64, graph: u32, poo
 
 /// Marks a name as no longer live, and drops the object of the name if no node uses the object.
 /// Returns the charge of the remaining objects.
+#[tactic(auto, using(crate::proofs::KeptLemmas::end_steps))]
 fn end_name(entries: &mut BTreeMap<u32, Entry>, charge: u64, name: u32, pool: &mut Pool) -> u64
     requires held { All (λ e. IsTrue (is_kept e)) entries.old.entries }
     requires charge { charge ≡ charge_of (map entry_object entries.old.entries) }
@@ -249,6 +252,7 @@ fn end_name(entries: &mut BTreeMap<u32, Entry>, charge: u64, name: u32, pool: &m
 }
 
 /// Drops the object under a name. Returns the charge of the remaining objects.
+#[tactic(auto, using(crate::proofs::KeptLemmas::end_steps))]
 fn end_entry(entries: &mut BTreeMap<u32, Entry>, charge: u64, name: u32, pool: &mut Pool) -> u64
     requires charge { charge ≡ charge_of (map entry_object entries.old.entries) }
     requires owns { LendsAtLeast pool.old (blocks_in (map entry_object entries.old.entries)) }

@@ -1,7 +1,7 @@
-use Rattle.std.proofs.Common.{◌≡◌, ℕ, ◌+◌, ◌≤◌, List, map, All, refl, sym, ap, subst, ◌∙◌}
-use Rattle.object_table.proofs.Common.{set_value, is_at, nat_cmp, err_from_is_err_and, with_node, GraphObject, object_bytes, Entry, Context, NamedObject, graph_value, IsTable, entry_object, used_more, nodes_in, used_names, name_count}
-use Rattle.object_table.proofs.EntryLemmas.{kind_under, shown_name, IsTable-written}
-use Rattle.object_table.proofs.GraphLemmas.{unchanged, live_there, all_below, few-uses, named-recounted, IsTable-added}
+use Rattle.std.proofs.Common.{◌≡◌, ℕ, ◌+◌, ◌≤◌, All, refl, sym, ap, subst}
+use Rattle.object_table.proofs.Common.{set_value, is_at, nat_cmp, err_from_is_err_and, with_node, GraphObject, object_bytes, Entry, graph_value, IsTable, used_more, nodes_in, used_names, name_count}
+use Rattle.object_table.proofs.EntryLemmas.{kind_under, shown_name}
+use Rattle.object_table.proofs.GraphLemmas.{IsTable-written, unchanged, live_there, all_below, few-uses, named-recounted, IsTable-added}
 use Rattle.object_table.proofs.table.Table.add_node.Goals as goal
 use Rattle.object_table.proofs.table.Table.add_node.Goals.{After-begin_uses}
 
@@ -42,8 +42,6 @@ invariant_of-self-2 c =
 
 pub returns-clause-ok : goal.returns-clause-ok
 returns-clause-ok c =
-    let next = c.self.inside.next in
-    ap (λ (l : List (ℕ × Entry)). let t : Context = record { next = next; objects = map entry_object l } in t) (begun (goal.at.returns-clause-ok c).After-begin_uses)
-    ∙ ap (λ (l : List NamedObject). let t : Context = record { next = next; objects = l } in t) (named-recounted (λ k u. u + name_count k (used_names c.args.node)) _)
-    ∙ shown_name _ _ _ c.self.view_is c.args.graph c.in-Some.entry.now (sym c.in-Some.ensures.value) (λ o. GraphObject (with_node (graph_value o) c.args.node)) c.add_node.new.self _
-    c.get_mut.ensures.ordered refl c.in_ok-number.ensures.ok
+    rw (begun (goal.at.returns-clause-ok c).After-begin_uses, named-recounted (λ k u. u + name_count k (used_names c.args.node)))
+    (shown_name _ _ _ c.self.view_is c.args.graph c.in-Some.entry.now (sym c.in-Some.ensures.value) (λ o. GraphObject (with_node (graph_value o) c.args.node)) c.add_node.new.self _
+    c.get_mut.ensures.ordered refl c.in_ok-number.ensures.ok)

@@ -1,7 +1,7 @@
 use Rattle.std.proofs.Common.{arith, sym, ap, ◌∙◌}
 use Rattle.object_table.proofs.Common.{nodes_in}
 use Rattle.object_table.proofs.AgeLemmas.{none_to_age, shown_aged}
-use Rattle.object_table.proofs.EntryLemmas.{IsTable-written}
+use Rattle.object_table.proofs.GraphLemmas.{IsTable-written}
 use Rattle.object_table.proofs.table.Table.age_if_held.Goals as goal
 
 pub returns-in_default : goal.returns-in_default

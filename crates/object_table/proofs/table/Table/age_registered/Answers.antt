@@ -1,5 +1,5 @@
-use Rattle.std.proofs.Common.{map-id, ◌≡◌, ◌≢◌, ◌<◌, ℕ, List, ◌∷◌, [], length, take, get_or, sym, ap, subst, ◌∙◌, arith}
-use Rattle.object_table.proofs.Common.{AllPairs, GraphValue, aged_under, Context, with_objects, graph_under}
+use Rattle.std.proofs.Common.{map-id, ◌≡◌, ◌<◌, length, take, sym, ap, ◌∙◌, arith}
+use Rattle.object_table.proofs.Common.{GraphValue, Context, with_objects, graph_under}
 use Rattle.object_table.proofs.AgeLemmas.{aged_more, kind_aged, graph_aged}
 use Rattle.object_table.proofs.table.Table.age_registered.Goals as goal
 use Rattle.object_table.proofs.table.Table.age_registered.Goals.{After-delays}
@@ -33,10 +33,6 @@ pub loop-k-preserved : goal.loop-k-preserved
 loop-k-preserved c =
     let at = (goal.at.loop-k-preserved c).After-delays in
     let old = c.args.self.now in
-    let k = c.loop-k.k in
     let names = (graph_under old.objects c.args.graph).delays in
-    let apart : AllPairs (λ (a : ℕ) (b : ℕ). a ≢ b) names = subst (AllPairs (λ (a : ℕ) (b : ℕ). a ≢ b)) (same at) c.delays.ensures.distinct in
-    c.age_if_held.ensures
-    ∙ ap (λ (t : Context). with_objects t (aged_under (get_or c.delays.result.now k 0 ∷ []) t.objects)) c.loop-k.invariant
-    ∙ ap (λ (l : List ℕ). with_objects old (aged_under (get_or l k 0 ∷ []) (aged_under (take k names) old.objects))) (same at)
-    ∙ ap (with_objects old) (aged_more names k 0 old.objects apart (there at))
+    rw (c.age_if_held.ensures, c.loop-k.invariant, same at)
+    (ap (with_objects old) (aged_more names c.loop-k.k 0 old.objects (rw (same at) at c.delays.ensures.distinct) (there at)))

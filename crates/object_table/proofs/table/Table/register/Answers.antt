@@ -1,7 +1,8 @@
 use Rattle.std.proofs.Common.{arith, ◌≡◌, ◌≢◌, ℕ, false, [], ◌∷◌, ◌++◌, sym, ap, subst, ◌∙◌, if◌then◌else◌, ◌==◌, filter}
 use Rattle.object_table.proofs.Common.{AllPairs, list_any, GraphValue, with_delays, GraphObject, is_there, with_objects, graph_value, graph_under, nodes_in, is_registered, one_more, with_graph}
 use Rattle.object_table.proofs.AgeLemmas.{apart_and}
-use Rattle.object_table.proofs.EntryLemmas.{kind_under, under_is, shown_name, IsTable-written}
+use Rattle.object_table.proofs.EntryLemmas.{kind_under, under_is, shown_name}
+use Rattle.object_table.proofs.GraphLemmas.{IsTable-written}
 use Rattle.object_table.proofs.table.Table.register.Goals as goal
 
 pub set_delays-requires-clause-distinct : goal.set_delays-requires-clause-distinct

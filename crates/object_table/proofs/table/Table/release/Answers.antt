@@ -1,8 +1,8 @@
-use Rattle.std.proofs.Common.{◌≡◌, ℕ, List, [], map, Option, false, refl, sym, ap, ◌∙◌, unwrap_or}
-use Rattle.object_table.proofs.Common.{flat_map, set_value, is_at, option_map, nat_cmp, Node, Entry, Context, charge_of, with_objects, still_held, without_name, NamedObject, entry_object, used_less, entries_without_name, kept_entries, used_names, nodes_in}
+use Rattle.std.proofs.Common.{◌≡◌, ℕ, List, [], Option, false, refl, sym, ap, ◌∙◌, unwrap_or}
+use Rattle.object_table.proofs.Common.{flat_map, set_value, is_at, option_map, nat_cmp, Node, Entry, Context, with_objects, still_held, without_name, used_less, entries_without_name, kept_entries, used_names, nodes_in}
 use Rattle.object_table.proofs.EntryLemmas.{in_order, plain}
 use Rattle.object_table.proofs.KeptLemmas.{left_of, left-nil, left-ended, held-left, ended-one, shown-ended}
-use Rattle.object_table.proofs.GraphLemmas.{AreLeft, names_in, none_there, named_there, released-left, IsTable-same}
+use Rattle.object_table.proofs.GraphLemmas.{AreLeft, names_in, none_there, named_there, released-left}
 use Rattle.object_table.proofs.table.Table.release.Goals as goal
 use Rattle.object_table.proofs.table.Table.release.Goals.{Joined-kind, in-Graph, in_default-kind}
 
@@ -62,17 +62,12 @@ pub invariant_of-self : goal.invariant_of-self
 invariant_of-self c =
     let at = (goal.at.invariant_of-self c).Joined-kind in
     let then = left_is at c.end_name-self-inside.new.entries.entries c.end_name-self-inside.ensures.entries in
-    IsTable-same c.self.inside.next c.match-kind.self-inside.next (charge_of (map entry_object (left at))) c.end_name-self-inside.result (left at) c.end_name-self-inside.new.entries.entries
-    (next_is at) (c.end_name-self-inside.ensures.charge ∙ ap (λ (l : List (ℕ × Entry)). charge_of (map entry_object l)) then) then (are_left at).table
+    rw (next_is at, c.end_name-self-inside.ensures.charge, then) (are_left at).table
 
 pub returns-clause-ok : goal.returns-clause-ok
 returns-clause-ok c =
     let at = (goal.at.returns-clause-ok c).Joined-kind in
-    let s = c.self.inside in
-    ap (λ (n : ℕ). let t : Context = record { next = n; objects = map entry_object c.end_name-self-inside.new.entries.entries } in t) (next_is at)
-    ∙ ap (λ (l : List (ℕ × Entry)). let t : Context = record { next = s.next; objects = map entry_object l } in t) (left_is at c.end_name-self-inside.new.entries.entries c.end_name-self-inside.ensures.entries)
-    ∙ ap (λ (l : List NamedObject). let t : Context = record { next = s.next; objects = l } in t) (are_left at).shown
-    ∙ ap (λ (t : Context). with_objects t (still_held t.objects))
-    (ap (λ (l : List NamedObject). let t : Context = record { next = s.next; objects = l } in t)
-    (ap (map entry_object) (ended-one s.entries.entries c.args.name c.in-Some.entry.now (in_order s.entries.entries c.self.invariant.names) (sym c.in-Some.ensures.value)) ∙ shown-ended c.args.name s.entries.entries)
-    ∙ ap (λ (t : Context). with_objects t (without_name t.objects c.args.name)) c.self.view_is)
+    let entries = c.self.inside.entries.entries in
+    let ended = ended-one entries c.args.name c.in-Some.entry.now (in_order entries c.self.invariant.names) (sym c.in-Some.ensures.value) in
+    rw (next_is at, left_is at _ c.end_name-self-inside.ensures.entries, (are_left at).shown, ended, shown-ended c.args.name entries)
+    (ap (λ (t : Context). with_objects t (still_held (without_name t.objects c.args.name))) c.self.view_is)

@@ -1,8 +1,8 @@
-use Rattle.std.proofs.Common.{◌≡◌, ℕ, List, map, refl, sym, ap, subst, ◌∙◌, All, IsTrue}
-use Rattle.object_table.proofs.Common.{set_value, is_at, nat_cmp, err_from_is_err_and, Format, Node, without_node, GraphObject, object_bytes, object_kind, Entry, object_blocks, blocks_in, LendsAtLeast, Balances, Context, charge_of, with_objects, still_held, NamedObject, graph_value, entry_object, used_less, is_kept, kept_entries, nodes_in, used_names, Kind}
-use Rattle.object_table.proofs.EntryLemmas.{kind_under, shown_name, IsTable-written}
-use Rattle.object_table.proofs.EntryBlockLemmas.{owns-written, Balances-written, Balances-written_then, graph_blocks}
-use Rattle.object_table.proofs.GraphLemmas.{AreLeft, unchanged, charged-after, held-after, live_there, removed-left, IsTable-same}
+use Rattle.std.proofs.Common.{arith, ◌≡◌, ℕ, List, map, refl, sym, ap, subst, ◌∙◌, All, IsTrue}
+use Rattle.object_table.proofs.Common.{set_value, is_at, nat_cmp, err_from_is_err_and, Format, Node, without_node, GraphObject, object_bytes, object_kind, Entry, object_blocks, blocks_in, Context, charge_of, with_objects, still_held, graph_value, entry_object, used_less, is_kept, kept_entries, nodes_in, used_names, Kind}
+use Rattle.object_table.proofs.EntryLemmas.{kind_under, shown_name}
+use Rattle.object_table.proofs.EntryBlockLemmas.{blocks-written, graph_blocks}
+use Rattle.object_table.proofs.GraphLemmas.{IsTable-written, AreLeft, unchanged, charged-after, held-after, live_there, removed-left}
 use Rattle.object_table.proofs.table.Table.remove_node.Goals as goal
 use Rattle.object_table.proofs.table.Table.remove_node.Goals.{In_ok-node}
 
@@ -61,35 +61,32 @@ pub invariant_of-self-2 : goal.invariant_of-self-2
 invariant_of-self-2 c =
     let at = (goal.at.invariant_of-self-2 c).In_ok-node in
     let is = left_is at _ _ _ c.end_uses-self-inside.ensures.entries c.node.ensures.value (c.get_mut.follows.holds (new at)).0 in
-    IsTable-same c.self.inside.next _ (charge_of (map entry_object (kept_entries (less at)))) c.end_uses-self-inside.result (kept_entries (less at)) c.end_uses-self-inside.new.entries.entries
-    refl (c.end_uses-self-inside.ensures.charge ∙ ap (λ (l : List (ℕ × Entry)). charge_of (map entry_object l)) is) is (are_left at).table
+    rw (c.end_uses-self-inside.ensures.charge, is) (are_left at).table
 
 pub returns-clause-ok : goal.returns-clause-ok
 returns-clause-ok c =
     let at = (goal.at.returns-clause-ok c).In_ok-node in
-    let s = c.self.inside in
-    ap (λ (l : List (ℕ × Entry)). let t : Context = record { next = s.next; objects = map entry_object l } in t) (left_is at _ _ _ c.end_uses-self-inside.ensures.entries c.node.ensures.value (c.get_mut.follows.holds (new at)).0)
-    ∙ ap (λ (l : List NamedObject). let t : Context = record { next = s.next; objects = l } in t) (are_left at).shown
-    ∙ ap (λ (t : Context). with_objects t (still_held t.objects))
+    rw (left_is at _ _ _ c.end_uses-self-inside.ensures.entries c.node.ensures.value (c.get_mut.follows.holds (new at)).0, (are_left at).shown)
+    (ap (λ (t : Context). with_objects t (still_held t.objects))
     (shown_name _ _ _ c.self.view_is c.args.graph _ (sym c.in-Some.ensures.value) (λ o. GraphObject (without_node (graph_value o) c.args.number)) c.remove_node.new.self (changed at)
-    c.get_mut.ensures.ordered refl c.in_ok-node.ensures.ok)
+    c.get_mut.ensures.ordered refl c.in_ok-node.ensures.ok))
+
+written : (c : In_ok-node) → (format : Format) → blocks_in (map entry_object (changed c)) format ≡ blocks_in c.args.self.now.objects format
+written c format = grind (arith, blocks-written, same_blocks c format, c.self.view_is)
 
 pub returns-in_err-node-clause-balances : goal.returns-in_err-node-clause-balances
-returns-in_err-node-clause-balances c =
+returns-in_err-node-clause-balances c format =
     let new = record c.in-Some.entry.now { object = c.remove_node.new.self } in
-    subst (λ (t : Context). Balances c.args.pool.now c.args.pool.now t.objects (map entry_object (c.get_mut.follows.lender new).entries)) c.self.view_is
-    (Balances-written c.self.inside.entries.entries c.args.graph _ new _ (sym c.in-Some.ensures.value) (c.get_mut.follows.holds new).0 (λ format. ap (λ o. object_blocks o format) c.in_err-node.ensures.err) c.args.pool.now)
+    let written = blocks-written c.self.inside.entries.entries c.args.graph _ new (sym c.in-Some.ensures.value) format in
+    rw (c.get_mut.follows.holds new).0 (omega (arith, written, ap (λ o. object_blocks o format) c.in_err-node.ensures.err, ap (λ (t : Context). blocks_in t.objects format) c.self.view_is))
 
 pub end_uses-self-inside-requires-clause-owns : goal.end_uses-self-inside-requires-clause-owns
-end_uses-self-inside-requires-clause-owns c =
+end_uses-self-inside-requires-clause-owns c format =
     let at = (goal.at.end_uses-self-inside-requires-clause-owns c).In_ok-node in
-    owns-written c.self.inside.entries.entries c.args.graph _ (new at) _ (sym c.in-Some.ensures.value) (c.get_mut.follows.holds (new at)).0 (same_blocks at) c.args.pool.now
-    (subst (λ (t : Context). LendsAtLeast c.args.pool.now (blocks_in t.objects)) (sym c.self.view_is) c.requires.owns)
+    rw (c.get_mut.follows.holds (new at)).0 (omega (arith, written at format, c.requires.owns format))
 
 pub returns-clause-balances : goal.returns-clause-balances
-returns-clause-balances c =
+returns-clause-balances c format =
     let at = (goal.at.returns-clause-balances c).In_ok-node in
-    let left = c.end_uses-self-inside.new.entries.entries in
-    subst (λ (t : Context). Balances c.args.pool.now c.end_uses-self-inside.new.pool t.objects (map entry_object left)) c.self.view_is
-    (Balances-written_then c.self.inside.entries.entries c.args.graph _ (new at) _ (sym c.in-Some.ensures.value) (c.get_mut.follows.holds (new at)).0 (same_blocks at)
-    c.args.pool.now c.end_uses-self-inside.new.pool left c.end_uses-self-inside.ensures.balances)
+    let balances = rw (c.get_mut.follows.holds (new at)).0 at (c.end_uses-self-inside.ensures.balances format) in
+    omega (arith, written at format, balances)

@@ -1,6 +1,7 @@
 use Rattle.std.proofs.Common.{sym, ap}
 use Rattle.object_table.proofs.Common.{object_kind, Kind}
-use Rattle.object_table.proofs.EntryLemmas.{kind_under, IsTable-written, none_of_kind}
+use Rattle.object_table.proofs.EntryLemmas.{kind_under, none_of_kind}
+use Rattle.object_table.proofs.GraphLemmas.{IsTable-written}
 use Rattle.object_table.proofs.table.Table.set_counts.Goals as goal
 
 pub invariant_of-self : goal.invariant_of-self

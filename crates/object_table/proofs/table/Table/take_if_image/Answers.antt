@@ -2,8 +2,8 @@ use Rattle.std.proofs.Common.{refl, sym, ap, subst, ◌∙◌}
 use Rattle.object_table.proofs.Common.{IsTable, nodes_in}
 use Rattle.object_table.specs.contracts.table.Table.{the_view}
 use Rattle.object_table.specs.declared.table.Table.TheInside.{Inside}
-use Rattle.object_table.proofs.EntryLemmas.{IsTable-written, no_nodes}
-use Rattle.object_table.proofs.GraphLemmas.{live_image_is, unchanged}
+use Rattle.object_table.proofs.EntryLemmas.{no_nodes}
+use Rattle.object_table.proofs.GraphLemmas.{IsTable-written, live_image_is, unchanged}
 use Rattle.object_table.proofs.table.Table.take_if_image.Goals as goal
 use Rattle.object_table.proofs.table.Table.take_if_image.Goals.{then-not-entry-via-then-not-entry, then-not-entry-via-else-not-entry+then-not-has_image}
 

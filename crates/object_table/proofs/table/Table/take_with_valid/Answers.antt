@@ -1,6 +1,7 @@
 use Rattle.std.proofs.Common.{sym, ap, ◌∙◌}
 use Rattle.object_table.proofs.Common.{nodes_in}
-use Rattle.object_table.proofs.EntryLemmas.{image_there, IsTable-written, no_nodes}
+use Rattle.object_table.proofs.EntryLemmas.{image_there, no_nodes}
+use Rattle.object_table.proofs.GraphLemmas.{IsTable-written}
 use Rattle.object_table.proofs.table.Table.take_with_valid.Goals as goal
 
 pub invariant_of-self : goal.invariant_of-self

@@ -2,7 +2,7 @@ use Rattle.std.proofs.Common.{◌≡◌, arith, true, refl, sym, ap, ◌∙◌, 
 use Rattle.object_table.proofs.Common.{remove_entry, set_value, is_at, nat_cmp, kept_entries, nat_tests, or_from}
 use Rattle.object_table.proofs.UseLemmas.{with_uses, less, less_is, used-one, used-none}
 use Rattle.object_table.proofs.KeptLemmas.{all_kept, held-written, dropped, charge-written, left-nil}
-use Rattle.object_table.proofs.EntryBlockLemmas.{owns-written, Balances-written, Balances-written_then}
+use Rattle.object_table.proofs.EntryBlockLemmas.{blocks-written}
 use Rattle.object_table.proofs.table.graphs.end_use.Goals as goal
 
 pub returns-in_default-clause-entries : goal.returns-in_default-clause-entries
@@ -38,12 +38,10 @@ returns-then-entry-clause-entries c =
     ∙ (rw (c.in-Some.is, c.name-name.ensures.value) refl)
 
 pub returns-then-entry-clause-charge : goal.returns-then-entry-clause-charge
-returns-then-entry-clause-charge c =
-    charge-written _ c.args.entries.now.entries _ c.name-name.result _ (with_uses c.in-Some-get_mut.entry.now c.saturating_sub-entry.result) c.requires.charge (sym c.in-Some-get_mut.ensures.value) (then_is c) refl
+returns-then-entry-clause-charge c = rw (then_is c) (omega (arith, c.requires.charge, charge-written c.args.entries.now.entries c.name-name.result _ (with_uses c.in-Some-get_mut.entry.now c.saturating_sub-entry.result) (sym c.in-Some-get_mut.ensures.value)))
 
 pub end_entry-requires-clause-charge : goal.end_entry-requires-clause-charge
-end_entry-requires-clause-charge c =
-    charge-written _ c.args.entries.now.entries _ c.name-name.result _ (with_uses c.in-Some-get_mut.entry.now c.saturating_sub-entry.result) c.requires.charge (sym c.in-Some-get_mut.ensures.value) (c.get_mut.follows.holds _).0 refl
+end_entry-requires-clause-charge c = rw (c.get_mut.follows.holds (with_uses c.in-Some-get_mut.entry.now c.saturating_sub-entry.result)).0 (omega (arith, c.requires.charge, charge-written c.args.entries.now.entries c.name-name.result _ (with_uses c.in-Some-get_mut.entry.now c.saturating_sub-entry.result) (sym c.in-Some-get_mut.ensures.value)))
 
 pub returns-clause-entries : goal.returns-clause-entries
 returns-clause-entries c =
@@ -61,16 +59,10 @@ returns-clause-entries c =
     ∙ (rw (c.in-Some.is, c.name-name.ensures.value) refl)
 
 pub returns-then-entry-clause-balances : goal.returns-then-entry-clause-balances
-returns-then-entry-clause-balances c =
-    Balances-written c.args.entries.now.entries c.name-name.result _ (with_uses c.in-Some-get_mut.entry.now c.saturating_sub-entry.result) _ (sym c.in-Some-get_mut.ensures.value) (then_is c)
-    (λ format. refl) c.args.pool.now
+returns-then-entry-clause-balances c format = rw (then_is c) (omega (arith, blocks-written c.args.entries.now.entries c.name-name.result _ (with_uses c.in-Some-get_mut.entry.now c.saturating_sub-entry.result) (sym c.in-Some-get_mut.ensures.value) format))
 
 pub end_entry-requires-clause-owns : goal.end_entry-requires-clause-owns
-end_entry-requires-clause-owns c =
-    owns-written c.args.entries.now.entries c.name-name.result _ (with_uses c.in-Some-get_mut.entry.now c.saturating_sub-entry.result) _ (sym c.in-Some-get_mut.ensures.value) (c.get_mut.follows.holds _).0
-    (λ format. refl) c.args.pool.now c.requires.owns
+end_entry-requires-clause-owns c format = rw (c.get_mut.follows.holds (with_uses c.in-Some-get_mut.entry.now c.saturating_sub-entry.result)).0 (omega (arith, c.requires.owns format, blocks-written c.args.entries.now.entries c.name-name.result _ (with_uses c.in-Some-get_mut.entry.now c.saturating_sub-entry.result) (sym c.in-Some-get_mut.ensures.value) format))
 
 pub returns-clause-balances : goal.returns-clause-balances
-returns-clause-balances c =
-    Balances-written_then c.args.entries.now.entries c.name-name.result _ (with_uses c.in-Some-get_mut.entry.now c.saturating_sub-entry.result) _ (sym c.in-Some-get_mut.ensures.value) (c.get_mut.follows.holds _).0
-    (λ format. refl) c.args.pool.now c.end_entry.new.pool c.end_entry.new.entries.entries c.end_entry.ensures.balances
+returns-clause-balances c format = omega (arith, rw (c.get_mut.follows.holds (with_uses c.in-Some-get_mut.entry.now c.saturating_sub-entry.result)).0 at (c.end_entry.ensures.balances format), blocks-written c.args.entries.now.entries c.name-name.result _ (with_uses c.in-Some-get_mut.entry.now c.saturating_sub-entry.result) (sym c.in-Some-get_mut.ensures.value) format)
