@@ -10,7 +10,7 @@ use lib.Lanes.{mask_l, top, zip2}
 use mir.Val.{bits, hbits}
 use Rattle.pgm_images.specs.Marks.{begins_space}
 use Rattle.pgm_images.proofs.GapLemmas.{space_is}
-use Rattle.pgm_images.proofs.SpacedLemmas.{spaced_end}
+use Rattle.pgm_images.proofs.SpacedLemmas.{spaced_of}
 
 -- ---- masks
 
@@ -71,9 +71,8 @@ without_lowest n t i set below =
 pub one_told : (maxval : ℕ) (numbers bytes text : List ℕ) (i number count : ℕ) → i < length numbers → i < length bytes → FindsNumber maxval number count (drop i text)
     → FindNumbers maxval i numbers bytes text → FindNumbers maxval (i + 1) (set numbers i number) (set bytes i count) text
 one_told maxval numbers bytes text i number count in_numbers in_bytes told before place within = elim (cases_eq place i) [
-  | inl same ↦ rw (same, get_or-set_same numbers i number 0 in_numbers, get_or-set_same bytes i count 0 in_bytes) told
-  | inr other ↦ rw (get_or-set_other numbers i place number 0 other, get_or-set_other bytes i place count 0 other)
-      (before place (omega (arith, other, within)))
+  | inl same ↦ rw (same, get_or-set_same, get_or-set_same) told
+  | inr other ↦ rw (get_or-set_other numbers i place number 0 other, get_or-set_other bytes i place count 0 other) (before place (omega arith))
 ]
 
 space_no_digit : (text : List ℕ) → begins_space text ≡ true → begins_digit text ≡ false
@@ -155,7 +154,7 @@ module _ (maxval : ℕ) (numbers bytes text : List ℕ) (told : FindNumbers maxv
           near = omega (arith, some);
           clear = λ i less. without_lowest left place i set below ∙ ap (λ b. if b then bit_at left i else 0) (le-ltb place i (omega (arith, less)));
           marked = λ i more less. without_lowest left place i set below ∙ ap (λ b. if b then bit_at left i else 0) (lt-ltb place i (omega (arith, more))) ∙ walk.marked i (omega (arith, from_le, more)) less;
-          outside = ap begins_digit (sym rest) ∙ spaced_end (at place) found.number _ found.is;
+          outside = ap begins_digit (sym rest) ∙ (spaced_of (at place) found.number _ found.is).3;
           digits = λ i more less. ap (λ p. begins_digit (at p)) (omega (arith, more)) ∙ ap begins_digit (sym (drop-drop (i - place) place text)) ∙ here.digits (i - place) (omega (arith, more)) (omega (arith, less, more));
         };
       }

@@ -10,5 +10,4 @@ pub mod ShortLemmas
 pub mod BlockLemmas
 pub mod SpacedLemmas
 pub mod StandsLemmas
-pub mod HeaderLemmas
 pub mod PictureLaws

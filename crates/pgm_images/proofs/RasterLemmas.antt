@@ -1,6 +1,6 @@
 -- One more number of a raster.
-use Rattle.std.proofs.Common.{◌≡◌, ℕ, ℤ, pos, zero, suc, ◌+◌, ◌-◌, ◌<◌, ◌≤◌, Bool, true, false, ◌==◌, ◌||◌, ◌&&◌, nat_le, nat_lt, List, [], ◌∷◌, ◌++◌, map, Option, Some, None, Ok, Err, refl, ap, sym, ◌∙◌, append_assoc, append-nil, length, get_or, take, Fits, w8, ◌≢◌, arith, min, eqb-true, le-leb, length-set, take_all}
-use Rattle.pgm_images.proofs.Common.{option_map, nat_tests, set, map-append, InvalidFormat, BeginsWith, TakesNumber, LeftToFill, samples_up_to, all_up_to, take_count, take_short_sample, nothing_left}
+use Rattle.std.proofs.Common.{◌≡◌, ℕ, ℤ, pos, zero, suc, ◌+◌, ◌-◌, ◌<◌, ◌≤◌, Bool, true, false, ◌==◌, ◌||◌, ◌&&◌, nat_le, nat_lt, List, [], ◌∷◌, ◌++◌, map, Option, Some, None, Ok, refl, ap, sym, ◌∙◌, append_assoc, append-nil, length, get_or, take, Fits, w8, ◌≢◌, arith, min, le-leb, length-set, take_all}
+use Rattle.pgm_images.proofs.Common.{option_map, nat_tests, set, map-append, BeginsWith, TakesNumber, LeftToFill, samples_up_to, all_up_to, take_count, take_short_sample, nothing_left}
 use Rattle.std.proofs.lemmas.List.{take_more_set}
 use Rattle.std.proofs.lemmas.List.Folds.{list_all-append}
 use Rattle.pgm_images.specs.Raster.{Reads, HoldsNumbers, prepend}
@@ -49,10 +49,8 @@ pub filling_set : {T : Type 0} (value : T → ℤ) (take_one : List ℕ → Begi
     → LeftToFill take_one is_end maxval high (map value (take index samples)) (length samples - index) rest whole
     → LeftToFill take_one is_end maxval higher (map value (take (index + 1) (set samples index sample))) (length (set samples index sample) - (index + 1)) others whole
 filling_set {T} value take_one is_end maxval kept index high higher samples sample rest others whole within low took is above before =
-    let written : map value (take (index + 1) (set samples index sample)) ≡ map value (take index samples) ++ value sample ∷ [] =
-    ap (map value) (take_more_set samples index sample within) ∙ map-append value (take index samples) (sample ∷ []) in
     let fewer : length (set samples index sample) - (index + 1) ≡ length samples - index - 1 = omega (arith, length-set {A = T}) in
-    rw (← above, written, fewer)
+    rw (← above, take_more_set samples index sample within, map-append value (take index samples) (sample ∷ []), fewer)
     (filling_more take_one is_end maxval (length samples - index) kept high (map value (take index samples)) (value sample) rest others whole (omega arith) low took is before)
 
 -- all were written, the text ends, and none is above the maxval
@@ -72,19 +70,14 @@ pub filling_none : (take_one : List ℕ → BeginsWith ℕ) (is_end : List ℕ �
     → 0 < left → take_one rest ≡ None → LeftToFill take_one is_end maxval high written left rest whole → whole ≡ None
 filling_none take_one is_end maxval left high written rest whole some none (numbers, filled, is) = so_many-none take_one is_end left numbers rest whole some is none
 
-pub none_read : {A : Type 0} (maxval : ℕ) (written : List ℤ) (whole : Option (List ℕ)) → whole ≡ None → Reads {A = A} (samples_up_to maxval whole) written (Err InvalidFormat)
-none_read maxval written whole none = record { ok = tt; err = ap (samples_up_to maxval) none }
-
 pub none_left : (rest : List ℕ) → (length rest == 0) ≡ true → nothing_left rest ≡ true
 none_left [] e = refl
-none_left (b ∷ rest) e = let zero : length (b ∷ rest) ≡ 0 = eqb-true (length (b ∷ rest)) 0 e in absurd (omega arith)
+none_left (b ∷ rest) e = grind (arith, nat_tests)
 
 -- bytes that are one number each: as many as there are
 pub bytes-many : (count : ℕ) (bytes : List ℕ) → length bytes ≡ count → take_count take_short_sample nothing_left count bytes ≡ Some bytes
-bytes-many zero [] e = refl
-bytes-many zero (b ∷ bytes) e = absurd (omega arith)
-bytes-many (suc count) [] e = absurd (omega arith)
-bytes-many (suc count) (b ∷ bytes) e = ap (λ o. option_map (λ numbers. b ∷ numbers) o) (bytes-many count bytes (omega arith))
+bytes-many count [] e = rw (← e) refl
+bytes-many count (b ∷ bytes) e = rw (← e, bytes-many (length bytes) bytes refl) refl
 
 pub bytes-other : (count : ℕ) (bytes : List ℕ) → length bytes ≢ count → take_count take_short_sample nothing_left count bytes ≡ None
 bytes-other zero [] e = absurd (e refl)

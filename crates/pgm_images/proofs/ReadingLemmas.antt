@@ -1,5 +1,5 @@
 -- A text that is read has the number of samples that its header states.
-use Rattle.std.proofs.Common.{◌≡◌, ℕ, ℤ, pos, zero, suc, Bool, true, false, List, [], ◌∷◌, length, map, Option, Some, None, Result, Ok, Err, if◌then◌else◌, refl, ap, sym, ◌∙◌}
+use Rattle.std.proofs.Common.{arith, ◌≡◌, ℕ, ℤ, pos, zero, suc, Bool, true, false, List, length, map, Option, Some, None, Result, Ok, Err, if◌then◌else◌, refl, ap}
 use Rattle.pgm_images.proofs.Common.{option_map, InvalidValue, Encoding, Plain, Raw, BeginsWith, then_take, take_next, ends, take_count, take_raw, nothing_left, numbers_in, samples_up_to, all_up_to}
 
 -- ---- the text before a token that was taken
@@ -32,11 +32,8 @@ same_pair {A} {B} x y r s e = (ap (λ (t : A × B). t.0) e, ap (λ (t : A × B).
 -- ---- sizes
 
 so_many-size : (take : List ℕ → BeginsWith ℕ) (is_end : List ℕ → Bool) (count : ℕ) (text numbers : List ℕ) → take_count take is_end count text ≡ Some numbers → length numbers ≡ count
-so_many-size take is_end zero text numbers e = let (end, none) = if_some (is_end text) [] numbers e in ap length (sym none)
-so_many-size take is_end (suc count) text numbers e =
-    let (n, rest, first, e1) = then_some (take text) (λ number rest. option_map (λ numbers. number ∷ numbers) (take_count take is_end count rest)) numbers e in
-    let (others, more, same) = map_some (λ numbers. n ∷ numbers) (take_count take is_end count rest) numbers e1 in
-    ap length (sym same) ∙ ap suc (so_many-size take is_end count rest others more)
+so_many-size take is_end zero text numbers e = grind arith
+so_many-size take is_end (suc count) text numbers e = grind (arith, so_many-size take is_end count)
 
 pub numbers_size : (encoding : Encoding) (maxval count : ℕ) (text numbers : List ℕ) → numbers_in encoding maxval count text ≡ Some numbers → length numbers ≡ count
 numbers_size Plain maxval count text numbers e = so_many-size take_next ends count text numbers e

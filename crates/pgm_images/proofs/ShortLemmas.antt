@@ -7,12 +7,6 @@ use Rattle.std.proofs.lemmas.List.{drop_more}
 use Rattle.pgm_images.proofs.DigitLemmas.{digit_begins}
 use Rattle.pgm_images.proofs.GapLemmas.{space_is}
 
-digit_more : (n x : ℕ) (rest : List ℕ) → is_ascii_digit x ≡ true → digits_after n (x ∷ rest) ≡ digits_after (n * 10 + (x - 48)) rest
-digit_more n x rest is = ap (λ b. if b then digits_after (n * 10 + (x - 48)) rest else (n, x ∷ rest)) is
-
-digit_none : (n x : ℕ) (rest : List ℕ) → is_ascii_digit x ≡ false → digits_after n (x ∷ rest) ≡ (n, x ∷ rest)
-digit_none n x rest is = ap (λ b. if b then digits_after (n * 10 + (x - 48)) rest else (n, x ∷ rest)) is
-
 -- one whitespace byte and a digit, and what follows
 next_digits : (s x : ℕ) (rest : List ℕ) → is_space s ≡ true → is_ascii_digit x ≡ true → take_next (s ∷ x ∷ rest) ≡ Some (digits_after (x - 48) rest)
 next_digits s x rest space digit =
@@ -27,16 +21,11 @@ short_cases : (two three : Bool) (s x1 x2 x3 x4 : ℕ) (rest : List ℕ) (a b c 
     → take_next (s ∷ x1 ∷ x2 ∷ x3 ∷ x4 ∷ rest)
     ≡ Some (if two && three then (if two then a * 10 + b else a) * 10 + c else (if two then a * 10 + b else a), drop (2 + bool_byte two + bool_byte (two && three)) (s ∷ x1 ∷ x2 ∷ x3 ∷ x4 ∷ rest))
 short_cases false three s x1 x2 x3 x4 rest a b c space one is_a other is_b e3 is_c end =
-    next_digits s x1 (x2 ∷ x3 ∷ x4 ∷ rest) space one ∙ ap Some (digit_none (x1 - 48) x2 (x3 ∷ x4 ∷ rest) (sym other)) ∙ ap (λ n. Some (n, x2 ∷ x3 ∷ x4 ∷ rest)) (sym is_a)
+    cc (rw (← other) at (next_digits s x1 (x2 ∷ x3 ∷ x4 ∷ rest) space one))
 short_cases true false s x1 x2 x3 x4 rest a b c space one is_a is2 is_b other is_c end =
-    let same : (x1 - 48) * 10 + (x2 - 48) ≡ a * 10 + b = omega (arith, is_b (sym is2)) in
-    next_digits s x1 (x2 ∷ x3 ∷ x4 ∷ rest) space one ∙ ap Some (digit_more (x1 - 48) x2 (x3 ∷ x4 ∷ rest) (sym is2) ∙ digit_none ((x1 - 48) * 10 + (x2 - 48)) x3 (x4 ∷ rest) (sym other))
-    ∙ ap (λ n. Some (n, x3 ∷ x4 ∷ rest)) same
+    cc (rw (← is2, ← other) at (next_digits s x1 (x2 ∷ x3 ∷ x4 ∷ rest) space one), is_b (sym is2))
 short_cases true true s x1 x2 x3 x4 rest a b c space one is_a is2 is_b is3 is_c end =
-    let same : ((x1 - 48) * 10 + (x2 - 48)) * 10 + (x3 - 48) ≡ (a * 10 + b) * 10 + c = omega (arith, is_b (sym is2), is_c (sym is3)) in
-    next_digits s x1 (x2 ∷ x3 ∷ x4 ∷ rest) space one
-    ∙ ap Some (digit_more (x1 - 48) x2 (x3 ∷ x4 ∷ rest) (sym is2) ∙ digit_more ((x1 - 48) * 10 + (x2 - 48)) x3 (x4 ∷ rest) (sym is3) ∙ digit_none (((x1 - 48) * 10 + (x2 - 48)) * 10 + (x3 - 48)) x4 rest end)
-    ∙ ap (λ n. Some (n, x4 ∷ rest)) same
+    cc (rw (← is2, ← is3, end) at (next_digits s x1 (x2 ∷ x3 ∷ x4 ∷ rest) space one), is_b (sym is2), is_c (sym is3))
 
 byte_few : (b : Bool) → bool_byte b ≤ 1
 byte_few b = grind arith
@@ -59,9 +48,6 @@ digits_in false three s x1 x2 x3 x4 rest one is2 is3 (suc (suc k)) some less = a
 digits_in true true s x1 x2 x3 x4 rest one is2 is3 (suc (suc (suc zero))) some less = sym is3
 digits_in true false s x1 x2 x3 x4 rest one is2 is3 (suc (suc (suc k))) some less = absurd (omega arith)
 digits_in true true s x1 x2 x3 x4 rest one is2 is3 (suc (suc (suc (suc k)))) some less = absurd (omega arith)
-
-and_and : (a b c : Bool) → ((a && b) && c) ≡ (a && (b && c))
-and_and a b c = grind arith
 
 -- a front that is neither an unknown byte nor a digit is whitespace
 only_blank : (blank digit : Bool) → not (blank || digit) ≡ false → digit ≡ false → blank ≡ true
@@ -86,7 +72,7 @@ short_told white again true s x1 x2 x3 x4 front a b c d tens number one two thre
     let is_digit = sym is1 ∙ digit in
     let (tens_are, few_tens) = tens_fit (nat_lt b 10) a b tens (ltb-true a 10 digit) (ltb-true b 10) is_tens in
     let number_is = number_fits (nat_lt b 10 && nat_lt c 10) tens c number few_tens (λ is. ltb-true c 10 (and_parts (nat_lt b 10) (nat_lt c 10) is).1) fits is_number in
-    let none : (nat_lt b 10 && (nat_lt c 10 && is_ascii_digit x4)) ≡ false = ap (λ e. nat_lt b 10 && (nat_lt c 10 && e)) (sym is4) ∙ sym (and_and (nat_lt b 10) (nat_lt c 10) (nat_lt d 10)) ∙ not-true _ end in
+    let none : (nat_lt b 10 && (nat_lt c 10 && is_ascii_digit x4)) ≡ false = ap (λ e. nat_lt b 10 && (nat_lt c 10 && e)) (sym is4) ∙ grind (arith, end) in
     let found = short_cases (nat_lt b 10) (nat_lt c 10) s x1 x2 x3 x4 rest a b c (sym is_white ∙ space) is_digit (is_a is_digit) is2 is_b is3 is_c none in
     let bytes : one * (2 + two + three) ≡ 2 + bool_byte (nat_lt b 10) + bool_byte (nat_lt b 10 && nat_lt c 10) = rw (is_one, is_two, is_three) (omega arith) in
     let taken : take_next (s ∷ x1 ∷ x2 ∷ x3 ∷ x4 ∷ rest) ≡ Some (number, drop (one * (2 + two + three)) (s ∷ x1 ∷ x2 ∷ x3 ∷ x4 ∷ rest)) = cc (found, tens_are, number_is, bytes) in

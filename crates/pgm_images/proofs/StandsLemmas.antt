@@ -1,14 +1,14 @@
 -- A text is read as a picture exactly if it encodes it.
-use Rattle.std.proofs.Common.{arith, ◌≡◌, ℕ, ℤ, pos, zero, suc, ◌+◌, ◌*◌, ◌⊎◌, inl, inr, Bool, true, false, ◌&&◌, ◌≢◌, if◌then◌else◌, nat_lt, List, [], ◌∷◌, ◌++◌, length, map, Option, Some, None, Result, Ok, Err, IsTrue, refl, ap, sym, subst, ◌∙◌, append_assoc, append-nil, lt-ltb, le-ltb}
-use Rattle.pgm_images.proofs.Common.{option_map, and_parts, cases_eq, cases_lt, nat_tests, Description, is_side, sample_count, PictureValue, PgmFault, Encoding, Plain, Raw, BeginsWith, then_take, is_space, begins_digit, take_next, HeaderValue, take_header, is_maxval, format_up_to, header_description, take_count, take_short_sample, take_long_sample, take_raw, nothing_left, numbers_in, samples_up_to, all_up_to, picture_with, picture_under, picture_after, read_result, fault_of, fault, AreSpaced, Encodes, IsHeader}
+use Rattle.std.proofs.Common.{arith, ◌≡◌, ℕ, ℤ, pos, zero, suc, ◌+◌, ◌*◌, ◌⊎◌, inl, inr, Bool, true, false, ◌≢◌, if◌then◌else◌, nat_lt, List, [], ◌∷◌, ◌++◌, length, map, Option, Some, None, Result, Ok, Err, IsTrue, refl, ap, sym, subst, ◌∙◌, append_assoc, append-nil, lt-ltb, le-ltb}
+use Rattle.pgm_images.proofs.Common.{option_map, cases_eq, cases_lt, nat_tests, Description, is_side, sample_count, PictureValue, PgmFault, Encoding, Plain, Raw, BeginsWith, is_space, begins_digit, take_next, HeaderValue, take_header, is_maxval, format_up_to, header_description, take_count, take_short_sample, take_long_sample, take_raw, nothing_left, numbers_in, samples_up_to, all_up_to, picture_with, picture_under, picture_after, read_result, fault_of, fault, AreSpaced, Encodes, IsHeader}
 use Rattle.pgm_images.specs.Header.{past_header, take_magic, take_numbers}
 use Rattle.vx_base.specs.Description.{IsDescription}
 use Rattle.pgm_images.specs.declared.fault.PgmFault.TheVariants.{NoMemory}
 use Rattle.pgm_images.specs.Grammar.{ArePairs, IsRaster, IsPlainText, IsRawText, EndsHeader, magic}
 use Rattle.pgm_images.proofs.RasterLemmas.{bytes-many, bytes-other}
-use Rattle.pgm_images.proofs.ReadingLemmas.{same_pair, then_some, map_some, if_some, if_ok, samples_of, numbers_size}
+use Rattle.pgm_images.proofs.ReadingLemmas.{same_pair, then_some, map_some, if_some, samples_of, numbers_size}
 use Rattle.pgm_images.proofs.GapLemmas.{space_is, blanks_no_digit}
-use Rattle.pgm_images.proofs.SpacedLemmas.{spaced_of, spaced_end, spaced_next, spaced_no_digit, many_spaced, spaced_many}
+use Rattle.pgm_images.proofs.SpacedLemmas.{spaced_of, spaced_next, spaced_no_digit, many_spaced, spaced_many}
 
 -- ---- rasters
 
@@ -28,10 +28,8 @@ pairs_of (suc count) (a ∷ b ∷ bytes) numbers e =
     subst (ArePairs (a ∷ b ∷ bytes)) same (a, b, bytes, refl, refl, pairs_of count bytes others many)
 
 pairs-many : (numbers bytes : List ℕ) → ArePairs bytes numbers → take_count take_long_sample nothing_left (length numbers) bytes ≡ Some numbers
-pairs-many [] bytes are = ap (λ l. if nothing_left l then Some [] else None) are
-pairs-many (n ∷ numbers) bytes (a, b, rest, spelled, is, are) =
-    ap (take_count take_long_sample nothing_left (suc (length numbers))) spelled
-    ∙ ap (option_map (λ others. (256 * a + b) ∷ others)) (pairs-many numbers rest are) ∙ ap (λ m. Some (m ∷ numbers)) (sym is)
+pairs-many [] bytes are = rw are refl
+pairs-many (n ∷ numbers) bytes (a, b, rest, spelled, is, are) = rw (spelled, pairs-many numbers rest are, is) refl
 
 raw_many : (maxval count : ℕ) (bytes : List ℕ) (narrow : Bool) → nat_lt maxval 256 ≡ narrow
     → take_count (take_raw maxval) nothing_left count bytes ≡ take_count (λ text. if narrow then take_short_sample text else take_long_sample text) nothing_left count bytes
@@ -62,15 +60,13 @@ pub numbers_back : (encoding : Encoding) (w h m : ℕ) (samples body rest : List
 numbers_back encoding w h m samples body rest (a, body1, is_a, are1, at_a) none =
     let (b, body2, is_b, are2, at_b) = are1 in
     let (c, more, is_c, are, at_c) = are2 in
-    let after_height : ℕ → ℕ → List ℕ → BeginsWith HeaderValue = λ w h rest. then_take (take_next rest) (ended encoding w h) in
-    let after_width : ℕ → List ℕ → BeginsWith HeaderValue = λ w rest. then_take (take_next rest) (after_height w) in
     let none1 = spaced_no_digit (h ∷ m ∷ samples) body1 rest are1 none in
     let none2 = spaced_no_digit (m ∷ samples) body2 rest are2 none in
     let none3 = spaced_no_digit samples more rest are none in
-    let taken1 : take_next (body ++ rest) ≡ Some (w, body1 ++ rest) = ap (λ l. take_next (l ++ rest)) at_a ∙ ap take_next (append_assoc a body1 rest) ∙ spaced_next a (body1 ++ rest) w is_a none1 in
-    let taken2 : take_next (body1 ++ rest) ≡ Some (h, body2 ++ rest) = ap (λ l. take_next (l ++ rest)) at_b ∙ ap take_next (append_assoc b body2 rest) ∙ spaced_next b (body2 ++ rest) h is_b none2 in
-    let taken3 : take_next (body2 ++ rest) ≡ Some (m, more ++ rest) = ap (λ l. take_next (l ++ rest)) at_c ∙ ap take_next (append_assoc c more rest) ∙ spaced_next c (more ++ rest) m is_c none3 in
-    (more, are, ap (λ t. then_take t after_width) taken1 ∙ ap (λ t. then_take t (after_height w)) taken2 ∙ ap (λ t. then_take t (ended encoding w h)) taken3)
+    let taken1 : take_next (body ++ rest) ≡ Some (w, body1 ++ rest) = rw (at_a, append_assoc a body1 rest) (spaced_next a (body1 ++ rest) w is_a none1) in
+    let taken2 : take_next (body1 ++ rest) ≡ Some (h, body2 ++ rest) = rw (at_b, append_assoc b body2 rest) (spaced_next b (body2 ++ rest) h is_b none2) in
+    let taken3 : take_next (body2 ++ rest) ≡ Some (m, more ++ rest) = rw (at_c, append_assoc c more rest) (spaced_next c (more ++ rest) m is_c none3) in
+    (more, are, rw (taken1, taken2, taken3) refl)
 
 two_bytes : (a b : ℕ) (text : List ℕ) (encoding : Encoding) (rest : List ℕ) → take_magic (a ∷ b ∷ text) ≡ Some (encoding, rest) → a ∷ b ∷ text ≡ 80 ∷ magic encoding ∷ rest
 two_bytes a b text encoding rest e = grind (arith, nat_tests)
@@ -92,22 +88,20 @@ ends_of Raw middle rest e none = past_raw middle rest e
 pub header_of : (text : List ℕ) (value : HeaderValue) (rest : List ℕ) → take_header text ≡ Some (value, rest) → IsHeader text value rest
 header_of text value rest e =
     let (encoding, t, is_magic, e0) = then_some (take_magic text) take_numbers (value, rest) e in
-    let after_height : ℕ → ℕ → List ℕ → BeginsWith HeaderValue = λ w h rest. then_take (take_next rest) (ended encoding w h) in
-    let after_width : ℕ → List ℕ → BeginsWith HeaderValue = λ w rest. then_take (take_next rest) (after_height w) in
-    let (w, rest1, is_w, e1) = then_some (take_next t) after_width (value, rest) e0 in
-    let (h, rest2, is_h, e2) = then_some (take_next rest1) (after_height w) (value, rest) e1 in
-    let (m, rest3, is_m, e3) = then_some (take_next rest2) (ended encoding w h) (value, rest) e2 in
+    let (w, rest1, is_w, e1) = then_some (take_next t) _ _ e0 in
+    let (h, rest2, is_h, e2) = then_some (take_next rest1) _ _ e1 in
+    let (m, rest3, is_m, e3) = then_some (take_next rest2) _ _ e2 in
     let (others, past, same) = map_some (λ (rest : List ℕ). (header encoding w h m, rest)) (past_header encoding rest3) (value, rest) e3 in
     let (is, behind) = same_pair (header encoding w h m) value others rest same in
-    let (a, spaced_a, at_a) = spaced_of t w rest1 is_w in
-    let (b, spaced_b, at_b) = spaced_of rest1 h rest2 is_h in
-    let (c, spaced_c, at_c) = spaced_of rest2 m rest3 is_m in
+    let (a, spaced_a, at_a, none_a) = spaced_of t w rest1 is_w in
+    let (b, spaced_b, at_b, none_b) = spaced_of rest1 h rest2 is_h in
+    let (c, spaced_c, at_c, none) = spaced_of rest2 m rest3 is_m in
     let long : t ≡ (a ++ (b ++ (c ++ []))) ++ rest3 = at_a ∙ ap (λ l. a ++ l) (at_b ∙ ap (λ l. b ++ l) at_c) ∙ simp append_assoc in
     subst (λ v. IsHeader text v rest) is (record {
       body = a ++ (b ++ (c ++ []));
       after = rest3;
       numbers = (a, b ++ (c ++ []), spaced_a, (b, c ++ [], spaced_b, (c, [], spaced_c, refl, refl), refl), refl);
-      end = ends_of encoding rest3 rest (past ∙ ap Some behind) (spaced_end rest2 m rest3 is_m);
+      end = ends_of encoding rest3 rest (past ∙ ap Some behind) none;
       spelled = magic_of text encoding t is_magic ∙ ap (λ l. 80 ∷ magic encoding ∷ l) long;
     })
 
@@ -115,14 +109,12 @@ header_of text value rest e =
 taken : (encoding : Encoding) (w h m : ℕ) (text rest : List ℕ) → IsHeader text (header encoding w h m) rest → take_header text ≡ Some (header encoding w h m, rest)
 taken Plain w h m text rest is =
     let (same, none) = is.end in
-    let (more, are, found) = numbers_back Plain w h m [] is.body is.after is.numbers (ap begins_digit same ∙ none) in
-    ap take_header is.spelled ∙ found ∙ ap (λ l. Some (header Plain w h m, l ++ is.after)) are ∙ ap (λ l. Some (header Plain w h m, l)) same
+    let (more, are, found) = numbers_back Plain w h m [] is.body is.after is.numbers (rw same none) in
+    rw (is.spelled, found, are, same) refl
 taken Raw w h m text rest is =
     let (space, white, same) = is.end in
-    let (more, are, found) = numbers_back Raw w h m [] is.body is.after is.numbers (ap begins_digit same ∙ (space_is space white).1) in
-    let at_end : past_header Raw (more ++ is.after) ≡ Some rest =
-    ap (λ l. past_header Raw (l ++ is.after)) are ∙ ap (past_header Raw) same ∙ rw white refl in
-    ap take_header is.spelled ∙ found ∙ ap (option_map (λ rest. (header Raw w h m, rest))) at_end
+    let (more, are, found) = numbers_back Raw w h m [] is.body is.after is.numbers (rw same (space_is space white).1) in
+    rw (is.spelled, found, are, same, white) refl
 
 pub header_back : (text : List ℕ) (value : HeaderValue) (rest : List ℕ) → IsHeader text value rest → take_header text ≡ Some (value, rest)
 header_back text value rest is = taken value.encoding value.width value.height value.maxval text rest is
@@ -133,23 +125,19 @@ abbrev sized : ℕ → ℕ → ℕ → Description
 sized w h m = record { width = w; height = h; format = format_up_to m }
 
 described_of : (w h m : ℕ) (d : Description) → header_description w h m ≡ Ok d → (is_side w ≡ true) × (is_side h ≡ true) × (is_maxval m ≡ true) × (sized w h m ≡ d)
-described_of w h m d e =
-    let (sides, e1) = if_ok (is_side w && is_side h) _ _ _ e in
-    let (allowed, e2) = if_ok (is_maxval m) _ _ _ e1 in
-    let (wide, high) = and_parts (is_side w) (is_side h) sides in
-    (wide, high, allowed, cc (e2))
+described_of w h m d e = grind arith
 
-headed : (t : BeginsWith HeaderValue) (p : PictureValue) → picture_after t ≡ Ok p
+pub headed : (t : BeginsWith HeaderValue) (p : PictureValue) → picture_after t ≡ Ok p
     → (value : HeaderValue) × (rest : List ℕ) × (t ≡ Some (value, rest)) × (picture_under value (header_description value.width value.height value.maxval) rest ≡ Ok p)
 headed None p e = cc
 headed (Some taken) p e = (taken.0, taken.1, refl, e)
 
-pictured : (value : HeaderValue) (r : Result Description PgmFault) (rest : List ℕ) (p : PictureValue) → picture_under value r rest ≡ Ok p
+pub pictured : (value : HeaderValue) (r : Result Description PgmFault) (rest : List ℕ) (p : PictureValue) → picture_under value r rest ≡ Ok p
     → (d : Description) × (r ≡ Ok d) × (picture_with d (samples_up_to value.maxval (numbers_in value.encoding value.maxval (sample_count d) rest)) ≡ Ok p)
 pictured value (Ok d) rest p e = (d, refl, e)
 pictured value (Err fault) rest p e = cc
 
-sampled : (d : Description) (r : Result (List ℤ) PgmFault) (p : PictureValue) → picture_with d r ≡ Ok p
+pub sampled : (d : Description) (r : Result (List ℤ) PgmFault) (p : PictureValue) → picture_with d r ≡ Ok p
     → (samples : List ℤ) × (r ≡ Ok samples) × (record { description = d; samples = samples } ≡ p)
 sampled d (Ok samples) p e = (samples, refl, cc)
 sampled d (Err fault) p e = cc
@@ -218,11 +206,7 @@ read_from : (text : List ℕ) (p : PictureValue) (s : Encodes text p) (encoding 
     → numbers_in encoding s.maxval (length s.numbers) rest ≡ Some s.numbers → read_result text ≡ Ok p
 read_from text p s encoding rest is_header is_numbers =
     let d = p.description in
-    let value = header encoding d.width d.height s.maxval in
-    let found : numbers_in encoding s.maxval (sample_count d) rest ≡ Some s.numbers = ap (λ n. numbers_in encoding s.maxval n rest) (sym s.size) ∙ is_numbers in
-    ap picture_after is_header
-    ∙ ap (λ r. picture_under value r rest) (described_back d s.maxval s.sides s.allowed s.format)
-    ∙ ap (picture_with d) (samples_back s.maxval (numbers_in encoding s.maxval (sample_count d) rest) s.numbers p.samples found s.below s.samples)
+    rw (is_header, described_back d s.maxval s.sides s.allowed s.format, ← s.size, is_numbers, s.below, s.samples) refl
 
 plain_read : (text : List ℕ) (p : PictureValue) (s : Encodes text p) → IsPlainText text p.description.width p.description.height s.maxval s.numbers → read_result text ≡ Ok p
 plain_read text p s is =
@@ -244,10 +228,6 @@ read_stands text p s = elim s.encoded [ inl is ↦ plain_read text p s is | inr 
 
 -- ---- faults
 
-pub one_picture : (text : List ℕ) (p q : PictureValue) → Encodes text p → Encodes text q → p ≡ q
-one_picture text p q s t =
-    cc (read_stands text p s, read_stands text q t)
-
 pub no_fault : (text : List ℕ) → fault text ≡ None → (p : PictureValue) × Encodes text p
 no_fault text e = known (read_result text) refl e
   where
@@ -255,21 +235,14 @@ no_fault text e = known (read_result text) refl e
     known (Ok p) is e = (p, stands_read text p is)
     known (Err f) is e = cc
 
-pub stands_faultless : (text : List ℕ) (p : PictureValue) → Encodes text p → fault text ≡ None
-stands_faultless text p s = ap fault_of (read_stands text p s)
-
 -- want of memory is no fault of a text
 
-no_want : (value : HeaderValue) (rest : List ℕ) → picture_under value (header_description value.width value.height value.maxval) rest ≢ Err NoMemory
-no_want value rest = λ e. grind arith
+header_faults : (value : HeaderValue) (rest : List ℕ) → fault_of (picture_under value (header_description value.width value.height value.maxval) rest) ≢ Some NoMemory
+header_faults value rest = λ e. grind arith
 
-after_faults : (t : BeginsWith HeaderValue) → picture_after t ≢ Err NoMemory
-after_faults None = λ e. cc
-after_faults (Some taken) = no_want taken.0 taken.1
-
-pub fault_is : (r : Result PictureValue PgmFault) (e : PgmFault) → fault_of r ≡ Some e → r ≡ Err e
-fault_is (Ok p) e is = cc
-fault_is (Err fault) e is = let same : fault ≡ e = cc in ap Err same
+memory_faults : (t : BeginsWith HeaderValue) → fault_of (picture_after t) ≢ Some NoMemory
+memory_faults None = λ e. cc
+memory_faults (Some taken) = header_faults taken.0 taken.1
 
 pub memory_faultless : (text : List ℕ) → fault text ≢ Some NoMemory
-memory_faultless text e = after_faults (take_header text) (fault_is (read_result text) NoMemory e)
+memory_faultless text = memory_faults (take_header text)

@@ -1,6 +1,7 @@
 -- The samples of an image, row by row.
-use Rattle.std.proofs.Common.{◌≡◌, ℕ, pos, unsigned_abs, ◌+◌, ◌*◌, ◌<◌, ◌≤◌, List, [], ◌∷◌, ◌++◌, length, map, take, refl, ap, sym, ◌∙◌, append_assoc, arith, take_all}
-use Rattle.pgm_images.proofs.Common.{map-append}
+use Rattle.std.proofs.Common.{decimal, IsTrue, ◌≡◌, ℕ, pos, unsigned_abs, ◌+◌, ◌*◌, ◌<◌, ◌≤◌, List, [], ◌∷◌, ◌++◌, length, map, take, refl, ap, sym, ◌∙◌, append_assoc, arith, take_all}
+use Rattle.pgm_images.proofs.Common.{is_side, nat_tests, map-append}
+use Rattle.std.proofs.lemmas.Fmt.{length-decimal-le}
 use Rattle.std.proofs.Math.Seq.{take-add}
 use Rattle.vx_base.specs.Image.{ImageValue, IsImage}
 use Rattle.vx_base.proofs.TableLaws.{part_is_run, row_fits}
@@ -33,3 +34,9 @@ rows_all image y head text is end all =
     let whole : take (y * image.width) image.samples ≡ image.samples = take_all (y * image.width) image.samples (rw end (omega (arith, is.size))) in
     sym (bytes_back text) ∙ ap (map unsigned_abs) (all ∙ ap (λ l. map pos head ++ l) whole) ∙ map-append unsigned_abs (map pos head) image.samples
     ∙ ap (λ l. l ++ map unsigned_abs image.samples) (bytes_back head)
+
+-- a side has at most four digits
+pub side_digits : (n side : ℕ) → n ≡ side → IsTrue (is_side side) → length (decimal n) ≤ 4
+side_digits n side e is =
+    let below : side < 10000 = grind (arith, nat_tests) in
+    length-decimal-le 4 n (omega arith) (omega arith) (omega arith)

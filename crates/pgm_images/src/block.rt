@@ -60,6 +60,7 @@ impl ShortNumbers {
     }
 
     /// Returns a mask with a bit for each position where a number begins.
+    #[tactic(auto, using(crate::proofs::BlockLemmas::any_bit))]
     fn begins(&self) -> u64
         ensures { AreBegins result self.now.bytes }
     {

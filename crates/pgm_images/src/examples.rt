@@ -99,6 +99,7 @@ pub fn samples()
 {}
 
 /// The text that is written for two samples, 10 and 20.
+#[tactic(auto, using(std::proofs::lemmas::Fmt::decimal_digit))]
 pub fn written_text()
     ensures { pgm_text (record {
       description = record { width = 2; height = 1; format = U8 };

@@ -15,6 +15,7 @@ ghost use Rattle.pgm_images.specs.Writing.{pgm_text};
 
 /// `read_result` gives a picture exactly if the grammar says that the text encodes this picture. A
 /// text encodes at most one picture.
+#[tactic(auto, using(crate::proofs::StandsLemmas::stands_read))]
 pub fn reading_by_grammar()
     ensures found { (text : List ℕ) (p : PictureValue) → read_result text ≡ Ok p → Encodes text p }
     ensures only { (text : List ℕ) (p : PictureValue) → Encodes text p → read_result text ≡ Ok p }
@@ -22,6 +23,7 @@ pub fn reading_by_grammar()
 {}
 
 /// A text has no fault exactly if it encodes a picture. `NoMemory` is never the fault of a text.
+#[tactic(auto, using(crate::proofs::StandsLemmas::no_fault, crate::proofs::StandsLemmas::memory_faultless))]
 pub fn faults_by_grammar()
     ensures stands { (text : List ℕ) → fault text ≡ None → (p : PictureValue) × Encodes text p }
     ensures none { (text : List ℕ) (p : PictureValue) → Encodes text p → fault text ≡ None }
@@ -30,6 +32,7 @@ pub fn faults_by_grammar()
 
 /// `take_header` gives a header and a rest exactly if the grammar says that the text is this header
 /// followed by this rest. So a text begins with at most one header.
+#[tactic(auto, using(crate::proofs::StandsLemmas::header_of))]
 pub fn headers_by_grammar()
     ensures found { (text : List ℕ) (header : HeaderValue) (rest : List ℕ) →
         take_header text ≡ Some (header, rest) → IsHeader text header rest }
@@ -69,6 +72,7 @@ pub fn first_faults()
 
 /// The text that is written for a U8 picture encodes that picture. Reading the text returns the
 /// same picture.
+#[tactic(auto, using(crate::proofs::StandsLemmas::stands_read, crate::proofs::WrittenBack::read_back))]
 pub fn text_is_read_back()
     ensures stands { (p : PictureValue) → IsPicture p → p.description.format ≡ U8 →
         Encodes (pgm_text p) p }

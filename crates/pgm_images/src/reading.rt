@@ -64,6 +64,7 @@ pub fn read_into(text: &[u8], samples: &mut Samples) -> Result<(), PgmFault>
 ///
 /// `NoMemory`: the samples could not be allocated. Memory is allocated only for the samples, and
 /// only once the header is accepted.
+#[tactic(auto, using(crate::proofs::StandsLemmas::stands_read))]
 pub fn read(alloc: Global, text: &[u8]) -> Result<Picture, PgmFault>
     ensures stands { IfOk result (λ picture. Encodes text.now picture) }
     ensures ok { IfOk result (λ picture. read_result text.now ≡ Ok picture) }

@@ -34,6 +34,7 @@ impl Model for WrittenHeader {
 impl WrittenHeader {
     /// Returns the header of a U8 picture with the sides of `desc`. Builds the header from its end.
     /// Allocates nothing.
+    #[tactic(auto, using(crate::proofs::WritingLemmas::side_digits))]
     pub fn new(desc: Desc) -> WrittenHeader
         ensures { result ≡ written_header desc }
     {

@@ -1,11 +1,7 @@
-use Rattle.pgm_images.proofs.StandsLemmas.{no_fault, stands_faultless, memory_faultless}
+use Rattle.std.proofs.Common.{ap}
+use Rattle.pgm_images.proofs.Common.{fault_of}
+use Rattle.pgm_images.proofs.StandsLemmas.{read_stands}
 use Rattle.pgm_images.proofs.laws.faults_by_grammar.Goals as goal
 
-pub returns-clause-stands : goal.returns-clause-stands
-returns-clause-stands c = no_fault
-
 pub returns-clause-none : goal.returns-clause-none
-returns-clause-none c = stands_faultless
-
-pub returns-clause-memory : goal.returns-clause-memory
-returns-clause-memory c = memory_faultless
+returns-clause-none c text p s = ap fault_of (read_stands text p s)

@@ -1,7 +1,7 @@
-use Rattle.std.proofs.Common.{◌∙◌, length, subst, sym, arith}
-use Rattle.pgm_images.proofs.Common.{take_next, ends, take_count, PlainUpTo}
+use Rattle.std.proofs.Common.{ap, ◌∙◌, length, subst, sym, arith}
+use Rattle.pgm_images.proofs.Common.{samples_up_to, take_next, ends, take_count, PlainUpTo}
 use Rattle.std.proofs.lemmas.List.{take_rest}
-use Rattle.pgm_images.proofs.RasterLemmas.{none_read, filling_done}
+use Rattle.pgm_images.proofs.RasterLemmas.{filling_done}
 use Rattle.pgm_images.proofs.raster.read_plain.Goals as goal
 
 pub loop-index-preserved-then-begins-ne0 : goal.loop-index-preserved-then-begins-ne0
@@ -14,7 +14,7 @@ loop-index-preserved-then-begins-ne0 g c =
     )
 
 pub returns-in_default : goal.returns-in_default
-returns-in_default g c = none_read c.args.maxval _ _ (c.in_default.ensures.none c.loop-index.above _ c.loop-index.invariant.0)
+returns-in_default g c = record { ok = tt; err = ap (samples_up_to c.args.maxval) (c.in_default.ensures.none c.loop-index.above _ c.loop-index.invariant.0) }
 
 pub returns-else-above : goal.returns-else-above
 returns-else-above g c =
