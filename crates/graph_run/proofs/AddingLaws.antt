@@ -17,12 +17,9 @@ same_any {X} p xs ys to from = grind (arith, cases_Bool, In-from_any, any-from_I
 -- ---- rounds of anything
 
 module _ {N C V : Type 0} (writes : N → C → Bool) (value : N → (C → V) → C → V) (nodes others : List N) (one : cells.OneWriter writes nodes) (to : AllIn nodes others) (from : AllIn others nodes) where
-  same_round : (held : C → V) (c : C) → cells.round writes value nodes held c ≡ cells.round writes value others held c
-  same_round held c = grind (arith, cases_Bool, In-from_any, round_written, round_other, same_any)
-
   pub cell_rounds : (k : ℕ) (held : C → V) → cells.rounds writes value nodes k held ≡ cells.rounds writes value others k held
   cell_rounds zero held = refl
-  cell_rounds (suc k) held = grind (arith, cell_rounds k held, same_round (cells.rounds writes value others k held))
+  cell_rounds (suc k) held = grind (arith, cell_rounds k held, cases_Bool, In-from_any, round_written, round_other, same_any)
 
 -- ---- rounds of objects
 
@@ -35,9 +32,7 @@ module _ (nodes others : List Node) (two : two_writers nodes ≡ false) (to : Al
       let one = one_writer nodes two in
       let labels = labels-rounds nodes k objects in
       let same : seen (rounds_of_nodes nodes k objects) ≡ seen (rounds_of_nodes others k objects) =
-      seen-rounds nodes k objects one whole
-      ∙ cell_rounds writes (given_from (seen objects)) nodes others one to from k (seen objects)
-      ∙ sym (seen-rounds others k objects (λ m n c i j. one m n c (from m i) (from n j)) (WritesNo-others objects whole)) in
+      grind (arith, seen-rounds nodes k objects one whole, cell_rounds writes (given_from (seen objects)) nodes others one to from k (seen objects), seen-rounds others k objects (λ m n c i j. one m n c (from m i) (from n j)) (WritesNo-others objects whole)) in
       same_objects (rounds_of_nodes nodes k objects) (rounds_of_nodes others k objects) (subst (λ z. Rising z) (sym labels) up) (labels ∙ sym (labels-rounds others k objects)) (λ c. ap (λ f. f c) same)
 
   same_resolved : (is : Reference → Operand) → resolved_operand is nodes ≡ resolved_operand is others

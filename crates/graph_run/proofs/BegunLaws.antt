@@ -1,9 +1,10 @@
 -- Virtual images at the start and at the end of a run.
-use Rattle.std.proofs.Common.{◌≡◌, ℕ, true, false, if◌then◌else◌, eqb, List, [], ◌∷◌, map, drop, refl, sym, ap, subst, ◌∙◌, inl, inr, Option, Some, None, Bool, arith, ◌==◌, option_map}
-use Rattle.graph_run.proofs.Common.{cases_Bool, Node, Reference, ObjectValue, object_kind, in_slot, NamedObject, object_held, with_object, with_written, Operand, In, is_written, object_at_start, named_at_start, is_virtual_object, objects_at_end, WritesNo, label_of, operand_of, object_held-map}
+use Rattle.std.proofs.Common.{◌<◌, append-nil, eqb-true, ◌≡◌, ℕ, true, false, if◌then◌else◌, eqb, List, [], ◌∷◌, map, drop, refl, sym, ap, subst, ◌∙◌, inl, inr, Option, Some, None, Bool, arith, ◌==◌, option_map}
+use Rattle.graph_run.proofs.Common.{AllPairs, or_left, written_by, object_at, run_of_graph, cases_Bool, Node, Reference, ObjectValue, NamedObject, object_held, with_object, with_written, Operand, In, is_written, object_at_start, named_at_start, is_virtual_object, objects_at_end, WritesNo, label_of, operand_of, object_held-map}
 use Rattle.vx_base.specs.declared.kind.Kind.TheVariants as kind
-use Rattle.graph_run.proofs.HeldLaws.{object_held-with_object}
-use Rattle.graph_run.proofs.NameLaws.{Rising, by_names}
+use Rattle.graph_run.proofs.HeldLaws.{labels-with_written, object_held-with_object}
+use Rattle.graph_run.proofs.NameLaws.{Rising, by_names, rising}
+use Rattle.graph_run.proofs.NodeLaws.{written_held}
 use Rattle.graph_verify.specs.Operand.{is_virtual as is_virtual_operand}
 
 -- ---- the begin
@@ -31,12 +32,6 @@ WritesNo-begun is nodes objects whole c w h = grind (arith, object_held-begun is
 
 -- ---- where no virtual image is written
 
-pub virtual_kind : (x : ObjectValue) → is_virtual_object x ≡ true → object_kind x ≡ kind.VirtualImage
-virtual_kind x h = grind arith
-
-pub no_slot_of_virtual : (k : ℕ) (x : ObjectValue) → is_virtual_object x ≡ true → ◌≡◌ {A = Option ObjectValue} (in_slot (Some k) x) None
-no_slot_of_virtual k x h = grind arith
-
 -- nothing changes as the run begins
 pub nothing_begun : (is : Reference → Operand) (nodes : List Node) (objects : List NamedObject) → Rising (map label_of objects) → WritesNo kind.VirtualImage nodes objects → map (named_at_start is nodes) objects ≡ objects
 nothing_begun is nodes objects up real = grind (arith, labels-begun, by_names, Rising, object_held-begun, cases_Bool)
@@ -50,8 +45,6 @@ object_held-unwritten (w ∷ ws) objects name h = grind (arith, object_held-unwr
 -- lists with the same labels have objects under the same names
 pub both_held : (one other : List NamedObject) → map label_of one ≡ map label_of other → (name : ℕ) (x : ObjectValue) → object_held one name ≡ Some x
     → (y : ObjectValue) × (object_held other name ≡ Some y)
-both_held [] other labels name x at = absurd (cc)
-both_held (o ∷ one) [] labels name x at = absurd (cc)
 both_held (o ∷ one) (p ∷ other) labels name x at =
     let label : label_of o ≡ label_of p = cc in
     let same : o.name ≡ p.name = ap (λ (m : ℕ × Bool). m.0) label in
@@ -59,6 +52,7 @@ both_held (o ∷ one) (p ∷ other) labels name x at =
       | inl here ↦ (p.object, rw here refl)
       | inr later ↦ rw later (both_held one other (ap (drop 1) labels) name x (rw (same, later) at at))
     ]
+both_held one other labels name x at = absurd (grind arith)
 
 abbrev pub kept_virtual : Option ObjectValue → Option ObjectValue → Option ObjectValue
 kept_virtual (Some x) (Some y) = Some (if is_virtual_object x then x else y)
@@ -79,11 +73,7 @@ pub nothing_forgotten : (before after : List NamedObject) → Rising (map label_
 nothing_forgotten before after up labels stays =
     let same = labels-forgotten before after labels in
     by_names (objects_at_end before after) after (subst (λ z. Rising z) (labels ∙ sym same) up) same
-    (λ name. object_held-forgotten before after labels name ∙ kept (object_held before name) (object_held after name) (stays name))
-  where
-    kept : (o p : Option ObjectValue) → ((x : ObjectValue) → o ≡ Some x → is_virtual_object x ≡ true → p ≡ Some x) → kept_virtual o p ≡ p
-    kept (Some x) (Some y) h = grind (arith, cases_Bool (is_virtual_object x))
-    kept o p h = grind arith
+    (λ name. grind (arith, object_held-forgotten before after labels name, stays name, both_held before after labels name, cases_Bool))
 
 -- the value at the start of an object with this resolved operand, if a node writes it
 abbrev pub begun_if : Bool → ObjectValue → Operand → ObjectValue
@@ -95,3 +85,10 @@ begun_stays other written operand h = grind arith
 
 pub virtual_as_operand : (object : ObjectValue) → is_virtual_object object ≡ true → is_virtual_operand (operand_of object) ≡ true
 virtual_as_operand other h = grind arith
+
+-- ---- a graph with one node
+
+-- its run is the node by itself
+pub one_node : (is : Reference → Operand) (n : Node) (objects : List NamedObject) → AllPairs (λ a b. a.name < b.name) objects → WritesNo kind.VirtualImage (n ∷ []) objects
+    → run_of_graph is (n ∷ []) objects ≡ with_written objects (written_by n (object_at objects))
+one_node is n objects names real = grind (arith, rising, nothing_begun, append-nil, nothing_forgotten, labels-with_written, object_held-unwritten, or_left, written_held, cases_Bool, eqb-true)

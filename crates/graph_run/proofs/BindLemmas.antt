@@ -1,10 +1,10 @@
 -- Images that leave a table for planes while a graph runs, and come back.
-use Rattle.std.proofs.Common.{◌≡◌, ℕ, ◌<◌, ◌≤◌, ◌+◌, Bool, List, [], ◌∷◌, length, map, drop, refl, sym, ap, subst, ◌∙◌, inl, inr, Option, Some, None, arith, option_map, if◌then◌else◌}
-use Rattle.graph_run.proofs.Common.{AllPairs, Reference, same_reference, ImageValue, description_of, ObjectValue, ImageObject, Context, with_objects, NamedObject, with_object, with_written, image_value, image_held, HoldsImage, AreApart, In, form_of, label_of, option_or}
+use Rattle.std.proofs.Common.{◌≡◌, ◌<◌, ◌≤◌, List, [], ◌∷◌, length, map, refl, sym, ap, subst, ◌∙◌, inl, inr, Option, None, arith, option_map}
+use Rattle.graph_run.proofs.Common.{cases_Bool, AllPairs, Reference, same_reference, ObjectValue, ImageObject, Context, with_objects, NamedObject, with_object, with_written, image_value, image_held, AreApart, In, label_of, option_or}
 use Rattle.graph_steps.specs.Planes.{PlaneValue, block_image}
 use Rattle.graph_run.specs.Bind.{AreAllApart, AreFor, HoldImages, bare_images, image_plane, image_planes, plane_objects, without_samples}
 use Rattle.graph_run.proofs.ObjectLaws.{shown}
-use Rattle.graph_run.proofs.HeldLaws.{IsWrite, AreWrites, last_to, or_none, seen, seen-with_written, labels-with_written, form-with_written}
+use Rattle.graph_run.proofs.HeldLaws.{AreWrites, last_to, or_none, seen-with_written, labels-with_written, form-with_written}
 use Rattle.graph_run.proofs.NameLaws.{Rising, rising, same_objects}
 use Rattle.graph_run.proofs.CellLemmas.{object_elsewhere, image_elsewhere, held_image}
 
@@ -25,21 +25,15 @@ module _ (objects : List NamedObject) (q : Reference) (new : ObjectValue) where
 
   pub bare_elsewhere : (cells : List Reference) → ((p : Reference) → In p cells → AreApart p q) → bare_images (with_object objects q new) cells ≡ bare_images objects cells
   bare_elsewhere [] apart = refl
-  bare_elsewhere (p ∷ cells) apart =
-      ap (λ (i : ImageValue). (p, ImageObject (without_samples i)) ∷ bare_images (with_object objects q new) cells) (held_elsewhere p (apart p (inl refl)))
-      ∙ ap (λ l. (p, ImageObject (without_samples (image_held objects p))) ∷ l) (bare_elsewhere cells (λ c i. apart c (inr i)))
+  bare_elsewhere (p ∷ cells) apart = grind (arith, held_elsewhere p (apart p (inl refl)), bare_elsewhere cells)
 
   pub planes_elsewhere : (cells : List Reference) → ((p : Reference) → In p cells → AreApart p q) → image_planes (with_object objects q new) cells ≡ image_planes objects cells
   planes_elsewhere [] apart = refl
-  planes_elsewhere (p ∷ cells) apart =
-      ap (λ (i : ImageValue). image_plane i ∷ image_planes (with_object objects q new) cells) (held_elsewhere p (apart p (inl refl)))
-      ∙ ap (λ l. image_plane (image_held objects p) ∷ l) (planes_elsewhere cells (λ c i. apart c (inr i)))
+  planes_elsewhere (p ∷ cells) apart = grind (arith, held_elsewhere p (apart p (inl refl)), planes_elsewhere cells)
 
   pub for_elsewhere : (cells : List Reference) (planes : List PlaneValue) → ((p : Reference) → In p cells → AreApart p q) → AreFor objects cells planes → AreFor (with_object objects q new) cells planes
-  for_elsewhere [] planes apart are = tt
-  for_elsewhere (p ∷ cells) [] apart are = are
-  for_elsewhere (p ∷ cells) (x ∷ planes) apart are =
-      (are.0 ∙ ap description_of (sym (held_elsewhere p (apart p (inl refl)))), are.1, for_elsewhere cells planes (λ c i. apart c (inr i)) are.2)
+  for_elsewhere (p ∷ cells) (x ∷ planes) apart are = grind (arith, held_elsewhere p (apart p (inl refl)), for_elsewhere cells planes)
+  for_elsewhere cells planes apart are = grind arith
 
 -- ---- taking out
 
@@ -73,12 +67,7 @@ module _ (objects : List NamedObject) (c : Reference) (cells : List Reference) (
   back = ImageObject (block_image p)
 
   put_can : CanPut (with_object objects c back) cells planes
-  put_can =
-      record {
-        images = images_elsewhere objects c back cells can.apart.0 (λ q i. can.images q (inr i));
-        apart = can.apart.1;
-        fit = for_elsewhere objects c back cells planes can.apart.0 can.fit.2;
-      }
+  put_can = grind (arith, images_elsewhere, for_elsewhere)
 
   -- where the table holds the first one's image
   module _ (after : List NamedObject) (left : after ≡ with_object objects c back) (others : List PlaneValue) (same : others ≡ planes) where
@@ -90,62 +79,33 @@ module _ (objects : List NamedObject) (c : Reference) (cells : List Reference) (
 
 -- there are enough planes
 pub for_length : (objects : List NamedObject) (cells : List Reference) (planes : List PlaneValue) → AreFor objects cells planes → length cells ≤ length planes
-for_length objects [] planes are = omega arith
-for_length objects (c ∷ cells) [] are = absurd are
 for_length objects (c ∷ cells) (p ∷ planes) are = omega (arith, for_length objects cells planes are.2)
-
--- the first of the cells and planes that are left, and the others
-module _ (objects : List NamedObject) (cells : List Reference) (planes : List PlaneValue) (k : ℕ) (c : Reference) (p : PlaneValue)
-    (cell_at : drop k cells ≡ c ∷ drop (k + 1) cells) (plane_at : drop k planes ≡ p ∷ drop (k + 1) planes)
-    (can : CanPut objects (drop k cells) (drop k planes)) where
-  pub first_can : CanPut objects (c ∷ drop (k + 1) cells) (p ∷ drop (k + 1) planes)
-  first_can = rw (cell_at, plane_at) at can
+for_length objects cells planes are = grind arith
 
 -- ---- both
 
--- an image that is written over one of its format
-pub image_written : (objects : List NamedObject) (cell : Reference) (image : ImageValue) → HoldsImage objects cell → image.format ≡ (image_held objects cell).format → IsWrite objects cell (ImageObject image)
-image_written objects cell image holds same =
-    record {
-      form = ap (option_map form_of) (held_image objects cell holds) ∙ grind (arith, same);
-      whole = refl;
-    }
-
 pub bare_written : (objects : List NamedObject) (cells : List Reference) → HoldImages objects cells → AreWrites objects (bare_images objects cells)
 bare_written objects [] holds w i = absurd i
-bare_written objects (c ∷ cells) holds w (inl e) =
-    subst (λ (x : Reference × ObjectValue). IsWrite objects x.0 x.1) (sym e) (image_written objects c (without_samples (image_held objects c)) (holds c (inl refl)) refl)
-bare_written objects (c ∷ cells) holds w (inr i) = bare_written objects cells (λ p j. holds p (inr j)) w i
+bare_written objects (c ∷ cells) holds w (inl e) = grind (arith, held_image)
+bare_written objects (c ∷ cells) holds w (inr i) = grind (arith, bare_written objects cells)
 
 pub planes_written : (objects : List NamedObject) (cells : List Reference) (planes : List PlaneValue) → HoldImages objects cells → AreFor objects cells planes → AreWrites objects (plane_objects cells planes)
-planes_written objects [] planes holds are w i = absurd i
-planes_written objects (c ∷ cells) [] holds are w i = absurd are
-planes_written objects (c ∷ cells) (p ∷ planes) holds are w (inl e) =
-    subst (λ (x : Reference × ObjectValue). IsWrite objects x.0 x.1) (sym e) (image_written objects c (block_image p) (holds c (inl refl)) (ap (λ d. d.format) are.0))
-planes_written objects (c ∷ cells) (p ∷ planes) holds are w (inr i) = planes_written objects cells planes (λ q j. holds q (inr j)) are.2 w i
+planes_written objects (c ∷ cells) (p ∷ planes) holds are w (inl e) = grind (arith, held_image)
+planes_written objects (c ∷ cells) (p ∷ planes) holds are w (inr i) = grind (arith, planes_written objects cells planes)
+planes_written objects cells planes holds are w i = grind arith
 
 -- an image that may be written to a cell may be written to it after others
 writes_after : (objects : List NamedObject) (ws vs : List (Reference × ObjectValue)) → AreWrites objects ws → AreWrites objects vs → AreWrites (with_written objects ws) vs
 writes_after objects ws vs first second w i = let is = second w i in record { form = form-with_written ws objects first w.0 ∙ is.form; whole = is.whole }
 
-none_or : {X : Type 0} (o p : Option X) → o ≡ None → p ≡ None → option_or o p ≡ None
-none_or o p h k = grind arith
-
-no_choice : {X : Type 0} (b : Bool) (x y : X) → (if b then Some x else None) ≡ None → (if b then Some y else None) ≡ None
-no_choice b x y h = grind arith
-
 -- a cell to which no plane comes back lost no samples
 none_back : (objects : List NamedObject) (cells : List Reference) (planes : List PlaneValue) (c : Reference) → AreFor objects cells planes
     → last_to c (plane_objects cells planes) ≡ None → last_to c (bare_images objects cells) ≡ None
-none_back objects [] planes c are h = refl
-none_back objects (q ∷ cells) [] c are h = absurd are
-none_back objects (q ∷ cells) (p ∷ planes) c are h =
-    let parts = or_none (last_to c (plane_objects cells planes)) _ h in
-    none_or (last_to c (bare_images objects cells)) _ (none_back objects cells planes c are.2 parts.0) (no_choice (same_reference c q) _ _ parts.1)
+none_back objects (q ∷ cells) (p ∷ planes) c are h = grind (arith, or_none (last_to c (plane_objects cells planes)), none_back objects cells planes c, cases_Bool (same_reference c q))
+none_back objects cells planes c are h = grind arith
 
 over : (p b s : Option ObjectValue) → (p ≡ None → b ≡ None) → option_or (option_map shown p) (option_or (option_map shown b) s) ≡ option_or (option_map shown p) s
-over (Some x) b s h = refl
-over None b s h = ap (λ z. option_or (option_map shown z) s) (h refl)
+over z0 b s h = grind (arith, shown)
 
 -- images whose samples were taken out, and that others replace, are as if they had not been taken out
 pub out_and_back : (objects : List NamedObject) (cells : List Reference) (planes : List PlaneValue) → AllPairs (λ a b. a.name < b.name) objects → HoldImages objects cells → AreFor objects cells planes
@@ -156,11 +116,5 @@ out_and_back objects cells planes up holds are =
     let first = bare_written objects cells holds in
     let second = planes_written objects cells planes holds are in
     let labels : map label_of (with_written (with_written objects out) back) ≡ map label_of objects = labels-with_written back (with_written objects out) ∙ labels-with_written out objects in
-    same_objects (with_written (with_written objects out) back) (with_written objects back)
-    (subst Rising (sym labels) (rising objects up))
-    (labels ∙ sym (labels-with_written back objects))
-    (λ c.
-    seen-with_written back (with_written objects out) (writes_after objects out back first second) c
-    ∙ ap (λ z. option_or (option_map shown (last_to c back)) z) (seen-with_written out objects first c)
-    ∙ over (last_to c back) (last_to c out) (seen objects c) (none_back objects cells planes c are)
-    ∙ sym (seen-with_written back objects second c))
+    same_objects (with_written (with_written objects out) back) (with_written objects back) (subst Rising (sym labels) (rising objects up)) (labels ∙ sym (labels-with_written back objects))
+    (λ c. grind (arith, seen-with_written back (with_written objects out) (writes_after objects out back first second) c, seen-with_written out objects first c, over, none_back objects cells planes c are, seen-with_written back objects second c))

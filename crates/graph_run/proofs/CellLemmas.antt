@@ -1,21 +1,16 @@
 -- What cells hold where one of them is written.
-use Rattle.std.proofs.Common.{◌≡◌, ℕ, IsTrue, List, [], ◌∷◌, map, Option, Some, None, refl, sym, ap, subst, ◌∙◌, arith, All, is_some, unwrap_or, IfSome, option_map, option_and_then, eq-eqb, eqb-true}
-use Rattle.graph_run.proofs.Common.{IsStrictlyIncreasing, All-head, All-tail, All-weaker, U8, Kind, Node, Reference, ImageValue, new_image, ObjectValue, ImageObject, IsObject, object_kind, in_slot, with_slot, NamedObject, object_held, object_at, with_object, with_written, cell_object, image_held, HoldsImage, names_of, HasObject, map-with_object, with_slot_there, with_slot_elsewhere, Missing, operand_of, operand_held, lasting_part, lasting_named, Lasts, Holds, TwoSlots, AreApart, HoldsKind}
-use Rattle.vx_base.specs.declared.kind.Kind.TheVariants as kind
+use Rattle.std.proofs.Common.{◌≡◌, ℕ, IsTrue, List, [], ◌∷◌, map, Option, Some, None, refl, sym, ap, subst, ◌∙◌, arith, All, is_some, unwrap_or, IfSome, option_map, eq-eqb, eqb-true}
+use Rattle.graph_run.proofs.Common.{IsStrictlyIncreasing, All-head, All-tail, All-weaker, U8, Kind, Reference, ImageValue, new_image, ObjectValue, ImageObject, IsObject, object_kind, in_slot, with_slot, NamedObject, object_held, object_at, with_object, with_written, cell_object, image_held, HoldsImage, names_of, HasObject, map-with_object, with_slot_there, with_slot_elsewhere, Missing, operand_of, operand_held, lasting_part, lasting_named, Lasts, Holds, AreApart, HoldsKind}
 use Rattle.object_table.proofs.HeldLemmas.{held_alone, All-with_object}
 use Rattle.object_table.proofs.SkeletonLaws.{IsObject-with_slot}
 use Rattle.object_table.proofs.SlotLemmas.{with_slot_twice}
 use Rattle.graph_run.proofs.HeldLaws.{object_held-with_object}
 use Rattle.graph_run.proofs.LastingLemmas.{skeletons-last, lasting-with_slot, cell-lasts, Lasts-trans, Lasts-names}
 
--- two slots of one object
-other_slot : (j k : Option ℕ) (new object : ObjectValue) → TwoSlots j k → in_slot j (with_slot k new object) ≡ in_slot j object
-other_slot j k new object apart = grind (arith, with_slot_elsewhere)
-
 module _ (objects : List NamedObject) (q : Reference) where
   -- what stands apart stays
   pub elsewhere : (p : Reference) (new : ObjectValue) → AreApart p q → object_at (with_object objects q new) p ≡ object_at objects p
-  elsewhere p new apart = grind (arith, object_held-with_object, other_slot, eqb-true)
+  elsewhere p new apart = grind (arith, object_held-with_object, with_slot_elsewhere, eqb-true)
 
   pub object_elsewhere : (p : Reference) (new : ObjectValue) → AreApart p q → cell_object (with_object objects q new) p ≡ cell_object objects p
   object_elsewhere p new apart = ap (λ o. unwrap_or o (ImageObject (new_image 0 0 U8))) (elsewhere p new apart)
@@ -87,20 +82,12 @@ map-with_held f objects cell new names there same = found (object_held objects c
 
 -- an object that is written to a cell, and of which as much lasts as of the one there
 module _ (objects : List NamedObject) (w : Reference × ObjectValue) (lasts : option_map lasting_part (object_at objects w.0) ≡ Some (lasting_part w.1)) (names : IsStrictlyIncreasing (names_of objects)) where
-  pub replaces : Holds objects w.0
-  replaces = grind (arith, lasts)
-
   pub replaces-in_slot : (x : ObjectValue) → object_held objects w.0.name ≡ Some x → (o : NamedObject) → o.object ≡ x → option_map lasting_part (in_slot w.0.slot o.object) ≡ Some (lasting_part w.1)
-  replaces-in_slot x e o at =
-      ap (λ y. option_map lasting_part (in_slot w.0.slot y)) at ∙ ap (λ y. option_map lasting_part (option_and_then (in_slot w.0.slot) y)) (sym e) ∙ lasts
+  replaces-in_slot x e o at = grind arith
 
   -- as much lasts of all
   pub lasting-with_object : map lasting_named (with_object objects w.0 w.1) ≡ map lasting_named objects
-  lasting-with_object =
-      map-with_held lasting_named objects w.0 w.1 names replaces
-      (λ x e o at.
-      ap (λ (left : ObjectValue × List Node). let made : NamedObject × List Node = (record o { object = left.0 }, left.1) in made)
-      (lasting-with_slot w.0.slot w.1 o.object (replaces-in_slot x e o at)))
+  lasting-with_object = grind (arith, map-with_held, lasts, lasting-with_slot, replaces-in_slot)
 
 -- an object that may be written to a cell: as much lasts of it as of the one there
 pub record IsReplacement (objects : List NamedObject) (w : Reference × ObjectValue) : Type 0 where

@@ -1,10 +1,10 @@
 -- The blocks of virtual images: which image has the block of a slot, once some are written; after all of them that is as before.
-use Rattle.std.proofs.Common.{◌≡◌, ℕ, zero, suc, ◌+◌, ◌-◌, ◌<◌, ◌≤◌, true, false, if◌then◌else◌, List, [], ◌∷◌, ◌++◌, length, map, take, get_or, set, refl, sym, ap, subst, ◌∙◌, inl, inr, arith, Option, Some, None, eqb, eqb-true, eq-eqb, ne_eqb}
+use Rattle.std.proofs.Common.{◌≡◌, ℕ, zero, suc, ◌+◌, ◌-◌, ◌<◌, ◌≤◌, true, if◌then◌else◌, List, [], ◌∷◌, length, map, take, get_or, set, refl, sym, ap, ◌∙◌, inl, inr, arith, Option, Some, None, eqb, eqb-true, eq-eqb, ne_eqb}
 use Rattle.std.proofs.lemmas.List.{get_or-set_same, get_or-set_other, length-set, ext_get_or, length-take, get_or-take, length-append, get_or-append_right}
 use Rattle.std.proofs.lemmas.List.FromFn.{get_or-map-range_with_len, length-map-range_with_len}
 use Rattle.std.proofs.Math.Seq.{take-length}
 use Rattle.std.proofs.Math.ListN.{get_or-append}
-use Rattle.graph_run.proofs.Common.{cases_Bool, cases_lt, fun_ext, range_with_len, Format, U8}
+use Rattle.graph_run.proofs.Common.{cases_Bool, cases_lt, range_with_len, Format, U8}
 use Rattle.graph_steps.specs.Steps.{blocks_with_move, capacity}
 use Rattle.graph_run.specs.Tasks.{block_at, blocks_at, holder, is_at, last_in, previous_holder}
 use Rattle.graph_run.proofs.ListLemmas.{last_in-more}
@@ -34,20 +34,7 @@ module _ (slots : List ℕ) where
   holder_next slot j d below = grind (arith, last_in-more slot slots j d below, cases_Bool (eqb (get_or slots j d) slot))
 
   pub holder_is : (slot j k d : ℕ) → holder slots slot j ≡ Some k → (k < length slots) × (get_or slots k d ≡ slot)
-  holder_is slot j k d h = found (last_in slot (take j slots)) refl
-    where
-      found : (o : Option ℕ) → last_in slot (take j slots) ≡ o → (k < length slots) × (get_or slots k d ≡ slot)
-      found None e = last_below slot slots k d (grind (arith, h, e))
-      found (Some i) e =
-          let same : i ≡ k = grind (arith, h, e) in
-          let r = last_below slot (take j slots) i d e in
-          let short = length-take j slots in
-          let before : i < j = omega (arith, r.0, short) in
-          let at : get_or slots i d ≡ slot = sym (get_or-take j slots i d before) ∙ r.1 in
-          (omega (arith, r.0, short, same), ap (λ (n : ℕ). get_or slots n d) (sym same) ∙ at)
-
-  pub holder_cycles : (slot : ℕ) → holder slots slot (length slots) ≡ holder slots slot 0
-  holder_cycles slot = grind (arith, take-length slots)
+  holder_is slot j k d h = grind (arith, last_below slot slots k d, last_below slot (take j slots), length-take j slots, get_or-take j slots)
 
   pub holder_some : (j d : ℕ) → j < length slots → (t : ℕ) × (holder slots (get_or slots j d) j ≡ Some t)
   holder_some j d below = found (holder slots (get_or slots j d) j) refl
@@ -59,17 +46,13 @@ module _ (slots : List ℕ) where
 -- ---- the blocks of planes
 
 reads_set : (l : List (Format × ℕ)) (k i : ℕ) (a d : Format × ℕ) → k < length l → get_or (set l k a) i d ≡ (if eqb i k then a else get_or l i d)
-reads_set l k i a d below = elim (cases_Bool (eqb i k)) [
-  | inl e ↦ rw e (subst (λ (n : ℕ). get_or (set l k a) n d ≡ a) (sym (eqb-true i k e)) (get_or-set_same l k a d below))
-  | inr e ↦ rw e (get_or-set_other l k i a d (λ same. absurd (grind (arith, e, eq-eqb i k same))))
-]
+reads_set l k i a d below = grind (arith, cases_Bool (eqb i k), eqb-true, get_or-set_same, get_or-set_other, eq-eqb)
 
 -- one more image is written: its block, and those of others
 next_block : (slot_capacity : ℕ → Format × ℕ) (i j t s other : ℕ) (old : Option ℕ) → (eqb s other ≡ true → old ≡ Some t) → (i ≡ j → s ≡ other) → (i ≡ t → s ≡ other)
     → ◌≡◌ {A = Format × ℕ} ((slot_capacity other).0, (if is_at i (if eqb s other then Some j else old) then (slot_capacity other).1 else 0))
     (if eqb i j then slot_capacity s else (if eqb i t then ((slot_capacity s).0, 0) else ((slot_capacity other).0, (if is_at i old then (slot_capacity other).1 else 0))))
-next_block slot_capacity i j t s other old found here there =
-    grind (arith, cases_Bool (eqb s other), cases_Bool (eqb i j), cases_Bool (eqb i t), eqb-true i j, eqb-true i t, eqb-true s other, eq-eqb, found, here, there)
+next_block slot_capacity i j t s other old found here there = grind (arith, cases_Bool (eqb s other), cases_Bool (eqb i j), cases_Bool (eqb i t), eqb-true, eq-eqb)
 
 module _ (slots : List ℕ) (slot_capacity : ℕ → Format × ℕ) (clients : List (Format × ℕ)) where
   abbrev blocks : ℕ → List (Format × ℕ)
@@ -82,17 +65,13 @@ module _ (slots : List ℕ) (slot_capacity : ℕ → Format × ℕ) (clients : L
   block_count count = length-append (map (block_at slots slot_capacity count) (range_with_len 0 (length slots))) clients ∙ ap (λ (n : ℕ). n + length clients) (virtual_count count)
 
   pub virtual_block : (count i : ℕ) → i < length slots → capacity (blocks count) i ≡ block_at slots slot_capacity count i
-  virtual_block count i below =
-      get_or-append (map (block_at slots slot_capacity count) (range_with_len 0 (length slots))) clients (U8, 0) i (omega (arith, virtual_count count, below))
-      ∙ get_or-map-range_with_len (block_at slots slot_capacity count) 0 (length slots) i i (U8, 0) below (omega arith)
+  virtual_block count i below = grind (arith, get_or-append, virtual_count, get_or-map-range_with_len)
 
   pub client_block : (count i : ℕ) → length slots ≤ i → capacity (blocks count) i ≡ capacity clients (i - length slots)
   client_block count i above = get_or-append_right (map (block_at slots slot_capacity count) (range_with_len 0 (length slots))) clients (length slots) i (U8, 0) (virtual_count count) above
 
   pub blocks_cycle : blocks (length slots) ≡ blocks 0
-  blocks_cycle =
-      ap (λ (f : ℕ → Format × ℕ). map f (range_with_len 0 (length slots)) ++ clients)
-      (fun_ext (λ i. ap (λ (h : Option ℕ). ((slot_capacity (get_or slots i 0)).0, (if is_at i h then (slot_capacity (get_or slots i 0)).1 else 0))) (holder_cycles slots (get_or slots i 0))))
+  blocks_cycle = grind (arith, take-length slots)
 
   module _ (k : ℕ) (below : k < length slots) where
     abbrev pub s : ℕ
@@ -131,23 +110,12 @@ module _ (slots : List ℕ) (slot_capacity : ℕ → Format × ℕ) (clients : L
 
     moved_at : (i : ℕ) → get_or moved i (U8, 0) ≡ (if eqb i k then slot_capacity s else (if eqb i t then ((slot_capacity s).0, 0) else capacity (blocks k) i))
     unfolding moved
-    moved_at i =
-        reads_set (set (blocks k) t ((capacity (blocks k) t).0, 0)) k i (capacity (blocks k) t) (U8, 0) (omega (arith, length-set (blocks k) t ((capacity (blocks k) t).0, 0), fits k below))
-        ∙ ap (λ (b : Format × ℕ). if eqb i k then b else get_or (set (blocks k) t ((capacity (blocks k) t).0, 0)) i (U8, 0)) takes_capacity
-        ∙ ap (λ (b : Format × ℕ). if eqb i k then slot_capacity s else b) (reads_set (blocks k) t i ((capacity (blocks k) t).0, 0) (U8, 0) (fits t in_slot.0))
-        ∙ ap (λ (b : Format × ℕ). if eqb i k then slot_capacity s else (if eqb i t then (b.0, 0) else capacity (blocks k) i)) takes_capacity
+    moved_at i = grind (arith, reads_set, takes_capacity, length-set, fits k below, fits t in_slot.0)
 
     same_at : (i : ℕ) → get_or moved i (U8, 0) ≡ get_or (blocks (k + 1)) i (U8, 0)
     same_at i = elim (cases_lt i (length slots)) [
-      | inl small ↦
-          moved_at i
-          ∙ ap (λ (b : Format × ℕ). if eqb i k then slot_capacity s else (if eqb i t then ((slot_capacity s).0, 0) else b)) (virtual_block k i small)
-          ∙ sym (next_at i small)
-          ∙ sym (virtual_block (k + 1) i small)
-      | inr large ↦
-          (let not_k : eqb i k ≡ false = ne_eqb i k (λ e. absurd (omega (arith, e, large, below))) in
-          let not_t : eqb i t ≡ false = ne_eqb i t (λ e. absurd (omega (arith, e, large, in_slot.0))) in
-          moved_at i ∙ grind (arith, not_k, not_t) ∙ client_block k i large ∙ sym (client_block (k + 1) i large))
+      | inl small ↦ grind (arith, moved_at, virtual_block, next_at)
+      | inr large ↦ grind (arith, moved_at, client_block, ne_eqb, in_slot.0)
     ]
 
     moved_is : moved ≡ blocks (k + 1)

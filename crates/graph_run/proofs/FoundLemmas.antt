@@ -1,7 +1,5 @@
 -- The objects that nodes name in a table, as operands.
-use Rattle.std.proofs.Common.{◌≡◌, ℕ, ◌<◌, ◌+◌, List, [], ◌∷◌, ◌++◌, map, length, take, get_or, Option, Some, None, IsTrue, sym, ◌∙◌, ap, subst, arith, IfSome, unwrap_or, All, Result, Ok, Err, IfErr, IfOk, option_map, option_and_then}
-use Rattle.std.specs.List.{zip}
-use Rattle.std.specs.List.Sorted.{IsPermutation}
+use Rattle.std.proofs.Common.{◌≡◌, ℕ, ◌<◌, ◌+◌, List, [], ◌∷◌, ◌++◌, map, length, take, get_or, Option, Some, None, IsTrue, sym, ◌∙◌, ap, subst, arith, IfSome, unwrap_or, All, Result, Ok, Err, IfErr, option_map}
 use Rattle.graph_run.proofs.Common.{map-append, take_more, All-push, All-head, All-tail, Kind, Node, Numbered, Reference, parameters, operands, second_kind, ObjectValue, in_slot, NamedObject, object_held, All-from_map, Operand, Missing, Verified, linked_nodes, AreOperands, operand_of, operands_of, is_image, verdict, operand_held}
 use Rattle.vx_base.specs.declared.kind.Kind.TheVariants as kind
 use Rattle.vx_base.specs.Node.{with_kind}
@@ -12,8 +10,8 @@ use Rattle.graph_verify.specs.Verified.{IfRefused}
 -- ---- the operand of a reference
 
 -- the object under its name, if there is one
-pub operand_nowhere : (objects : List NamedObject) (cell : Reference) → None ≡ object_held objects cell.name → Missing ≡ operand_held objects cell
-operand_nowhere objects cell none = ap (λ o. unwrap_or (option_map operand_of (option_and_then (in_slot cell.slot) o)) Missing) none
+pub operand_nowhere : (objects : List NamedObject) (cell : Reference) → object_held objects cell.name ≡ None → operand_held objects cell ≡ Missing
+operand_nowhere objects cell none = grind (arith, none)
 
 pub operand_there : (objects : List NamedObject) (cell : Reference) (object : ObjectValue) (found : Option Operand) (operand : Operand)
     → Some object ≡ object_held objects cell.name → found ≡ option_map operand_of (in_slot cell.slot object) → operand ≡ unwrap_or found Missing
@@ -28,18 +26,11 @@ pub linked_more : (is : Reference → Operand) (nodes : List Numbered) (i : ℕ)
     → l.number ≡ numbered.number → l.node ≡ numbered.node → l.operands ≡ operands_of is l.node → new ≡ done ++ l ∷ []
     → (linked_nodes new ≡ map (λ n. n.node) (take (i + 1) nodes)) × (map {B = ℕ × Node} (λ l. (l.number, l.node)) new ≡ map (λ n. (n.number, n.node)) (take (i + 1) nodes)) × AreOperands is new
 linked_more is nodes i numbered done new l within read before numbers each number node operands pushed =
-    let taken : take (i + 1) nodes ≡ take i nodes ++ numbered ∷ [] = take_more nodes i numbered within ∙ ap (λ (n : Numbered). take i nodes ++ n ∷ []) (sym read) in (
-      ap linked_nodes pushed
-          ∙ map-append (λ (k : Linked). k.node) done (l ∷ [])
-          ∙ ap (λ ns. ns ++ l.node ∷ []) before
-          ∙ ap (λ n. map (λ (k : Numbered). k.node) (take i nodes) ++ n ∷ []) node
-          ∙ sym (ap (map (λ (k : Numbered). k.node)) taken ∙ map-append (λ (k : Numbered). k.node) (take i nodes) (numbered ∷ [])),
-      ap (map {B = ℕ × Node} (λ (k : Linked). (k.number, k.node))) pushed
-          ∙ map-append (λ (k : Linked). (k.number, k.node)) done (l ∷ [])
-          ∙ ap (λ ns. ns ++ (l.number, l.node) ∷ []) numbers
-          ∙ ap (λ n. map {B = ℕ × Node} (λ (k : Numbered). (k.number, k.node)) (take i nodes) ++ (n, l.node) ∷ []) number
-          ∙ ap (λ n. map {B = ℕ × Node} (λ (k : Numbered). (k.number, k.node)) (take i nodes) ++ (numbered.number, n) ∷ []) node
-          ∙ sym (ap (map {B = ℕ × Node} (λ (k : Numbered). (k.number, k.node))) taken ∙ map-append (λ (k : Numbered). (k.number, k.node)) (take i nodes) (numbered ∷ [])),
+    let taken : take (i + 1) nodes ≡ take i nodes ++ numbered ∷ [] = take_more nodes i numbered within ∙ ap (λ (n : Numbered). take i nodes ++ n ∷ []) (sym read) in
+    let node_of : Numbered → Node = λ n. n.node in
+    let pair_of : Numbered → ℕ × Node = λ n. (n.number, n.node) in (
+      rw (pushed, taken, map-append (λ (k : Linked). k.node) done (l ∷ []), map-append node_of (take i nodes) (numbered ∷ [])) (cc),
+      rw (pushed, taken, map-append {B = ℕ × Node} (λ (k : Linked). (k.number, k.node)) done (l ∷ []), map-append pair_of (take i nodes) (numbered ∷ [])) (cc),
       grind (arith, All-push (λ (k : Linked). k.operands ≡ operands_of is k.node) done l each operands),
     )
 
@@ -47,12 +38,6 @@ linked_more is nodes i numbered done new l within read before numbers each numbe
 pub images_are : (is : Reference → Operand) (linked : List Linked) → AreOperands is linked → All (λ n. IsTrue (is_image (is n.in1))) (linked_nodes linked)
     → All (λ l. IsTrue (is_image l.operands.in1)) linked
 images_are is linked operands images k d below = grind (arith, All-from_map (λ n. IsTrue (is_image (is n.in1))) (λ (l : Linked). l.node) linked images k d below)
-
--- the numbers of the steps
-pub numbers_are : (pairs others : List (ℕ × Node)) (result : Result Verified VerifyFault) → pairs ≡ others → IfOk result (λ v. IsPermutation pairs (zip v.order v.steps))
-    → IfOk result (λ v. IsPermutation others (zip v.order v.steps))
-numbers_are pairs others (Ok v) same said = subst (λ ps. IsPermutation ps (zip v.order v.steps)) same said
-numbers_are pairs others (Err fault) same said = tt
 
 -- the verdict on these nodes
 pub refused_is : (is : Reference → Operand) (linked : List Linked) (nodes : List Node) (work : ℕ) (result : Result Verified VerifyFault) → linked_nodes linked ≡ nodes

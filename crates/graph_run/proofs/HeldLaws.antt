@@ -1,7 +1,7 @@
 -- Objects after some of them are written.
 use Rattle.std.proofs.Common.{◌≡◌, ℕ, Bool, true, false, ◌&&◌, if◌then◌else◌, eqb, List, [], ◌∷◌, ◌++◌, map, refl, ap, ◌∙◌, Option, Some, None, arith, rules, option_map, option_and_then, eqb-true}
 use Rattle.graph_run.proofs.Common.{cases_Bool, Reference, same_slot, same_reference, ObjectValue, object_kind, in_slot, with_slot, NamedObject, object_held, object_at, with_object, with_written, with_slot_there, with_slot_elsewhere, In, form_of, form_held, label_of, same_cell-true, option_or}
-use Rattle.graph_run.proofs.ObjectLaws.{is_delay, shown, form-shown}
+use Rattle.graph_run.proofs.ObjectLaws.{is_delay, shown}
 
 -- the value of the object that a reference names
 abbrev pub seen : List NamedObject → Reference → Option ObjectValue
@@ -31,10 +31,6 @@ pub record IsWrite (objects : List NamedObject) (cell : Reference) (object : Obj
   pub form : form_held objects cell ≡ Some (form_of object)
   pub whole : is_delay object ≡ false
 
-slot_written : (k j : Option ℕ) (new x : ObjectValue) → option_map form_of (in_slot j x) ≡ Some (form_of new) → is_delay new ≡ false
-    → option_map shown (in_slot k (with_slot j new x)) ≡ (if same_slot k j then Some (shown new) else option_map shown (in_slot k x))
-slot_written z0 z1 new x f d = grind (arith, with_slot_there, with_slot_elsewhere)
-
 pub object_held-with_object : (objects : List NamedObject) (cell : Reference) (new : ObjectValue) (name : ℕ)
     → object_held (with_object objects cell new) name ≡ option_map (λ x. if eqb name cell.name then with_slot cell.slot new x else x) (object_held objects name)
 object_held-with_object [] cell new name = refl
@@ -42,20 +38,16 @@ object_held-with_object (o ∷ objects) cell new name = grind (arith, object_hel
 
 seen_written : (k j : Option ℕ) (same : Bool) (new : ObjectValue) (o : Option ObjectValue) → (same ≡ true → option_map form_of (option_and_then (in_slot j) o) ≡ Some (form_of new)) → is_delay new ≡ false
     → option_map shown (option_and_then (in_slot k) (option_map (λ x. if same then with_slot j new x else x) o)) ≡ (if same && same_slot k j then Some (shown new) else option_map shown (option_and_then (in_slot k) o))
-seen_written k j false new None f d = refl
-seen_written k j false new (Some x) f d = refl
-seen_written k j true new None f d = let g = f refl in absurd (cc g)
-seen_written k j true new (Some x) f d = slot_written k j new x (f refl) d
+seen_written k j z2 new z4 f d = grind (arith, with_slot_there, with_slot_elsewhere)
 
 -- the written object has the new value, and the values of others stay
 pub seen-with_object : (objects : List NamedObject) (cell : Reference) (new : ObjectValue) → IsWrite objects cell new → (c : Reference)
     → seen (with_object objects cell new) c ≡ (if same_reference c cell then Some (shown new) else seen objects c)
-seen-with_object objects cell new is c =
-    grind (arith, object_held-with_object objects cell new c.name, seen_written c.slot cell.slot (eqb c.name cell.name) new (object_held objects c.name) (λ e. ap (λ z. option_map form_of (option_and_then (in_slot cell.slot) (object_held objects z))) (eqb-true c.name cell.name e) ∙ is.form) is.whole)
+seen-with_object objects cell new is c = grind (arith, object_held-with_object objects cell new c.name, seen_written c.slot cell.slot (eqb c.name cell.name) new (object_held objects c.name) (λ e. ap (λ z. option_map form_of (option_and_then (in_slot cell.slot) (object_held objects z))) (eqb-true c.name cell.name e) ∙ is.form) is.whole, eqb-true c.name cell.name)
 
 -- forms stay
 pub form-with_object : (objects : List NamedObject) (cell : Reference) (new : ObjectValue) → IsWrite objects cell new → (c : Reference) → form_held (with_object objects cell new) c ≡ form_held objects c
-form-with_object objects cell new is c = search (rules, form-seen, seen-with_object, cases_Bool, form-shown, same_cell-true)
+form-with_object objects cell new is c = search (rules, form-seen, seen-with_object, cases_Bool, same_cell-true)
 
 -- names and labels stay
 pub labels-with_object : (objects : List NamedObject) (cell : Reference) (new : ObjectValue) → map label_of (with_object objects cell new) ≡ map label_of objects
@@ -79,15 +71,11 @@ last_to-append c (w ∷ xs) ys = grind (arith, last_to-append c xs ys, or_assoc 
 AreWrites-after : (objects : List NamedObject) (w : Reference × ObjectValue) (ws : List (Reference × ObjectValue)) → AreWrites objects (w ∷ ws) → AreWrites (with_object objects w.0 w.1) ws
 AreWrites-after objects w ws are = grind (arith, form-with_object)
 
-one_more : (last old : Option ObjectValue) (new : ObjectValue) (same : Bool)
-    → option_or (option_map shown last) (if same then Some (shown new) else old) ≡ option_or (option_map shown (option_or last (if same then Some new else None))) old
-one_more x old new same = grind arith
-
 -- each object has the last value that was written to it, or its old value if there is none
 pub seen-with_written : (ws : List (Reference × ObjectValue)) (objects : List NamedObject) → AreWrites objects ws → (c : Reference)
     → seen (with_written objects ws) c ≡ option_or (option_map shown (last_to c ws)) (seen objects c)
 seen-with_written [] objects are c = refl
-seen-with_written (w ∷ ws) objects are c = grind (arith, seen-with_written ws (with_object objects w.0 w.1) (AreWrites-after objects w ws are) c, AreWrites-after, seen-with_object, one_more)
+seen-with_written (w ∷ ws) objects are c = grind (arith, seen-with_written ws (with_object objects w.0 w.1) (AreWrites-after objects w ws are) c, AreWrites-after, seen-with_object)
 
 pub form-with_written : (ws : List (Reference × ObjectValue)) (objects : List NamedObject) → AreWrites objects ws → (c : Reference) → form_held (with_written objects ws) c ≡ form_held objects c
 form-with_written [] objects are c = refl

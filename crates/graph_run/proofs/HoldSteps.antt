@@ -1,8 +1,8 @@
 -- Blocks for the slots of a plan are large enough for the bands of their images.
-use Rattle.std.proofs.Common.{◌≡◌, ℕ, zero, suc, ◌+◌, ◌<◌, ◌≤◌, ◌==◌, List, [], ◌∷◌, length, map, get_or, max, None, Some, true, slice_get, refl, sym, ap, subst, ◌∙◌, arith, unwrap_or, eq-eqb, if◌then◌else◌}
+use Rattle.std.proofs.Common.{◌≡◌, ℕ, zero, suc, ◌+◌, ◌<◌, ◌≤◌, List, ◌∷◌, length, map, get_or, None, Some, slice_get, refl, ap, ◌∙◌, arith, unwrap_or}
 use Rattle.std.proofs.lemmas.List.{get_or-map, length-map}
 use Rattle.std.proofs.lemmas.Option.{get_or_from_slice_get, slice_get_within}
-use Rattle.graph_run.proofs.Common.{Format, U8, Node, VirtualOutput, IsPlan, PlanView, slot_index_of, slot_index, planned_capacities, In-at}
+use Rattle.graph_run.proofs.Common.{nat_tests, Format, U8, Node, VirtualOutput, IsPlan, PlanView, slot_index_of, slot_index, planned_capacities, In-at}
 use Rattle.graph_steps.specs.Planes.{no_plane}
 use Rattle.graph_steps.specs.Program.{HoldsRows, halo}
 use Rattle.graph_run.specs.Blocks.{band_plan, band_samples, samples_from}
@@ -10,25 +10,16 @@ use Rattle.graph_run.specs.Program.{virtual_description}
 use Rattle.graph_run.specs.Tasks.{SlotsHold}
 use Rattle.graph_run.proofs.SlotLemmas.{HasSlot, has_slot, planned_at, planned_slots}
 
-own_most : (s place : ℕ) (own rest : ℕ) → s ≡ place → own ≤ max (if s == place then own else 0) rest
-own_most s place own rest same = let e : (s == place) ≡ true = eq-eqb s place same in grind (arith, e)
-
-rest_most : (s place : ℕ) (own rest n : ℕ) → n ≤ rest → n ≤ max (if s == place then own else 0) rest
-rest_most s place own rest n below = grind arith
-
 -- the samples of a slot are enough for each image in it; the first image is that at index j
 enough_samples : (size : ℕ) (halos : List ℕ) (j : ℕ) (outs : List VirtualOutput) (slots : List ℕ) (k : ℕ) (none : VirtualOutput) → length slots ≡ length outs → k < length outs
     → band_samples size (halo halos (j + k)) (get_or outs k none).desc ≤ samples_from size halos j outs slots (get_or slots k 0)
-enough_samples size halos j [] slots k none count below = absurd (omega (arith, below))
-enough_samples size halos j (o ∷ outs) [] k none count below = absurd (omega (arith, count))
 enough_samples size halos j (o ∷ outs) (s ∷ slots) zero none count below =
-    subst (λ (i : ℕ). band_samples size (halo halos i) o.desc ≤ samples_from size halos j (o ∷ outs) (s ∷ slots) s) (omega arith)
-    (own_most s s (band_samples size (halo halos j) o.desc) (samples_from size halos (j + 1) outs slots s) refl)
+    let at : j + zero ≡ j = omega arith in
+    rw at (grind (arith, nat_tests))
 enough_samples size halos j (o ∷ outs) (s ∷ slots) (suc k) none count below =
-    let rest = enough_samples size halos (j + 1) outs slots k none (omega (arith, count)) (omega (arith, below)) in
-    let at : j + 1 + k ≡ j + suc k = omega arith in
-    rest_most s (get_or slots k 0) (band_samples size (halo halos j) o.desc) (samples_from size halos (j + 1) outs slots (get_or slots k 0)) (band_samples size (halo halos (j + suc k)) (get_or outs k none).desc)
-    (subst (λ (i : ℕ). band_samples size (halo halos i) (get_or outs k none).desc ≤ samples_from size halos (j + 1) outs slots (get_or slots k 0)) at rest)
+    let at : j + suc k ≡ j + 1 + k = omega arith in
+    rw at (grind (arith, enough_samples size halos (j + 1) outs slots k none))
+enough_samples size halos j outs slots k none count below = absurd (grind arith)
 
 module _ (steps : List Node) (outs : List VirtualOutput) (p : PlanView) (plan : IsPlan steps outs p) (size : ℕ) (halos : List ℕ) (capacities : List (Format × ℕ))
     (planned : capacities ≡ planned_capacities (band_plan size halos outs (map (slot_index_of p) outs) p)) where
@@ -61,16 +52,13 @@ module _ (steps : List Node) (outs : List VirtualOutput) (p : PlanView) (plan : 
     enough : band_samples size (halo halos k) o.desc ≤ samples_from size halos 0 outs slots (slot_index p o.desc.format home.slot)
     enough =
         let first : 0 + k ≡ k = omega arith in
-        subst (λ (s : ℕ). band_samples size (halo halos k) o.desc ≤ samples_from size halos 0 outs slots s) at
-        (subst (λ (i : ℕ). band_samples size (halo halos i) o.desc ≤ samples_from size halos 0 outs slots (get_or slots k 0)) first
-        (enough_samples size halos 0 outs slots k none (length-map outs (slot_index_of p)) below))
+        rw (← at) (rw first at (enough_samples size halos 0 outs slots k none (length-map outs (slot_index_of p)) below))
 
     holds_rows : HoldsRows size (halo halos k) (virtual_description outs k) (get_or capacities (get_or slots k 0) (U8, 0))
     holds_rows =
         let desc : virtual_description outs k ≡ o.desc = get_or-map (λ (x : VirtualOutput). x.desc) outs k none no_plane.desc below in
         let room = get_or_from_slice_get capacities (get_or slots k 0) (o.desc.format, samples_from size halos 0 outs slots (slot_index p o.desc.format home.slot)) (U8, 0) there in
-        subst (λ d. HoldsRows size (halo halos k) d (get_or capacities (get_or slots k 0) (U8, 0))) (sym desc)
-        (subst (λ (b : Format × ℕ). HoldsRows size (halo halos k) o.desc b) (sym room) (refl, enough))
+        rw (desc, room) (refl, enough)
 
   pub slots_hold : SlotsHold size halos (virtual_description outs) slots (λ place. get_or capacities place (U8, 0))
   slots_hold k below = holds_rows k (omega (arith, below, length-map outs (slot_index_of p)))

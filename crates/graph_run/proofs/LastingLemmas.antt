@@ -1,6 +1,6 @@
 -- What lasts of objects as others are written in their places.
 use Rattle.std.proofs.Common.{◌≡◌, ℕ, List, [], ◌∷◌, Option, Some, None, map, drop, refl, sym, ap, subst, ◌∙◌, arith, option_map, option_and_then}
-use Rattle.graph_run.proofs.Common.{IsStrictlyIncreasing, Node, Reference, Description, ImageValue, image_over, description_of, ObjectValue, ImageObject, DelayObject, empty_rectangle, in_slot, with_slot, NamedObject, object_held, object_at, skeleton, names_of, map-told, lasting_part, lasting_named, Lasts}
+use Rattle.graph_run.proofs.Common.{IsStrictlyIncreasing, Node, Reference, Description, ImageValue, image_over, description_of, ObjectValue, ImageObject, empty_rectangle, in_slot, with_slot, NamedObject, object_held, object_at, skeleton, names_of, map-told, lasting_part, lasting_named, Lasts}
 use Rattle.object_table.specs.Context.{object_named}
 use Rattle.object_table.specs.Uses.{nodes_in}
 use Rattle.object_table.proofs.SkeletonLaws.{option_map-told, in_slot-skeleton, skeleton-with_slot}
@@ -22,19 +22,8 @@ in_left (Some k) left = option_map (λ object. (object, [])) (in_slot (Some k) l
 
 in_slots-last : (slot : Option ℕ) (one other : Option ObjectValue) → option_map lasting_part one ≡ option_map lasting_part other
     → option_map lasting_part (option_and_then (in_slot slot) one) ≡ option_map lasting_part (option_and_then (in_slot slot) other)
-in_slots-last slot one other same = sym (through one) ∙ ap (option_and_then (in_left slot)) same ∙ through other
-  where
-    of_slot : (k : ℕ) (object : ObjectValue) → option_map (λ x. (x, [])) (option_map skeleton (in_slot (Some k) object)) ≡ option_map lasting_part (in_slot (Some k) object)
-    of_slot k (DelayObject images) = grind arith
-    of_slot k object = refl
-
-    of_left : (s : Option ℕ) (object : ObjectValue) → in_left s (lasting_part object) ≡ option_map lasting_part (in_slot s object)
-    of_left None object = refl
-    of_left (Some k) object = ap (option_map (λ x. (x, []))) (in_slot-skeleton (Some k) object) ∙ of_slot k object
-
-    through : (o : Option ObjectValue) → option_and_then (in_left slot) (option_map lasting_part o) ≡ option_map lasting_part (option_and_then (in_slot slot) o)
-    through None = refl
-    through (Some object) = of_left slot object
+in_slots-last (Some k) (Some x) (Some y) same = grind (arith, in_slot-skeleton (Some k) x, in_slot-skeleton (Some k) y)
+in_slots-last slot one other same = grind arith
 
 -- as much lasts of images of one description
 pub images-last : (a b : ImageValue) → description_of a ≡ description_of b → lasting_part (ImageObject a) ≡ lasting_part (ImageObject b)
@@ -56,16 +45,14 @@ names-last old new same = map-told lasting_named (λ o. o.name) (λ left. left.0
 -- as much lasts of what is held under each name
 pub held-lasts : (old new : List NamedObject) (name : ℕ) → map lasting_named new ≡ map lasting_named old → option_map lasting_part (object_held new name) ≡ option_map lasting_part (object_held old name)
 held-lasts [] [] name same = refl
-held-lasts [] (p ∷ new) name same = absurd (cc)
-held-lasts (o ∷ old) [] name same = absurd (cc)
 held-lasts (o ∷ old) (p ∷ new) name same = grind (arith, held-lasts old new name (ap (drop 1) same))
+held-lasts old new name same = absurd (cc)
 
 -- and of what a live name has
 pub named-lasts : (old new : List NamedObject) (name : ℕ) → map lasting_named new ≡ map lasting_named old → option_map lasting_part (object_named new name) ≡ option_map lasting_part (object_named old name)
 named-lasts [] [] name same = refl
-named-lasts [] (p ∷ new) name same = absurd (cc)
-named-lasts (o ∷ old) [] name same = absurd (cc)
 named-lasts (o ∷ old) (p ∷ new) name same = grind (arith, named-lasts old new name (ap (drop 1) same))
+named-lasts old new name same = absurd (cc)
 
 -- and in each cell
 pub cell-lasts : (old new : List NamedObject) (cell : Reference) → map lasting_named new ≡ map lasting_named old → option_map lasting_part (object_at new cell) ≡ option_map lasting_part (object_at old cell)

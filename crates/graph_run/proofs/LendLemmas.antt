@@ -1,8 +1,8 @@
 -- Output images whose samples are in planes, while their node is checked and runs.
-use Rattle.std.proofs.Common.{◌≡◌, ℕ, List, [], ◌∷◌, map, Option, Some, None, IfSome, IsTrue, is_some, unwrap_or, refl, sym, ap, subst, ◌∙◌, arith, All, set, slice_get, map-id, option_map, option_and_then, eqb-true}
+use Rattle.std.proofs.Common.{◌≡◌, ℕ, List, [], ◌∷◌, map, Option, Some, None, IfSome, IsTrue, is_some, unwrap_or, refl, sym, ap, subst, ◌∙◌, arith, All, set, slice_get, map-id, option_map, eqb-true}
 use Rattle.std.proofs.lemmas.List.{set_comm, set-get_or}
 use Rattle.std.proofs.lemmas.Option.{get_or_from_slice_get}
-use Rattle.graph_run.proofs.Common.{IsStrictlyIncreasing, U8, First, Output, Kind, parameters, object_kind, Node, Reference, Description, ImageValue, new_image, description_of, ObjectValue, ImageObject, DelayObject, in_slot, with_slot, Context, with_objects, NamedObject, object_at, object_held, with_object, cell_object, image_held, image_value, HoldsImage, names_of, map-with_object, skeleton, Operand, Image, operand_of, HoldsOperand, lasting_part, lasting_named, AreApart, TwoSlots, Holds, IsObject, RunsTo, Lasts, CanRunNow, HoldsKind, operands, with_output_object, with_written, written_by}
+use Rattle.graph_run.proofs.Common.{IsStrictlyIncreasing, U8, First, Kind, parameters, object_kind, Node, Reference, Description, ImageValue, new_image, description_of, ObjectValue, ImageObject, DelayObject, in_slot, with_slot, Context, with_objects, NamedObject, object_at, with_object, image_held, image_value, HoldsImage, names_of, map-with_object, skeleton, Image, operand_of, HoldsOperand, lasting_part, lasting_named, AreApart, IsObject, RunsTo, Lasts, CanRunNow, HoldsKind, operands, with_output_object, with_written, written_by}
 use Rattle.object_table.specs.Context.{object_named}
 use Rattle.object_table.specs.Table.{HoldsLiveImage}
 use Rattle.object_table.proofs.SkeletonLaws.{option_map-told}
@@ -11,8 +11,6 @@ use Rattle.graph_steps.specs.Planes.{block_image}
 use Rattle.graph_run.specs.declared.output_planes.OutputPlanes.{OutputPlanes}
 use Rattle.graph_run.specs.Bind.{image_plane, without_samples}
 use Rattle.graph_run.specs.OutputPlanes.{ArePlanesOf, HasPlaneFor, HavePlanes, IsInPlane, IsInPlaneIf, IsLiveImage, IsLiveOutput, IsPlaneOf, LendsOutput, LendsOutputs, with_plane, with_planes}
-use Rattle.vx_base.specs.declared.kind.Kind.TheVariants as kind
-use Rattle.graph_run.specs.Steps.{output_of}
 use Rattle.graph_run.proofs.CellLemmas.{elsewhere, held_after, held_image, lasting-with_object, map-with_held, with_object_twice}
 use Rattle.graph_run.proofs.FoundLemmas.{of_operands}
 use Rattle.graph_run.proofs.LastingLemmas.{cell-lasts, images-last, named-lasts, names-last, skeletons-last}
@@ -34,26 +32,15 @@ with_slot_same (Some k) x (DelayObject images) e = over (slice_get images k) ref
 with_slot_same (Some k) x other e = absurd (cc)
 
 pub with_object_same : (objects : List NamedObject) (cell : Reference) (x : ObjectValue) → IsStrictlyIncreasing (names_of objects) → object_at objects cell ≡ Some x → with_object objects cell x ≡ objects
-with_object_same objects cell x names e =
-    sym (map-id (with_object objects cell x))
-    ∙ map-with_held (λ o. o) objects cell x names (grind (arith, e))
-    (λ y f o at. ap (λ z. record o { object = z }) (with_slot_same cell.slot x o.object (ap (in_slot cell.slot) at ∙ ap (option_and_then (in_slot cell.slot)) (sym f) ∙ e)))
-    ∙ map-id objects
-
-with_slot_swap : (j k : Option ℕ) (x y object : ObjectValue) → TwoSlots j k → with_slot j x (with_slot k y object) ≡ with_slot k y (with_slot j x object)
-with_slot_swap j k x y object apart = grind (arith, set_comm)
+with_object_same objects cell x names e = grind (arith, map-id (with_object objects cell x), map-id, map-with_held, with_slot_same, map-id objects)
 
 with_object_swap : (objects : List NamedObject) (p q : Reference) (x y : ObjectValue) → AreApart p q → with_object (with_object objects q y) p x ≡ with_object (with_object objects p x) q y
 with_object_swap [] p q x y apart = refl
-with_object_swap (o ∷ objects) p q x y apart = grind (arith, with_object_swap objects p q x y apart, with_slot_swap p.slot q.slot x y o.object, eqb-true)
-
-names-with_object : (objects : List NamedObject) (cell : Reference) (x : ObjectValue) → names_of (with_object objects cell x) ≡ names_of objects
-names-with_object objects cell x = map-with_object (λ o. o.name) objects cell x (λ k d below e. refl)
+with_object_swap (o ∷ objects) p q x y apart = grind (arith, with_object_swap objects p q x y apart, set_comm, eqb-true)
 
 pub names-with_plane : (objects : List NamedObject) (output : Option Reference) (plane : Option PlaneValue) → names_of (with_plane objects output plane) ≡ names_of objects
-names-with_plane objects output None = refl
-names-with_plane objects None (Some p) = refl
-names-with_plane objects (Some cell) (Some p) = names-with_object objects cell (ImageObject (block_image p))
+names-with_plane objects (Some cell) (Some p) = map-with_object (λ o. o.name) objects cell _ (λ k d below e. refl)
+names-with_plane objects output plane = grind arith
 
 -- ---- an image whose samples are in a plane
 
@@ -87,26 +74,22 @@ image_lent old new cell p names holds is left =
 pub operand-lasts : (old new : List NamedObject) (cell : Reference) → map lasting_named new ≡ map lasting_named old → option_map operand_of (object_at new cell) ≡ option_map operand_of (object_at old cell)
 operand-lasts old new cell same = option_map-told skeleton operand_of operand_of operand-skeleton (object_at new cell) (object_at old cell) (skeletons-last (object_at new cell) (object_at old cell) (cell-lasts old new cell same))
 
--- an image under a live name
-image_kind : (object : ObjectValue) (d : Description) → operand_of object ≡ Image d → object_kind object ≡ kind.Image
-image_kind object d e = grind arith
-
 pub image_from_operand : (objects : List NamedObject) (cell : Reference) (d : Description) → HoldsOperand objects cell (Image d) → HoldsImage objects cell
-image_from_operand objects cell d operand = grind (arith, image_kind, operand)
+image_from_operand objects cell d operand = grind (arith, operand)
 
 live_image : (objects : List NamedObject) (cell : Reference) → HoldsLiveImage objects cell → IsLiveImage objects cell (description_of (image_held objects cell))
 live_image objects cell live = (live.0, ap (option_map operand_of) (held_image objects cell live.1))
 
 live-lasts : (old new : List NamedObject) (wanted : Kind) (output : Option Reference) (d : Description) → map lasting_named new ≡ map lasting_named old
     → IsLiveOutput new wanted output d → IsLiveOutput old wanted output d
-live-lasts old new wanted None d same h = h
-live-lasts old new wanted (Some cell) d same h =
-    (h.0, (grind (arith, named-lasts old new cell.name same, h.1.0), sym (operand-lasts old new cell same) ∙ h.1.1))
+live-lasts old new wanted None d same h = grind arith
+live-lasts old new wanted (Some cell) d same h = grind (arith, named-lasts old new cell.name same, operand-lasts old new cell same)
 
 pub plane-lasts : (old new : List NamedObject) (wanted : Kind) (output : Option Reference) (plane : Option PlaneValue) → map lasting_named new ≡ map lasting_named old
     → IsPlaneOf new wanted output plane → IsPlaneOf old wanted output plane
-plane-lasts old new wanted output None same h = λ d live. h d (live-lasts new old wanted output d (sym same) live)
-plane-lasts old new wanted output (Some p) same h = live-lasts old new wanted output p.desc same h
+plane-lasts old new wanted output z4 same h = grind (arith, live-lasts)
+
+pub ruleset lent_lasts = (names-last, plane-lasts)
 
 -- an output image of a live name has a plane
 plane_there : (objects : List NamedObject) (wanted : Kind) (output : Option Reference) (plane : Option PlaneValue) → IsPlaneOf objects wanted output plane
@@ -142,10 +125,7 @@ module _ {old new : Context} {n : Node} {planes : OutputPlanes} (lends : LendsOu
 
   -- and once the node has run
   pub value_lent : (after : Context) → after ≡ with_objects new (with_written returned (written_by n (object_at returned))) → after ≡ with_objects old (with_written old.objects (written_by n (object_at old.objects)))
-  value_lent after value =
-      value
-      ∙ ap (λ (t : Context). with_objects t (with_written returned (written_by n (object_at returned)))) (sym lends.back)
-      ∙ ap (λ (l : List NamedObject). with_objects old (with_written l (written_by n (object_at l)))) returned_is
+  value_lent after value = grind (arith, returned_is)
 
   pub last_lent : (after : List NamedObject) → Lasts returned after → Lasts old.objects after
   last_lent after h = subst (λ (l : List NamedObject). Lasts l after) returned_is h
@@ -155,29 +135,19 @@ module _ {old new : Context} {n : Node} {planes : OutputPlanes} (lends : LendsOu
 module _ (l : List NamedObject) (n : Node) where
   pub runs_before : (one other : Option Reference) (plane : Option PlaneValue) → IsStrictlyIncreasing (names_of l) → IsInPlaneIf l other plane
       → IfSome one (RunsTo (with_plane l other plane) n) → IfSome other (RunsTo (with_plane l other plane) n) → IfSome one (λ a. IfSome other (λ b. AreApart b a)) → IfSome one (RunsTo l n)
-  runs_before one other None names taken r s e = r
-  runs_before None other plane names taken r s e = tt
-  runs_before (Some a) None (Some p) names taken r s e = r
   runs_before (Some a) (Some b) (Some p) names taken r s e =
       let image = block_image p in
       let bare = ImageObject (without_samples image) in
       subst (λ (o : List NamedObject). RunsTo o n a) (with_object_twice l b (ImageObject image) (without_samples image) ∙ with_object_same l b bare names taken.left)
       (runs_elsewhere (with_object l b (ImageObject image)) n b a bare r s.in1_apart s.in2_apart (apart_back b a e))
+  runs_before one other plane names taken r s e = grind arith
 
   -- the image of the second comes back to the same objects after that
   pub back_after : (one other : Option Reference) (plane : Option PlaneValue) → IfSome one (RunsTo l n) → IfSome other (RunsTo (with_plane l other plane) n) → IfSome one (λ a. IfSome other (λ b. AreApart b a))
       → with_plane (with_output_object l n First one) other plane ≡ with_output_object (with_plane l other plane) n First one
-  back_after one other None r s e = refl
-  back_after None other (Some p) r s e = refl
-  back_after (Some a) None (Some p) r s e = refl
-  back_after (Some a) (Some b) (Some p) r s e =
-      let image = ImageObject (block_image p) in
-      with_object_swap l b a image (output_of l n First a) e
-      ∙ ap (with_object (with_object l b image) a) (sym (output_elsewhere l n b a image r s.in1_apart s.in2_apart (apart_back b a e) First))
+  back_after (Some a) (Some b) (Some p) r s e = grind (arith, with_object_swap, output_elsewhere, apart_back)
+  back_after one other plane r s e = grind arith
 
   -- and its samples are in the plane until then
   pub taken_after : (one other : Option Reference) (plane : Option PlaneValue) → IsInPlaneIf l other plane → IfSome one (λ a. IfSome other (λ b. AreApart b a)) → IsInPlaneIf (with_output_object l n First one) other plane
-  taken_after one other None taken e = tt
-  taken_after one None (Some p) taken e = taken
-  taken_after None (Some b) (Some p) taken e = taken
-  taken_after (Some a) (Some b) (Some p) taken e = record { left = elsewhere l a b (output_of l n First a) e ∙ taken.left; whole = taken.whole }
+  taken_after z0 z1 z2 taken e = grind (arith, elsewhere)

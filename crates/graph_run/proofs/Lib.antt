@@ -9,7 +9,6 @@ pub mod ValueLaws
 pub mod OrderLaws
 pub mod SolutionLaws
 pub mod BegunLaws
-pub mod AloneLaws
 pub mod AddingLaws
 pub mod OperandLaws
 pub mod TurnLaws
@@ -47,7 +46,6 @@ pub mod SolutionStepsObjects
 pub mod SizeSteps
 pub mod HoldSteps
 pub mod SolutionStepsTaken
-pub mod NearSteps
 pub mod ScheduleSteps
 pub mod LendLemmas
 pub mod OnceLemmas

@@ -12,9 +12,7 @@ last_in-push slot [] s = grind arith
 last_in-push slot (t ∷ slots) s = grind (arith, last_in-push slot slots s)
 
 pub last_in-more : (slot : ℕ) (slots : List ℕ) (k d : ℕ) → k < length slots → last_in slot (take (k + 1) slots) ≡ (if get_or slots k d == slot then Some k else last_in slot (take k slots))
-last_in-more slot slots k d below =
-    ap (last_in slot) (take_more slots k d below) ∙ last_in-push slot (take k slots) (get_or slots k d)
-    ∙ ap (λ n. if get_or slots k d == slot then Some n else last_in slot (take k slots)) (let n : length (take k slots) ≡ k = omega (arith, length-take {A = ℕ}, below) in n)
+last_in-more slot slots k d below = grind (arith, take_more slots k d below, last_in-push slot (take k slots) (get_or slots k d), length-take {A = ℕ})
 
 -- ---- what is left
 

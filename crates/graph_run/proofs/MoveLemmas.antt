@@ -17,7 +17,7 @@ use Rattle.graph_run.specs.Schedule.{ArePlanes, CanReturn, CanRunBy, bare_object
 use Rattle.graph_run.specs.Tasks.{graph_tasks}
 use Rattle.graph_run.proofs.HoldSteps.{slots_within}
 use Rattle.graph_run.proofs.ReadyLemmas.{clients_apart, clients_hold}
-use Rattle.graph_run.proofs.ScheduleLemmas.{virtuals_below}
+use Rattle.graph_run.proofs.WithinLemmas.{virtuals_below}
 use Rattle.graph_run.proofs.ScheduleSteps.{scheduled, scheduled_reduces}
 use Rattle.graph_run.proofs.SizeSteps.{virtual_count, virtual_format}
 use Rattle.graph_run.proofs.SolutionStepsTaken.{back_for, back_images, back_tallies, tables_lent, tables_same, value}
@@ -27,10 +27,7 @@ use Rattle.graph_run.proofs.VirtualLemmas.{same_format_at}
 same_formats : (xs ys : List PlaneValue) (k : ℕ) → capacities xs ≡ capacities ys → k < length xs → (plane xs k).format ≡ (plane ys k).format
 same_formats xs ys k same below =
     let size : PlaneValue → Format × ℕ = λ q. (q.format, length q.samples) in
-    let there : k < length ys = omega (arith, below, ap length same, length-map xs size, length-map ys size) in
-    sym (ap (λ (r : Format × ℕ). r.0) (get_or-map size xs k no_plane (U8, 0) below))
-    ∙ ap (λ (l : List (Format × ℕ)). (get_or l k (U8, 0)).0) same
-    ∙ ap (λ (r : Format × ℕ). r.0) (get_or-map size ys k no_plane (U8, 0) there)
+    grind (arith, same, length-map xs size, length-map ys size, get_or-map size xs k no_plane (U8, 0), get_or-map size ys k no_plane (U8, 0))
 
 module _ {objects : List NamedObject} {v : Verified} {s : Schedule} (g : CanRunBy objects v s) where
   abbrev count : ℕ
@@ -96,11 +93,7 @@ module _ {objects : List NamedObject} {v : Verified} {s : Schedule} (g : CanRunB
 
         formats_back : capacities after ≡ capacities planes → (now : List Samples) → map samples_format now ≡ map samples_format blocks → (k : ℕ) → k < length s.slots.items
             → (plane after k).format ≡ (block_capacity now (get_or s.slots.items k 0)).0
-        formats_back kept now same k below =
-            same_formats after planes k kept (omega (arith, planes_enough, below))
-            ∙ ap (λ (l : List PlaneValue). (plane l k).format) t.all
-            ∙ virtual_format t.virtuals (image_planes objects clients) s.slots.items (block_capacity blocks) k t.first virtuals_fit below
-            ∙ sym (same_format_at blocks now (get_or s.slots.items k 0) same)
+        formats_back kept now same k below = grind (arith, same_formats, planes_enough, virtual_format, virtuals_fit, same_format_at)
 
         pub can_return : capacities after ≡ capacities planes → (now : List Samples) → map samples_format now ≡ map samples_format blocks → CanReturn (bare_objects objects v s) v s now after counted
         can_return kept now same =

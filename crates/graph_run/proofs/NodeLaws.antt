@@ -1,8 +1,8 @@
 -- The values that a node writes, object by object.
-use Rattle.std.proofs.Common.{◌≡◌, ◌≢◌, Bool, true, false, ◌||◌, if◌then◌else◌, List, [], ◌∷◌, refl, sym, ap, ◌∙◌, inl, inr, Option, Some, None, arith, option_map, option_and_then, ◌⊎◌}
-use Rattle.graph_run.proofs.Common.{cases_Bool, or_left, or_right, or_parts, Node, Output, First, Second, Reference, same_reference, outputs, ObjectValue, object_kind, node_output, written_to, written_in, written_from, NamedObject, object_at, In, writes, has_twice, kind_in, form_of, form_held, In-append, same_cell-true, option_or}
+use Rattle.std.proofs.Common.{◌≡◌, ◌≢◌, Bool, true, false, ◌||◌, if◌then◌else◌, List, [], ◌∷◌, refl, sym, ◌∙◌, inl, inr, Option, Some, None, arith, option_map, option_and_then, ◌⊎◌}
+use Rattle.graph_run.proofs.Common.{cases_Bool, or_left, or_right, or_parts, Node, Output, First, Second, Reference, same_reference, outputs, ObjectValue, node_output, written_to, written_in, written_from, NamedObject, object_at, In, writes, has_twice, kind_in, form_of, form_held, In-append, same_cell-true, option_or}
 use Rattle.vx_base.specs.declared.kind.Kind.TheVariants as kind
-use Rattle.graph_run.proofs.ObjectLaws.{is_delay, shown, is_delay-form, not_delay, form-node_output}
+use Rattle.graph_run.proofs.ObjectLaws.{is_delay, shown, form-node_output}
 use Rattle.graph_run.proofs.HeldLaws.{IsWrite, AreWrites, last_to, last_to-append, or_assoc}
 
 -- ---- the value that a node gives an object
@@ -33,22 +33,14 @@ given_from start n object_at c = given_to n object_at c (start c) (object_at c)
 abbrev pub given_in : Node → (Reference → Option ObjectValue) → Reference → Option ObjectValue
 given_in n object_at c = given_from object_at n object_at c
 
--- if no value is given, the object didn't exist
-pub output_of_again : (n : Node) (output : Output) (first before second other old : Option ObjectValue) → option_map object_kind before ≡ option_map object_kind first
-    → output_of n output first second old (output_of n output before other old old) ≡ output_of n output first second old old
-output_of_again n output first before second other old same = grind arith
-
 shown-output_of : (n : Node) (output : Output) (first second old now : Option ObjectValue)
     → option_map shown (output_of n output first second old now) ≡ output_of n output (option_map shown first) (option_map shown second) (option_map shown old) (option_map shown now)
 shown-output_of n output first second old now = grind arith
 
-shown-and_then : (object_at : Reference → Option ObjectValue) (o : Option Reference) → option_map shown (option_and_then object_at o) ≡ option_and_then (λ d. option_map shown (object_at d)) o
-shown-and_then object_at y = grind arith
-
 -- the images of a delay, seen as a whole, don't matter
 pub shown-given_to : (n : Node) (object_at : Reference → Option ObjectValue) (c : Reference) (old now : Option ObjectValue)
     → option_map shown (given_to n object_at c old now) ≡ given_to n (λ d. option_map shown (object_at d)) c (option_map shown old) (option_map shown now)
-shown-given_to n object_at c old now = grind (arith, shown-output_of n (output_at n c) (object_at n.in1) (option_and_then object_at n.in2) old now, shown-and_then object_at n.in2)
+shown-given_to n object_at c old now = grind (arith, shown-output_of n (output_at n c) (object_at n.in1) (option_and_then object_at n.in2) old now)
 
 pub shown-given_from : (start : Reference → Option ObjectValue) (n : Node) (object_at : Reference → Option ObjectValue) (c : Reference)
     → option_map shown (given_from start n object_at c) ≡ given_from (λ d. option_map shown (start d)) n (λ d. option_map shown (object_at d)) c
@@ -63,27 +55,18 @@ form-output_of n output first second old now h = grind arith
 pub writes-outputs : (n : Node) (c : Reference) → writes n c ≡ (is_cell n.out1 c || is_cell n.out2 c)
 writes-outputs n c = grind arith
 
-last_other : (n : Node) (output : Output) (o : Option Reference) (start object_at : Reference → Option ObjectValue) (c : Reference) → is_cell o c ≡ false → last_to c (written_in n output o start object_at) ≡ None
-last_other n output z start object_at c h = grind arith
-
 last_there : (n : Node) (output : Output) (o : Option Reference) (start object_at : Reference → Option ObjectValue) (c : Reference) → is_cell o c ≡ true
     → last_to c (written_in n output o start object_at) ≡ last_to c (written_to n output c (object_at n.in1) (option_and_then object_at n.in2) (start c))
-last_there n output None start object_at c h = absurd (cc h)
-last_there n output (Some d) start object_at c h = ap (λ z. last_to c (written_to n output z (object_at n.in1) (option_and_then object_at n.in2) (start z))) (sym (same_cell-true c d h))
+last_there n output o start object_at c h = grind (arith, same_cell-true c)
 
 -- it replaces the old value, and a value that another output of the node gave
 over_old : (n : Node) (output : Output) (c : Reference) (first second old now : Option ObjectValue) → option_or (last_to c (written_to n output c first second old)) now ≡ output_of n output first second old now
 over_old n output c u second old now = grind arith
 
-over_other : (n : Node) (output other : Output) (c : Reference) (first second old now : Option ObjectValue)
-    → option_or (last_to c (written_to n output c first second old)) (output_of n other first second old now) ≡ output_of n output first second old now
-over_other n output other c v second old now = grind arith
-
 -- the last value written to an object is the one that the node gives it
 pub last_written : (start : Reference → Option ObjectValue) (n : Node) (object_at : Reference → Option ObjectValue) (c : Reference)
     → option_or (last_to c (written_from start n object_at)) (object_at c) ≡ (if writes n c then given_from start n object_at c else object_at c)
-last_written start n object_at c =
-    grind (arith, last_to-append c (written_in n First n.out1 start object_at) (written_in n Second n.out2 start object_at), or_assoc (last_to c (written_in n Second n.out2 start object_at)) (last_to c (written_in n First n.out1 start object_at)) (object_at c), last_to c (written_in n Second n.out2 start object_at), last_to c (written_in n First n.out1 start object_at), writes-outputs n c, cases_Bool (is_cell n.out1 c), cases_Bool (is_cell n.out2 c), over_old n First c (object_at n.in1) (option_and_then object_at n.in2) (start c) (object_at c), over_other n Second First c (object_at n.in1) (option_and_then object_at n.in2) (start c) (object_at c), over_old n Second c (object_at n.in1) (option_and_then object_at n.in2) (start c) (object_at c), last_to-append, or_assoc, last_to, writes-outputs, cases_Bool, last_there, over_old, over_other, last_other)
+last_written start n object_at c = grind (arith, last_to-append, or_assoc, last_to, writes-outputs, cases_Bool (is_cell n.out1 c), cases_Bool (is_cell n.out2 c), over_old, cases_Bool, last_there)
 
 -- no other objects are written
 pub last_elsewhere : (start : Reference → Option ObjectValue) (n : Node) (object_at : Reference → Option ObjectValue) (c : Reference) → writes n c ≡ false → last_to c (written_from start n object_at) ≡ None
@@ -119,7 +102,7 @@ written_held start n object_at w i =
 -- it keeps its form
 write_is : (start objects : List NamedObject) (n : Node) (output : Output) (o : Option Reference) (c : Reference) (object : ObjectValue) → form_held objects c ≡ form_held start c → kind_in objects c ≢ Some kind.Delay
     → IsGiven n output o (object_at start) (object_at objects) c object → IsWrite objects c object
-write_is start objects n output o c object forms whole g = grind (arith, form-node_output, is_delay, not_delay, is_delay-form)
+write_is start objects n output o c object forms whole g = grind (arith, form-node_output, is_delay)
 
 pub AreWrites-written : (start objects : List NamedObject) (n : Node) → ((c : Reference) → form_held objects c ≡ form_held start c) → ((c : Reference) → writes n c ≡ true → kind_in objects c ≢ Some kind.Delay)
     → AreWrites objects (written_from (object_at start) n (object_at objects))
@@ -138,8 +121,7 @@ given_holds start n object_at once h w i = grind (arith, given_cases start n obj
 
 held_last : (object_at : Reference → Option ObjectValue) (c : Reference) (ws : List (Reference × ObjectValue)) → ((w : Reference × ObjectValue) → In w ws → object_at w.0 ≡ Some w.1) → option_or (last_to c ws) (object_at c) ≡ object_at c
 held_last object_at c [] h = refl
-held_last object_at c (w ∷ ws) h =
-    grind (arith, or_assoc (last_to c ws) (if same_reference c w.0 then Some w.1 else None) (object_at c), held_last object_at c ws (λ v i. h v (inr i)), cases_Bool (same_reference c w.0), same_cell-true c w.0, h w (inl refl))
+held_last object_at c (w ∷ ws) h = grind (arith, or_assoc (last_to c ws) (if same_reference c w.0 then Some w.1 else None) (object_at c), held_last object_at c ws (λ v i. h v (inr i)), cases_Bool (same_reference c w.0), same_cell-true c w.0, h w (inl refl))
 
 -- if all written values are there, each output has the value that the node gives it
 pub holds_given : (start : Reference → Option ObjectValue) (n : Node) (object_at : Reference → Option ObjectValue) → ((w : Reference × ObjectValue) → In w (written_from start n object_at) → object_at w.0 ≡ Some w.1)

@@ -1,6 +1,6 @@
 -- A node by itself: what it reads and writes in a table.
-use Rattle.std.proofs.Common.{◌≡◌, ◌≢◌, ◌⊎◌, IsTrue, List, [], ◌∷◌, Option, Some, None, refl, sym, ap, subst, ◌∙◌, arith, All, is_some, IfSome, option_map}
-use Rattle.graph_run.proofs.Common.{First, Second, Output, Kind, Node, Reference, parameters, ImageValue, IsImage, description_of, ObjectValue, ImageObject, IsObject, object_kind, node_image, node_output, second_or_output, written_by, Context, with_objects, NamedObject, object_at, with_object, with_written, image_value, cell_object, image_held, IsStrictlyIncreasing, names_of, AreApart, Lasts, RunsOn, RunsTo, with_output_object, CanRunNow, Holds}
+use Rattle.std.proofs.Common.{◌≡◌, ◌≢◌, ◌⊎◌, List, [], ◌∷◌, Some, refl, sym, ap, subst, ◌∙◌, arith, All, IfSome, option_map}
+use Rattle.graph_run.proofs.Common.{First, Second, Output, Kind, Node, Reference, parameters, ImageValue, ImageObject, IsObject, object_kind, node_image, second_or_output, written_by, Context, with_objects, NamedObject, object_at, with_object, with_written, cell_object, image_held, IsStrictlyIncreasing, names_of, Lasts, RunsTo, with_output_object, CanRunNow}
 use Rattle.vx_base.specs.declared.kind.Kind.TheVariants as kind
 use Rattle.graph_steps.specs.declared.tally.Tally.{Tally}
 use Rattle.graph_steps.specs.Planes.{IsWhole, PlaneValue, block_image}
@@ -13,8 +13,8 @@ use Rattle.graph_run.specs.Program.{tally_by}
 use Rattle.graph_run.specs.Results.{tally_object}
 use Rattle.graph_run.specs.Steps.{HasInputs, output_of}
 use Rattle.graph_run.proofs.CellLemmas.{elsewhere, object_after, object_elsewhere, object_if_elsewhere, there_is, with_object_twice}
-use Rattle.graph_run.proofs.LendLemmas.{back_after, format_there, image_there, names-with_plane, runs_before, taken_after}
-use Rattle.graph_run.proofs.OutputLemmas.{image_of_object}
+use Rattle.graph_steps.proofs.KernelLaws.{whole_takes}
+use Rattle.graph_run.proofs.LendLemmas.{back_after, desc_there, format_there, image_there, names-with_plane, runs_before, taken_after}
 use Rattle.graph_run.proofs.RunLemmas.{Lasts-outputs, runs_first, runs_second, runs_then, two_outputs, written_is}
 use Rattle.graph_run.proofs.SolutionStepsReturns.{counted_kind, tally_output}
 use Rattle.graph_run.proofs.SolutionStepsTaken.{tally_for}
@@ -38,9 +38,7 @@ module _ (t : Context) (n : Node) (planes : OutputPlanes) (taken : AreInPlanes t
   -- after the first output
   module _ (between : Context) (one : between ≡ with_objects t (with_output_object first n First n.out1)) where
     then : with_plane between.objects n.out2 planes.second ≡ with_output_object whole n First n.out1
-    then =
-        ap (λ (b : Context). with_plane b.objects n.out2 planes.second) one
-        ∙ back_after first n n.out1 n.out2 planes.second runs_first_taken (runs_second n whole are can) (two_outputs n whole are can)
+    then = grind (arith, back_after, runs_first_taken, runs_second, two_outputs)
 
     pub taken_then : IsInPlaneIf between.objects n.out2 planes.second
     taken_then = subst (λ (b : Context). IsInPlaneIf b.objects n.out2 planes.second) (sym one) (taken_after first n n.out1 n.out2 planes.second taken.second (two_outputs n whole are can))
@@ -60,31 +58,14 @@ module _ (t : Context) (n : Node) (planes : OutputPlanes) (taken : AreInPlanes t
       both_written = both ∙ ap (with_objects t) (sym (written_is n whole are can))
 
       pub both_last : Lasts whole after.objects
-      both_last =
-          let names_whole = subst IsStrictlyIncreasing (sym (names-with_plane first n.out2 planes.second)) names_first in
-          subst (λ (c : Context). Lasts whole c.objects) (sym both) (Lasts-outputs n whole are can names_whole)
+      both_last = grind (arith, names-with_plane first, names_first, both, Lasts-outputs n whole are can)
 
 -- ---- inputs
 
 pub reads : (objects : List NamedObject) (n : Node) (output : Reference) → RunsTo objects n output → HasInputs objects n
-reads objects n output h = record {
-  first = h.in1;
-  image = image_of_object (cell_object objects n.in1) h.runs.first_kind h.runs.first_is;
-  second = h.in2;
-  object = h.runs.second_is;
-  kind = h.runs.second_kind;
-}
+reads objects n output h = grind arith
 
 -- ---- an output image, whose samples are in a plane
-
-can_make : (n : Node) (which : Output) (first : ObjectValue) (second : Option ObjectValue) (out : ObjectValue) → RunsOn n first second out → object_kind out ≡ kind.Image
-    → CanMake (lent_step n which) (image_value first) second (description_of (image_value out))
-can_make n which first second other runs e = grind arith
-
-image_output : (n : Node) (which : Output) (first : ObjectValue) (second : Option ObjectValue) (out : ObjectValue) → object_kind first ≡ kind.Image → object_kind out ≡ kind.Image
-    → ImageObject (node_image n which (image_value out).format (image_value first) (second_or_output n second (ImageObject (image_value out)))) ≡ node_output n which first second out
-image_output n which (ImageObject a) second (ImageObject b) h i = refl
-image_output n which first second other h i = grind arith
 
 module _ (t : Context) (n : Node) (which : Output) (output : Reference) (p : PlaneValue) (taken : IsInPlane t.objects output p) (h : RunsTo (with_plane t.objects (Some output) (Some p)) n output) where
   abbrev image : ImageValue
@@ -103,43 +84,21 @@ module _ (t : Context) (n : Node) (which : Output) (output : Reference) (p : Pla
   second_same : option_map (cell_object l) n.in2 ≡ option_map (cell_object t.objects) n.in2
   second_same = object_if_elsewhere t.objects output n.in2 (ImageObject image) h.in2_apart
 
-  holds_beside : (cell : Option Reference) → IfSome cell (λ c. AreApart c output) → IfSome cell (Holds l) → IfSome cell (Holds t.objects)
-  holds_beside None apart held = tt
-  holds_beside (Some c) apart held = subst (λ (o : Option ObjectValue). IsTrue (is_some o)) (elsewhere t.objects output c (ImageObject image) apart) held
-
   pub reads_beside : HasInputs t.objects n
-  reads_beside =
-      let with_image = reads l n output h in
-      record {
-        first = sym (ap (option_map object_kind) (elsewhere t.objects output n.in1 (ImageObject image) h.in1_apart)) ∙ h.in1;
-        image = subst (λ (o : ObjectValue). IsImage (image_value o)) first_same with_image.image;
-        second = holds_beside n.in2 h.in2_apart h.in2;
-        object = subst (λ (o : Option ObjectValue). IfSome o IsObject) second_same with_image.object;
-        kind = subst (λ (o : Option ObjectValue). IfSome o (λ object. (parameters n.function).second_input ≡ Some (object_kind object))) second_same with_image.kind;
-      }
+  reads_beside = grind (arith, reads, elsewhere, first_same, second_same)
 
   pub can_make_beside : CanMake (lent_step n which) (image_held t.objects n.in1) (option_map (cell_object t.objects) n.in2) p.desc
-  can_make_beside =
-      subst (λ (o : Option ObjectValue). CanMake (lent_step n which) (image_held t.objects n.in1) o p.desc) second_same
-      (subst (λ (o : ObjectValue). CanMake (lent_step n which) (image_value o) (option_map (cell_object l) n.in2) p.desc) first_same
-      (can_make n which (cell_object l n.in1) (option_map (cell_object l) n.in2) (ImageObject image) (subst (RunsOn n (cell_object l n.in1) (option_map (cell_object l) n.in2)) own h.runs) refl))
+  can_make_beside = grind (arith, second_same, first_same, own)
 
   pub plane_whole : IsWhole p
-  plane_whole =
-      let is : IsImage image = subst IsObject own h.runs.out_is in
-      record { format = format_there t.objects output p taken; top = ap (λ (q : PlaneValue). q.top) taken.whole; size = is.size; valid = is.room }
+  plane_whole = grind (arith, own, format_there)
 
   -- once the plane is written and its image is back
   pub image_back : (q : PlaneValue) → block_image q ≡ node_image n which p.desc.format (image_held t.objects n.in1) (second_or_output n (option_map (cell_object t.objects) n.in2) (ImageObject image))
       → (back : Context) → back ≡ with_objects t (with_object t.objects output (ImageObject (block_image q))) → back ≡ with_objects t (with_output_object l n which (Some output))
-  image_back q made back put =
-      let written : ImageObject (block_image q) ≡ output_of l n which output =
-      ap (λ i. ImageObject i) made
-      ∙ ap (λ (o : ObjectValue). ImageObject (node_image n which p.desc.format (image_value o) (second_or_output n (option_map (cell_object t.objects) n.in2) (ImageObject image)))) (sym first_same)
-      ∙ ap (λ (o : Option ObjectValue). ImageObject (node_image n which p.desc.format (image_held l n.in1) (second_or_output n o (ImageObject image)))) (sym second_same)
-      ∙ image_output n which (cell_object l n.in1) (option_map (cell_object l) n.in2) (ImageObject image) h.runs.first_kind refl
-      ∙ ap (node_output n which (cell_object l n.in1) (option_map (cell_object l) n.in2)) (sym own) in
-      put ∙ ap (with_objects t) (sym (with_object_twice t.objects output (ImageObject image) (block_image q)) ∙ ap (with_object l output) written)
+  image_back q made back put = grind (arith, first_same, second_same, own, with_object_twice)
+
+pub ruleset beside = (reads_beside, plane_whole, whole_takes, image_there, desc_there, format_there)
 
 -- ---- an output that is a tally
 
@@ -153,12 +112,9 @@ module _ (before : Context) (n : Node) (output : Reference) (h : RunsTo before.o
   own_kind : object_kind (cell_object objects output) ≡ k
   own_kind = h.runs.out_kind ∙ wanted
 
-  counts : (k ≡ kind.Distribution) ⊎ (k ≡ kind.Extremes)
-  counts = subst (λ (x : Kind). (x ≡ kind.Distribution) ⊎ (x ≡ kind.Extremes)) wanted (counted_kind n.function (λ e. other (sym wanted ∙ e)))
-
   module _ (t : Tally) (new : tally_by k (cell_object objects output) ≡ t ∷ []) where
     of_own : (object_kind (cell_object objects output) ≡ kind.Distribution) ⊎ (object_kind (cell_object objects output) ≡ kind.Extremes)
-    of_own = subst (λ (x : Kind). (x ≡ kind.Distribution) ⊎ (x ≡ kind.Extremes)) (sym own_kind) counts
+    of_own = subst (λ (x : Kind). (x ≡ kind.Distribution) ⊎ (x ≡ kind.Extremes)) (sym h.runs.out_kind) (counted_kind n.function (λ e. other (sym wanted ∙ e)))
 
     new_own : tally_by (object_kind (cell_object objects output)) (cell_object objects output) ≡ t ∷ []
     new_own = ap (λ (x : Kind). tally_by x (cell_object objects output)) own_kind ∙ new
@@ -167,8 +123,4 @@ module _ (before : Context) (n : Node) (output : Reference) (h : RunsTo before.o
     is_for = tally_for objects output (cell_object objects output) a t (tally_of a t) (there_is objects output h.out) of_own new_own refl
 
     pub tally_written : (which : Output) → tally_object (tally_of a t) ≡ output_of objects n which output
-    tally_written which = tally_of_object (cell_object objects n.in1) h.runs.first_kind
-      where
-        tally_of_object : (first : ObjectValue) → object_kind first ≡ kind.Image → tally_object (tally_of (image_value first) t) ≡ node_output n which first (option_map (cell_object objects) n.in2) (cell_object objects output)
-        tally_of_object (ImageObject image) is = sym (tally_output n which image (option_map (cell_object objects) n.in2) (cell_object objects output) t of_own new_own)
-        tally_of_object first is = absurd (cc is)
+    tally_written which = grind (arith, tally_output, of_own, new_own)

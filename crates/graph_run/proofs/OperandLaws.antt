@@ -68,12 +68,7 @@ module _ (work : ℕ) (is : Reference → Operand) (nodes : List Node) (can : Ca
 
   -- a virtual image that is read is written
   pub virtual_written : (n : Node) (c : Reference) → In n nodes → names_cell n c ≡ true → is_virtual (is c) ≡ true → is_written nodes c ≡ true
-  virtual_written n c i named v = elim (or_cases (reads n c) (writes n c) named) [
-    | inl r ↦
-        (let fails = fails-from_In (is_unwritten_image is nodes) c (inputs n) (ends_met n i).0 (In-from_same c (inputs n) r) in
-        grind (arith, fails, v))
-    | inr w ↦ any-from_In (λ m. writes m c) n nodes i w
-  ]
+  virtual_written n c i named v = grind (arith, or_cases (reads n c) (writes n c) named, fails-from_In (is_unwritten_image is nodes) c (inputs n) (ends_met n i).0, ends_met n i, In-from_same c (inputs n), any-from_In (λ m. writes m c) n nodes i)
 
   -- an image stands for a virtual one that is written
   virtual_begins : (c : Reference) (x : ObjectValue) (v : VirtualImage) (d : Description) → ◌≡◌ {A = Option ℕ} c.slot None → x ≡ VirtualObject v → is_written nodes c ≡ true → known c ≡ Image d
@@ -114,11 +109,7 @@ module _ (work : ℕ) (is : Reference → Operand) (nodes : List Node) (can : Ca
     begun_stands = record {
       found = holds_known;
       kinds = (λ n c i w. elim (cases_Bool (is_virtual (is c))) [
-        | inl v ↦
-            (let partial_desc = outline_of_virtual (is c) v in
-            let output = image_written n c partial_desc.0 i w partial_desc.1 in
-            let image = written_virtual n c partial_desc.0 i w output partial_desc.1 in
-            subst (λ o. StandsFor o (parameters n.function).output) (sym image.1) (ap Some (sym output)))
+        | inl v ↦ grind (arith, outline_of_virtual, image_written, written_virtual)
         | inr real ↦ subst (λ o. StandsFor o (parameters n.function).output) (sym (known_kept (is c) (partial_descs is nodes c) real)) (stand.kinds n c i w)
       ]);
     }
@@ -166,16 +157,9 @@ one_size n is c none w =
     sizes : (takes same : Bool) → (if not takes then Some InvalidFormat else (if same then None else Some InvalidDimension)) ≡ None → same ≡ true
     sizes x same e = grind arith
 
-operand_is : (o : Option ObjectValue) (x : ObjectValue) (operand : Operand) → option_map operand_of o ≡ Some operand → o ≡ Some x → operand_of x ≡ operand
-operand_is x y operand f e = grind arith
-
 module _ (is : Reference → Operand) (nodes : List Node) (objects : List NamedObject) (stand : CellsStand is nodes objects) (n : Node) (i : In n nodes) (none : node_fault n.function (operands_of is n) ≡ None) where
   gives_alike : (c : Reference) → writes n c ≡ true → option_map operand_of (given_in n (object_at objects) c) ≡ option_map operand_of (object_at objects c)
-  gives_alike c w = grind (arith, given_kept, output_at, operand_is, or_left, reads_first, or_right, one_size)
-
-  given_or_kept : (c : Reference) (b : Bool) → writes n c ≡ b → option_map operand_of (if b then given_in n (object_at objects) c else object_at objects c) ≡ option_map operand_of (object_at objects c)
-  given_or_kept c true w = gives_alike c w
-  given_or_kept c false w = refl
+  gives_alike c w = grind (arith, given_kept, output_at, or_left, reads_first, or_right, one_size)
 
   seen_after : (c : Reference) → option_map shown (object_at (with_written objects (written_by n (object_at objects))) c) ≡ option_map shown (if writes n c then given_in n (object_at objects) c else object_at objects c)
   seen_after c =
@@ -186,8 +170,7 @@ module _ (is : Reference → Operand) (nodes : List Node) (objects : List NamedO
 
   -- no cell becomes another operand
   pub operand_after : (c : Reference) → option_map operand_of (object_at (with_written objects (written_by n (object_at objects))) c) ≡ option_map operand_of (object_at objects c)
-  operand_after c =
-      grind (arith, operand-shown (object_at (with_written objects (written_by n (object_at objects))) c), seen_after c, operand-shown (if writes n c then given_in n (object_at objects) c else object_at objects c), given_or_kept c (writes n c) refl)
+  operand_after c = grind (arith, operand-shown (object_at (with_written objects (written_by n (object_at objects))) c), seen_after c, operand-shown, given_in n (object_at objects) c, gives_alike)
 
   pub stands_after : CellsStand is nodes (with_written objects (written_by n (object_at objects)))
   stands_after = record { found = (λ m c j named. operand_after c ∙ stand.found m c j named); kinds = stand.kinds }

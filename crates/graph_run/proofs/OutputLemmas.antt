@@ -1,10 +1,9 @@
 -- What nodes write to an output.
 use Rattle.std.proofs.Common.{◌≡◌, length, true, Option, arith, unsigned_abs, ◌==◌}
-use Rattle.graph_run.proofs.Common.{length-map-range_with_len, ImageValue, IsImage, description_of, BinsValue, histogram, valid_samples, and_parts, Node, Description, same_size, ObjectValue, IsObject, object_kind, Output, node_image, HaveSameSize, image_value}
+use Rattle.graph_run.proofs.Common.{length-map-range_with_len, ImageValue, description_of, BinsValue, histogram, valid_samples, and_parts, Node, Description, same_size, ObjectValue, Output, node_image, HaveSameSize}
 use Rattle.std.specs.List.{count_by}
 use Rattle.vx_base.specs.Statistics.{bin_of, is_bin}
 use Rattle.graph_run.proofs.OperandLaws.{described_node}
-use Rattle.vx_base.specs.declared.kind.Kind.TheVariants as kind
 
 -- there is a count for each bin
 pub length-histogram : (bins : BinsValue) (a : ImageValue) → length (histogram bins a) ≡ bins.bins
@@ -17,7 +16,3 @@ same_description a b size format = grind (arith, and_parts (a.width == b.width) 
 -- an output keeps its description
 pub description_kept : (n : Node) (output : Output) (a : ImageValue) (second : Option ObjectValue) (out : ImageValue) → HaveSameSize out a → description_of (node_image n output out.format a second) ≡ description_of out
 description_kept n output a second out h = grind (arith, described_node, same_description)
-
--- an object that is an image is one
-pub image_of_object : (object : ObjectValue) → object_kind object ≡ kind.Image → IsObject object → IsImage (image_value object)
-image_of_object other e is = grind arith

@@ -1,8 +1,7 @@
 -- The tasks of a graph: which node each is of, which planes it reads and writes, and in which order.
-use Rattle.std.proofs.Common.{◌≡◌, ◌≢◌, ℕ, suc, ◌+◌, ◌<◌, true, false, List, [], ◌∷◌, ◌++◌, length, refl, sym, ap, subst, ◌∙◌, inl, inr, arith, Option, Some, None, ◌⊎◌}
+use Rattle.std.proofs.Common.{◌≡◌, ◌≢◌, ℕ, suc, ◌+◌, ◌<◌, true, false, List, [], ◌∷◌, ◌++◌, length, refl, sym, ap, subst, ◌∙◌, inl, inr, arith, Option, Some}
 use Rattle.std.specs.List.{slice_get}
-use Rattle.std.proofs.lemmas.List.{append_assoc}
-use Rattle.graph_run.proofs.Common.{cases_lt, or_parts, list_any, flat_map, Kind, Node, Reference, optional_cells, inputs, outputs, parameters, has_twice, once_after, second_kind, feeds, same_reference, In, In-left, In-right, any-from_In, same-from_In, Output, First, Second}
+use Rattle.graph_run.proofs.Common.{cases_lt, or_parts, list_any, flat_map, Kind, Node, Reference, optional_cells, inputs, outputs, parameters, has_twice, once_after, second_kind, feeds, same_reference, In, In-left, In-right, any-from_In, same-from_In, Output}
 use Rattle.graph_verify.proofs.MemberLemmas.{In-flat_map}
 use Rattle.graph_verify.specs.Links.{reads}
 use Rattle.graph_verify.specs.Order.{InTurn}
@@ -14,9 +13,9 @@ use Rattle.graph_steps.specs.declared.step.Task.TheVariants.{Write, Reduce}
 use Rattle.graph_steps.specs.Program.{HaveOneWriter, IsStepOf, KeepsBlock, IsLive, IsUnwritten}
 use Rattle.graph_steps.specs.Steps.{ReadsPlane}
 use Rattle.graph_run.specs.Cells.{image_given, images_named, index_of, node_images, with_cells}
-use Rattle.graph_run.specs.Tasks.{AreNamed, AreReadAfter, AreReadWithin, TakeTurns, source, step_for, tally_after, tasks_by, tasks_from, write_given}
+use Rattle.graph_run.specs.Tasks.{AreNamed, AreReadAfter, AreReadWithin, TakeTurns, source, step_for, tally_after, tasks_from}
 use Rattle.graph_run.proofs.IndexLemmas.{in_more, indices_differ, once_differ}
-use Rattle.graph_run.proofs.TaskLemmas.{turns_kept, turns_written}
+use Rattle.graph_run.proofs.TaskLemmas.{in_outputs_at, node_keeps, out_at, turns_kept, turns_written}
 
 -- ---- live planes
 
@@ -31,10 +30,8 @@ live_unwritten kept (Write w ∷ later) c after (inr live) s (inr i) = live_unwr
 
 live_within : (kept : ℕ → Type 0) (tasks : List Task) (count c : ℕ) → ((k : ℕ) → kept k → k < count) → AreReadWithin count tasks → IsLive kept tasks c → c < count
 live_within kept [] count c keeps within live = keeps c live
-live_within kept (Reduce r ∷ later) count c keeps within (inl e) = subst (λ (n : ℕ). n < count) e within.0
-live_within kept (Reduce r ∷ later) count c keeps within (inr live) = live_within kept later count c keeps within.1 live
-live_within kept (Write w ∷ later) count c keeps within (inl read) = within.0 c read
-live_within kept (Write w ∷ later) count c keeps within (inr live) = live_within kept later count c keeps within.1 live.1
+live_within kept (Reduce r ∷ later) count c keeps within live = grind (arith, live_within kept later count c keeps within.1)
+live_within kept (Write w ∷ later) count c keeps within live = grind (arith, within.0 c, live_within kept later count c keeps within.1)
 
 -- what is live as a run begins is a client's image that no step writes
 pub turns_begin : (slots : List ℕ) (tasks : List Task) (count : ℕ) → TakeTurns slots 0 tasks → AreReadAfter tasks → AreReadWithin count tasks
@@ -52,27 +49,9 @@ turns_begin slots tasks count turns after within c live =
 
 -- ---- the node of a step
 
-pub tasks-append : (s : Step) (xs ys : List Task) → IsStepOf s (xs ++ ys) → IsStepOf s xs ⊎ IsStepOf s ys
-tasks-append s [] ys i = inr i
-tasks-append s (Write w ∷ xs) ys (inl e) = inl (inl e)
-tasks-append s (Write w ∷ xs) ys (inr i) = elim (tasks-append s xs ys i) [
-  | inl left ↦ inl (inr left)
-  | inr right ↦ inr right
-]
-tasks-append s (Reduce r ∷ xs) ys i = tasks-append s xs ys i
-
 pub tasks-right : (s : Step) (xs ys : List Task) → IsStepOf s ys → IsStepOf s (xs ++ ys)
 tasks-right s [] ys i = i
-tasks-right s (Write w ∷ xs) ys i = inr (tasks-right s xs ys i)
-tasks-right s (Reduce r ∷ xs) ys i = tasks-right s xs ys i
-
-abbrev pub out_at : Node → Output → Option Reference
-out_at n First = n.out1
-out_at n Second = n.out2
-
-pub in_outputs_at : (n : Node) (which : Output) (c : Reference) → out_at n which ≡ Some c → In c (outputs n)
-in_outputs_at n First c e = In-left c (optional_cells n.out1) (optional_cells n.out2) (subst (λ (o : Option Reference). In c (optional_cells o)) (sym e) (inl refl))
-in_outputs_at n Second c e = In-right c (optional_cells n.out1) (optional_cells n.out2) (subst (λ (o : Option Reference). In c (optional_cells o)) (sym e) (inl refl))
+tasks-right s (t ∷ xs) ys i = grind (arith, tasks-right s xs ys)
 
 module _ (cells : List Reference) (slots : List ℕ) (radius : Node → ℕ) where
   -- a step writes an output, which is an image, of the node at a place among these, the first of which is at an index
@@ -90,46 +69,18 @@ module _ (cells : List Reference) (slots : List ℕ) (radius : Node → ℕ) whe
     pub same : at ≡ first + place
     pub is : s ≡ step_for cells slots radius at node which cell
 
-  for_given : (at : ℕ) (n : Node) (which : Output) (o : Option Reference) (s : Step) → IsStepOf s (write_given cells slots radius at n which o)
-      → (c : Reference) × (o ≡ Some c) × (s ≡ step_for cells slots radius at n which c)
-  for_given at n which None s i = elim i [ ]
-  for_given at n which (Some c) s (inl e) = (c, refl, e)
-  for_given at n which (Some c) s (inr i) = elim i [ ]
-
-  for_by : (at tally : ℕ) (n : Node) (wanted : Kind) (s : Step) → IsStepOf s (tasks_by cells slots radius at tally n wanted)
-      → (wanted ≡ kind.Image) × ((which : Output) × (c : Reference) × (out_at n which ≡ Some c) × (s ≡ step_for cells slots radius at n which c))
-  for_by at tally n kind.Image s i = (
-    refl,
-    elim (tasks-append s (write_given cells slots radius at n First n.out1) (write_given cells slots radius at n Second n.out2) i) [
-      | inl one ↦ (let r = for_given at n First n.out1 s one in (First, r.0, r.1, r.2))
-      | inr two ↦ (let r = for_given at n Second n.out2 s two in (Second, r.0, r.1, r.2))
-    ],
-  )
-  for_by at tally n other s i = elim i [ ]
-
   pub step_node : (nodes : List Node) (first tally : ℕ) (s : Step) → IsStepOf s (tasks_from cells slots radius first tally nodes) → IsStepFor s first nodes
-  step_node [] first tally s i = elim i [ ]
-  step_node (n ∷ nodes) first tally s i = elim (tasks-append s (tasks_by cells slots radius first tally n (parameters n.function).output) (tasks_from cells slots radius (first + 1) (tally_after tally (parameters n.function).output) nodes) i) [
-    | inl own ↦
-        (let r = for_by first tally n (parameters n.function).output s own in
-        record { node = n; place = 0; there = refl; inside = inl refl; which = r.1.0; cell = r.1.1; output = r.1.2; written = in_outputs_at n r.1.0 r.1.1 r.1.2; image = r.0; at = first; same = omega arith; is = r.1.3 })
-    | inr later ↦
-        (let r = step_node nodes (first + 1) (tally_after tally (parameters n.function).output) s later in
-        record {
-          node = r.node;
-          place = suc r.place;
-          there = r.there;
-          inside = inr r.inside;
-          which = r.which;
-          cell = r.cell;
-          output = r.output;
-          written = r.written;
-          image = r.image;
-          at = r.at;
-          same = omega (arith, r.same);
-          is = r.is;
-        })
-  ]
+  step_node [] first tally s = λ i. elim i [ ]
+  step_node (n ∷ nodes) first tally s =
+      node_keeps cells slots radius (λ _ (tasks : List Task). IsStepOf s tasks → IsStepFor s first (n ∷ nodes)) first tally n (parameters n.function).output
+      [] (tasks_from cells slots radius (first + 1) (tally_after tally (parameters n.function).output) nodes)
+      (λ image which c output _ later rest i. elim i [
+        | inl e ↦ record { node = n; place = 0; there = refl; inside = inl refl; which = which; cell = c; output = output; written = in_outputs_at n which c output; image = image; at = first; same = omega arith; is = e }
+        | inr j ↦ rest j
+      ])
+      (λ other rest i. rest i)
+      (λ i. let r = step_node nodes (first + 1) (tally_after tally (parameters n.function).output) s i in
+      record { node = r.node; place = suc r.place; there = r.there; inside = inr r.inside; which = r.which; cell = r.cell; output = r.output; written = r.written; image = r.image; at = r.at; same = omega (arith, r.same); is = r.is })
 
 -- ---- the planes that a step reads
 
@@ -139,17 +90,14 @@ image_named n c image i =
     (subst (λ (k : Kind). In c (image_given k n.out1 ++ image_given k n.out2)) (sym image) i))
 
 source_plane : (cells : List Reference) (at k : ℕ) (wanted : Kind) (o : Option Reference) → source cells at wanted o ≡ Plane k → (c : Reference) × In c (optional_cells o) × In c (image_given wanted o) × (k ≡ index_of cells c)
-source_plane cells at k wanted None e = absurd (cc e)
-source_plane cells at k kind.Image (Some c) e = let same : k ≡ index_of cells c = cc in (c, inl refl, inl refl, same)
-source_plane cells at k other (Some c) e = absurd (cc e)
+source_plane cells at k wanted o e = grind arith
 
 -- a node that doesn't feed another writes none of the cells that that reads
 unfed : (m n : Node) (o c : Reference) → feeds m n ≡ false → In o (outputs m) → In c (inputs n) → o ≢ c
 unfed m n o c none i j e =
     let read : reads n o ≡ true = same-from_In o (inputs n) (subst (λ (x : Reference). In x (inputs n)) (sym e) j) in
     let fed : feeds m n ≡ true = any-from_In (reads n) o (outputs m) i read in
-    let clash : false ≡ true = sym none ∙ fed in
-    cc
+    cc (none, fed)
 
 module _ (cells : List Reference) (slots : List ℕ) (radius : Node → ℕ) where
   pub read_cell : (n : Node) (at : ℕ) (which : Output) (o : Reference) (k : ℕ) → ReadsPlane (step_for cells slots radius at n which o) k
@@ -169,38 +117,23 @@ module _ (cells : List Reference) (slots : List ℕ) (radius : Node → ℕ) whe
         indices_differ cells of.cell c (named of.node of.inside of.cell (image_named of.node of.cell of.image of.written)) (named n (inl refl) c j)
         (unfed of.node n of.cell c (turn of.node of.inside) of.written i) (sym (ap (λ (x : Step). x.output) of.is) ∙ same)
 
-    after_write : (at : ℕ) (which : Output) (o : Reference) (later : List Task) → AreTheirs (Write (step_for cells slots radius at n which o) ∷ later) → AreReadAfter later
+    after_write : (at : ℕ) (which : Output) (o : Reference) (later : List Task) → (AreTheirs later → AreReadAfter later) → AreTheirs (Write (step_for cells slots radius at n which o) ∷ later)
         → AreReadAfter (Write (step_for cells slots radius at n which o) ∷ later)
-    after_write at which o later theirs after =
-        ((λ k read s i. let r = read_cell n at which o k read in subst (λ (x : ℕ). s.output ≢ x) (sym r.3) (unwritten_by r.0 r.1 r.2 s (theirs s i))), after)
-
-    after_given : (at : ℕ) (which : Output) (o : Option Reference) (later : List Task) → AreTheirs (write_given cells slots radius at n which o ++ later) → AreReadAfter later
-        → AreReadAfter (write_given cells slots radius at n which o ++ later)
-    after_given at which None later theirs after = after
-    after_given at which (Some o) later theirs after = after_write at which o later theirs after
-
-    after_reduce : (tally : ℕ) (later : List Task) → AreTheirs later → AreReadAfter later → AreReadAfter (Reduce (record { input = index_of cells n.in1; tally = tally }) ∷ later)
-    after_reduce tally later theirs after = ((λ s i. unwritten_by n.in1 (inl refl) (inl refl) s (theirs s i)), after)
-
-    after_by : (at tally : ℕ) (wanted : Kind) (later : List Task) → AreTheirs (tasks_by cells slots radius at tally n wanted ++ later) → AreReadAfter later
-        → AreReadAfter (tasks_by cells slots radius at tally n wanted ++ later)
-    after_by at tally kind.Image later theirs after =
-        let one : List Task = write_given cells slots radius at n First n.out1 in
-        let two : List Task = write_given cells slots radius at n Second n.out2 in
-        let all : AreTheirs (one ++ (two ++ later)) = subst AreTheirs (append_assoc one two later) theirs in
-        subst AreReadAfter (sym (append_assoc one two later))
-        (after_given at First n.out1 (two ++ later) all
-        (after_given at Second n.out2 later (λ s i. all s (tasks-right s one (two ++ later) i)) after))
-    after_by at tally other later theirs after = after_reduce tally later theirs after
+    after_write at which o later after theirs = (
+      (λ k read s i. let r = read_cell n at which o k read in subst (λ (x : ℕ). s.output ≢ x) (sym r.3) (unwritten_by r.0 r.1 r.2 s (theirs s i))),
+      after (λ s i. theirs s (inr i)),
+    )
 
   -- where the nodes stand in their order, no task reads what a later one writes
   pub read_after : (nodes : List Node) (at tally : ℕ) → InTurn feeds nodes → AreNamed cells nodes → AreReadAfter (tasks_from cells slots radius at tally nodes)
   read_after [] at tally turn named = tt
   read_after (n ∷ nodes) at tally turn named =
-      after_by at n nodes named turn.0 at tally (parameters n.function).output
-      (tasks_from cells slots radius (at + 1) (tally_after tally (parameters n.function).output) nodes)
+      node_keeps cells slots radius (λ _ (tasks : List Task). AreTheirs at n nodes named turn.0 tasks → AreReadAfter tasks) at tally n (parameters n.function).output
+      [] (tasks_from cells slots radius (at + 1) (tally_after tally (parameters n.function).output) nodes)
+      (λ image which o i _ later after. after_write at n nodes named turn.0 at which o later after)
+      (λ other after theirs. ((λ s i. unwritten_by at n nodes named turn.0 n.in1 (inl refl) (inl refl) s (theirs s i)), after theirs))
+      (λ theirs. read_after nodes (at + 1) (tally_after tally (parameters n.function).output) turn.1 (λ m i. named m (inr i)))
       (λ s i. step_node cells slots radius (n ∷ nodes) at tally s i)
-      (read_after nodes (at + 1) (tally_after tally (parameters n.function).output) turn.1 (λ m i. named m (inr i)))
 
 -- ---- one writer, and planes that are there
 
@@ -209,52 +142,40 @@ module _ (cells : List Reference) (slots : List ℕ) (radius : Node → ℕ) whe
   abbrev WriteThese : List Reference → List Task → Type 0
   WriteThese left tasks = (s : Step) → IsStepOf s tasks → (o : Reference) × In o left × In o cells × (s.output ≡ index_of cells o)
 
-  one_write : (at : ℕ) (n : Node) (which : Output) (c : Reference) (left : List Reference) (later : List Task) → In c cells → has_twice (c ∷ left) ≡ false → WriteThese left later → HaveOneWriter later
-      → HaveOneWriter (Write (step_for cells slots radius at n which c) ∷ later)
-  one_write at n which c left later there once these one = (
-    (λ s i same.
-        let o = these s i in
-        indices_differ cells o.0 c o.2 there (once_differ c left o.0 (or_parts (list_any (same_reference c) left) (has_twice left) once).0 o.1) (sym o.3 ∙ same)),
-    one,
-  )
+  abbrev AreOnce : List Reference → List Task → Type 0
+  AreOnce left tasks = has_twice left ≡ false → HaveOneWriter tasks × WriteThese left tasks
 
-  one_given : (at : ℕ) (n : Node) (which : Output) (o : Option Reference) (left : List Reference) (later : List Task) → ((c : Reference) → In c (optional_cells o) → In c cells) → has_twice (optional_cells o ++ left) ≡ false → WriteThese left later
-      → HaveOneWriter later → HaveOneWriter (write_given cells slots radius at n which o ++ later) × WriteThese (optional_cells o ++ left) (write_given cells slots radius at n which o ++ later)
-  one_given at n which None left later there once these one = (one, these)
-  one_given at n which (Some c) left later there once these one = (
-    one_write at n which c left later (there c (inl refl)) once these one,
+  one_write : (at : ℕ) (n : Node) (which : Output) (c : Reference) → In c cells → (left : List Reference) (later : List Task) → AreOnce left later → AreOnce (c ∷ left) (Write (step_for cells slots radius at n which c) ∷ later)
+  one_write at n which c there left later next once = (
+    (
+      (λ s i same.
+          let o = rest.1 s i in
+          indices_differ cells o.0 c o.2 there (once_differ c left o.0 parts.0 o.1) (sym o.3 ∙ same)),
+      rest.0,
+    ),
     write_these,
   )
     where
+      parts : (list_any (same_reference c) left ≡ false) × (has_twice left ≡ false)
+      parts = or_parts (list_any (same_reference c) left) (has_twice left) once
+
+      rest : HaveOneWriter later × WriteThese left later
+      rest = next parts.1
+
       write_these : WriteThese (c ∷ left) (Write (step_for cells slots radius at n which c) ∷ later)
-      write_these s (inl e) = (c, inl refl, there c (inl refl), ap (λ (x : Step). x.output) e)
-      write_these s (inr i) = let o = these s i in (o.0, inr o.1, o.2, o.3)
-
-  keep_these : (o : List Reference) (left : List Reference) (tasks : List Task) → WriteThese left tasks → WriteThese (o ++ left) tasks
-  keep_these o left tasks these s i = let r = these s i in (r.0, In-right r.0 o left r.1, r.2, r.3)
-
-  one_by : (at tally : ℕ) (n : Node) (wanted : Kind) (left : List Reference) (later : List Task) → ((c : Reference) → wanted ≡ kind.Image → In c (outputs n) → In c cells) → has_twice (outputs n ++ left) ≡ false → WriteThese left later
-      → HaveOneWriter later → HaveOneWriter (tasks_by cells slots radius at tally n wanted ++ later) × WriteThese (outputs n ++ left) (tasks_by cells slots radius at tally n wanted ++ later)
-  one_by at tally n kind.Image left later there once these one =
-      let first : List Task = write_given cells slots radius at n First n.out1 in
-      let second : List Task = write_given cells slots radius at n Second n.out2 in
-      let parted : has_twice (optional_cells n.out1 ++ (optional_cells n.out2 ++ left)) ≡ false = ap has_twice (sym (append_assoc (optional_cells n.out1) (optional_cells n.out2) left)) ∙ once in
-      let two = one_given at n Second n.out2 left later (λ c i. there c refl (In-right c (optional_cells n.out1) (optional_cells n.out2) i)) (once_after (optional_cells n.out1) (optional_cells n.out2 ++ left) parted) these one in
-      let both = one_given at n First n.out1 (optional_cells n.out2 ++ left) (second ++ later) (λ c i. there c refl (In-left c (optional_cells n.out1) (optional_cells n.out2) i)) parted two.1 two.0 in (
-        subst HaveOneWriter (sym (append_assoc first second later)) both.0,
-        subst (WriteThese (outputs n ++ left)) (sym (append_assoc first second later))
-            (subst (λ (l : List Reference). WriteThese l (first ++ (second ++ later))) (sym (append_assoc (optional_cells n.out1) (optional_cells n.out2) left)) both.1),
-      )
-  one_by at tally n other left later there once these one = (one, keep_these (outputs n) left later these)
+      write_these s (inl e) = (c, inl refl, there, ap (λ (x : Step). x.output) e)
+      write_these s (inr i) = let o = rest.1 s i in (o.0, inr o.1, o.2, o.3)
 
   -- where no cell has two writers, neither has a plane
   pub one_writer_each : (nodes : List Node) (at tally : ℕ) → AreNamed cells nodes → has_twice (flat_map outputs nodes) ≡ false
       → HaveOneWriter (tasks_from cells slots radius at tally nodes) × WriteThese (flat_map outputs nodes) (tasks_from cells slots radius at tally nodes)
   one_writer_each [] at tally named once = (tt, λ s i. elim i [ ])
   one_writer_each (n ∷ nodes) at tally named once =
-      let rest = one_writer_each nodes (at + 1) (tally_after tally (parameters n.function).output) (λ m i. named m (inr i)) (once_after (outputs n) (flat_map outputs nodes) once) in
-      one_by at tally n (parameters n.function).output (flat_map outputs nodes) (tasks_from cells slots radius (at + 1) (tally_after tally (parameters n.function).output) nodes)
-      (λ c image i. named n (inl refl) c (image_named n c image i)) once rest.1 rest.0
+      node_keeps cells slots radius AreOnce at tally n (parameters n.function).output
+      (flat_map outputs nodes) (tasks_from cells slots radius (at + 1) (tally_after tally (parameters n.function).output) nodes)
+      (λ image which c e left later next. one_write at n which c (named n (inl refl) c (image_named n c image (in_outputs_at n which c e))) left later next)
+      (λ other next all_once. let rest = next (once_after (outputs n) (flat_map outputs nodes) all_once) in (rest.0, (λ s i. let r = rest.1 s i in (r.0, In-right r.0 (outputs n) (flat_map outputs nodes) r.1, r.2, r.3))))
+      (one_writer_each nodes (at + 1) (tally_after tally (parameters n.function).output) (λ m i. named m (inr i))) once
 
 -- ---- the cells of a graph
 

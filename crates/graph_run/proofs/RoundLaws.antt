@@ -1,5 +1,5 @@
 -- Rounds and runs of objects, as rounds and runs of what is seen at each cell.
-use Rattle.std.proofs.Common.{◌≡◌, ℕ, zero, suc, Bool, true, false, List, [], ◌∷◌, map, refl, sym, ap, ◌∙◌, inl, inr, Option, None, arith, option_map}
+use Rattle.std.proofs.Common.{◌≡◌, ℕ, zero, suc, Bool, true, false, List, [], ◌∷◌, map, refl, ap, ◌∙◌, inl, inr, Option, None, arith, option_map}
 use Rattle.graph_run.proofs.Common.{list_any, flat_map, cases_Bool, or_parts, fun_ext, Node, Reference, ObjectValue, written_from, written_by, NamedObject, object_at, with_written, In, AllIn, writes, OneWriter, rounds_of_nodes, one_by_one, WritesNo, form_held, label_of, In-from_any, any-from_In, In-from_flat_map, option_or}
 use Rattle.vx_base.specs.declared.kind.Kind.TheVariants as kind
 use Rattle.graph_verify.specs.Rounds as cells
@@ -32,33 +32,12 @@ shown-round start (n ∷ ns) object_at c = elim (cases_Bool (writes n c)) [ inl 
 
 none_last : (start : Reference → Option ObjectValue) (ns : List Node) (object_at : Reference → Option ObjectValue) (c : Reference) → list_any (λ n. writes n c) ns ≡ false → last_to c (flat_map (λ n. written_from start n object_at) ns) ≡ None
 none_last start [] object_at c h = refl
-none_last start (n ∷ ns) object_at c h =
-    let both = or_parts (writes n c) (list_any (λ m. writes m c) ns) h in
-    grind (arith, last_to-append c (written_from start n object_at) (flat_map (λ m. written_from start m object_at) ns), none_last start ns object_at c both.1, last_elsewhere start n object_at c both.0)
-
-absorbed : {X : Type 0} (o p q : Option X) → option_or o p ≡ q → option_or o q ≡ q
-absorbed x p q h = grind arith
+none_last start (n ∷ ns) object_at c h = grind (arith, or_parts (writes n c) (list_any (λ m. writes m c) ns) h, last_to-append c (written_from start n object_at) (flat_map (λ m. written_from start m object_at) ns), none_last start ns object_at c, last_elsewhere start n object_at c)
 
 last_in_round : (start : Reference → Option ObjectValue) (ns : List Node) (object_at : Reference → Option ObjectValue) (c : Reference) → OneWriter writes ns
     → option_or (last_to c (flat_map (λ n. written_from start n object_at) ns)) (object_at c) ≡ cells.round writes (given_from start) ns object_at c
 last_in_round start [] object_at c one = refl
-last_in_round start (n ∷ ns) object_at c one =
-    let later : Option ObjectValue = last_to c (flat_map (λ m. written_from start m object_at) ns) in
-    let less : OneWriter writes ns = λ x y d p q. one x y d (inr p) (inr q) in
-    let h = last_in_round start ns object_at c less in
-    ap (λ z. option_or z (object_at c)) (last_to-append c (written_from start n object_at) (flat_map (λ m. written_from start m object_at) ns))
-    ∙ or_assoc later (last_to c (written_from start n object_at)) (object_at c)
-    ∙ ap (option_or later) (last_written start n object_at c)
-    ∙ elim (cases_Bool (writes n c)) [
-      | inl w ↦ elim (cases_Bool (list_any (λ m. writes m c) ns)) [
-        | inl some ↦
-            (let m = In-from_any (λ z. writes z c) ns some in
-            let same : m.0 ≡ n = one m.0 n c (inr m.1) (inl refl) m.2 w in
-            rw w (absorbed later (object_at c) (given_from start n object_at c) (h ∙ round_written writes (given_from start) ns object_at c m.0 less m.1 m.2 ∙ ap (λ z. given_from start z object_at c) same)))
-        | inr none ↦ rw (w, none_last start ns object_at c none) refl
-      ]
-      | inr w ↦ rw w h
-    ]
+last_in_round start (n ∷ ns) object_at c one = grind (arith, last_in_round start ns object_at c, last_to-append c (written_from start n object_at) (flat_map (λ m. written_from start m object_at) ns), last_written start n object_at c, cases_Bool (list_any (λ m. writes m c) ns), In-from_any (λ z. writes z c) ns, or_assoc, cases_Bool (writes n c), round_written writes (given_from start) ns object_at c, given_from start, none_last start ns object_at c)
 
 -- objects whose forms are those of others
 abbrev SameForms : List NamedObject → List NamedObject → Type 0
@@ -78,19 +57,12 @@ WritesNo-forms nodes old new forms whole c w e = grind (arith, kind-form_seen (o
 
 seen-round : (nodes : List Node) (start objects : List NamedObject) → OneWriter writes nodes → SameForms start objects → WritesNo kind.Delay nodes objects
     → seen (round_of_nodes nodes start objects) ≡ cells.round writes (given_from (seen start)) nodes (seen objects)
-seen-round nodes start objects one forms whole = fun_ext (λ c.
-    seen-with_written (flat_map (λ n. written_from (object_at start) n (object_at objects)) nodes) objects (AreWrites-round nodes start objects forms whole) c
-    ∙ sym (map-or shown (last_to c (flat_map (λ n. written_from (object_at start) n (object_at objects)) nodes)) (object_at objects c))
-    ∙ ap (option_map shown) (last_in_round (object_at start) nodes (object_at objects) c one)
-    ∙ shown-round (object_at start) nodes (object_at objects) c)
+seen-round nodes start objects one forms whole = grind (arith, seen-with_written (flat_map (λ n. written_from (object_at start) n (object_at objects)) nodes) objects (AreWrites-round nodes start objects forms whole), AreWrites-round nodes start objects forms whole, map-or shown, shown, last_to, last_in_round (object_at start) nodes (object_at objects), shown-round (object_at start) nodes (object_at objects))
 
 seen-step : (nodes : List Node) (n : Node) (objects : List NamedObject) → WritesNo kind.Delay nodes objects → In n nodes
     → seen (with_written objects (written_by n (object_at objects))) ≡ cells.step writes given_in n (seen objects)
 seen-step nodes n objects whole i = fun_ext (λ c.
-    seen-with_written (written_by n (object_at objects)) objects (AreWrites-node nodes objects objects (λ d. refl) whole n i) c
-    ∙ sym (map-or shown (last_to c (written_by n (object_at objects))) (object_at objects c))
-    ∙ ap (option_map shown) (last_written (object_at objects) n (object_at objects) c)
-    ∙ elim (cases_Bool (writes n c)) [ inl e ↦ rw e (shown-given_from (object_at objects) n (object_at objects) c) | inr e ↦ rw e refl ])
+    grind (arith, seen-with_written (written_by n (object_at objects)) objects (AreWrites-node nodes objects objects (λ d. refl) whole n i) c, map-or shown (last_to c (written_by n (object_at objects))) (object_at objects c), last_written (object_at objects) n (object_at objects) c, cases_Bool (writes n c), shown-given_from (object_at objects) n (object_at objects) c))
 
 pub form-rounds : (nodes : List Node) (k : ℕ) (objects : List NamedObject) → WritesNo kind.Delay nodes objects → (c : Reference) → form_held (rounds_of_nodes nodes k objects) c ≡ form_held objects c
 form-rounds nodes zero objects whole c = refl

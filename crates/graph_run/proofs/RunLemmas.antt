@@ -1,6 +1,6 @@
 -- Single nodes: the objects that they read and write.
-use Rattle.std.proofs.Common.{◌≡◌, ◌≢◌, Bool, true, false, List, [], ◌∷◌, ◌++◌, Option, Some, None, refl, sym, ap, subst, ◌∙◌, arith, rules, All, ◌&&◌, is_some, is_none, unwrap_or, if◌then◌else◌, IfSome, option_to_list, option_map, option_and_then, eq-eqb}
-use Rattle.graph_run.proofs.Common.{list_any, list_all, IsStrictlyIncreasing, list_any-append, and_parts, or_parts, Function, Output, First, Second, Kind, Node, Reference, same_reference, parameters, accumulates, ImageValue, IsImage, IsNode, is_node, optional_cells, outputs, second_kind, ObjectValue, ImageObject, IsObject, object_kind, object_format, DistributionObject, node_image, second_or_output, node_output, written_in, written_by, SecondHasSize, Operands, has_twice, operand_of, operands_of, operand_format, are_of_one_size, writes_twice, reads_own_output, node_fault, NamedObject, object_at, with_object, with_written, cell_object, names_of, held_is, lasting_part, Lasts, operand_held, Holds, AreApart, RunsOn, RunsTo, with_output_object, HoldsKind, CanRunNow, node_image_is, accumulated_image_is}
+use Rattle.std.proofs.Common.{◌≡◌, ◌≢◌, Bool, true, false, List, [], ◌∷◌, ◌++◌, Option, Some, None, refl, subst, arith, rules, All, ◌&&◌, is_some, is_none, unwrap_or, if◌then◌else◌, IfSome, option_to_list, option_map, option_and_then, eq-eqb}
+use Rattle.graph_run.proofs.Common.{list_any, list_all, IsStrictlyIncreasing, list_any-append, and_parts, or_parts, Function, Output, First, Second, Kind, Node, Reference, same_reference, parameters, accumulates, ImageValue, IsImage, IsNode, is_node, optional_cells, outputs, second_kind, ObjectValue, ImageObject, IsObject, object_kind, object_format, DistributionObject, node_image, second_or_output, node_output, written_in, written_by, SecondHasSize, Operands, has_twice, operand_of, operand_format, are_of_one_size, writes_twice, reads_own_output, node_fault, NamedObject, object_at, with_object, with_written, cell_object, names_of, held_is, lasting_part, Lasts, operand_held, Holds, AreApart, RunsOn, RunsTo, with_output_object, HoldsKind, CanRunNow, node_image_is, accumulated_image_is}
 use Rattle.graph_run.specs.Steps.{output_of}
 use Rattle.std.proofs.lemmas.List.Folds.{list_all-append}
 use Rattle.vx_base.specs.declared.kind.Kind.TheVariants as kind
@@ -27,16 +27,13 @@ second_no_delay other = grind arith
 pub has_of_node : (n : Node) → is_node n ≡ true → has_operands (parameters n.function) n ≡ true
 has_of_node n shape = (and_parts (has_operands (parameters n.function) n) (all_named n) (and_parts (has_amount (parameters n.function) n.policy n.amount) (has_operands (parameters n.function) n && all_named n) shape).1).0
 
-no_image : kind.Image ≢ kind.Delay
-no_image e = cc
-
 -- ---- the objects that a node reads and writes
 
 pub same_formats : (second : Option ObjectValue) → option_and_then operand_format (option_map operand_of second) ≡ option_and_then object_format second
 same_formats x = grind arith
 
 -- an image of the size of another
-object_fits : (a : ImageValue) (object : ObjectValue) → are_of_one_size (operand_of (ImageObject a)) (operand_of object) ≡ true → SecondHasSize a (Some object)
+pub object_fits : (a : ImageValue) (object : ObjectValue) → are_of_one_size (operand_of (ImageObject a)) (operand_of object) ≡ true → SecondHasSize a (Some object)
 object_fits a other e = grind arith
 
 -- references in two lists, none of which is a second input
@@ -97,12 +94,8 @@ module _ (n : Node) where
     if_there : (cell : Option Reference) (k : Kind) → IfSome cell (λ c. HoldsKind objects (c, k)) → option_map (operand_held objects) cell ≡ option_map operand_of (option_map (cell_object objects) cell)
     if_there z0 k object_at = grind arith
 
-    there : operands_of (operand_held objects) n ≡ operands_there objects n
-    there =
-        grind (arith, operand_there objects n.in1 (holds_there objects (n.in1, kind.Image) h.in1), holds_there objects (n.in1, kind.Image) h.in1, if_there n.in2 (second_kind n) h.in2, if_there n.out1 wanted h.out1, if_there n.out2 wanted h.out2)
-
     parts : (writes_twice n ≡ false) × (reads_own_output n ≡ false) × (node_fault n.function (operands_there objects n) ≡ None)
-    parts = grind (arith, passed, there, can.verdict)
+    parts = grind (arith, passed, operand_there objects n.in1 (holds_there objects (n.in1, kind.Image) h.in1), holds_there objects (n.in1, kind.Image) h.in1, if_there n.in2 (second_kind n) h.in2, if_there n.out1 wanted h.out1, if_there n.out2 wanted h.out2, can.verdict)
 
     second_sizes : list_all (are_of_one_size (operand_of (cell_object objects n.in1))) (option_to_list (option_map operand_of (option_map (cell_object objects) n.in2))) ≡ true
     second_sizes = grind (arith, met, passed, parts, and_parts, list_all-append)
@@ -110,10 +103,8 @@ module _ (n : Node) where
     -- the second input is apart from an output
     second_apart : (second : Option Reference) (elsewhere : Kind) (cell : Reference) → elsewhere ≢ kind.Delay → IfSome second (λ c. HoldsKind objects (c, elsewhere)) → HoldsKind objects (cell, wanted)
         → list_any (λ a. list_any (same_reference a) (cell ∷ [])) (optional_cells second) ≡ false → IfSome second (Holds objects) × IfSome second (λ q. AreApart q cell)
-    second_apart None elsewhere cell no_delay a b e = (tt, tt)
-    second_apart (Some c) elsewhere cell no_delay a b e =
-        let differ = (or_parts (same_reference c cell) false (or_parts (list_any (same_reference c) (cell ∷ [])) false e).0).0 in
-        (holds_there objects (c, elsewhere) a, apart objects c cell elsewhere wanted no_delay (no_delay_written n.function) a b differ)
+    second_apart None elsewhere cell no_delay a b e = grind arith
+    second_apart (Some c) elsewhere cell no_delay a b e = grind (arith, or_parts (same_reference c cell) false (or_parts (list_any (same_reference c) (cell ∷ [])) false e).0, or_parts (list_any (same_reference c) (cell ∷ [])) false e, holds_there objects (c, elsewhere) a, apart objects c cell elsewhere wanted no_delay, no_delay_written)
 
     object_is : (cell : Reference) → Holds objects cell → IsObject (cell_object objects cell)
     object_is cell is = subst (λ (o : Option ObjectValue). IfSome o IsObject) (there_is objects cell is) (held_is objects cell are)
@@ -131,7 +122,7 @@ module _ (n : Node) where
           in1 = h.in1;
           in2 = second.0;
           out = holds_there objects (cell, wanted) holds;
-          in1_apart = apart objects n.in1 cell kind.Image wanted no_image (no_delay_written n.function) h.in1 holds differ;
+          in1_apart = apart objects n.in1 cell kind.Image wanted (λ e. cc e) (no_delay_written n.function) h.in1 holds differ;
           in2_apart = second.1;
           runs =
               runs_on can.node (cell_object objects n.in1) (option_map (cell_object objects) n.in2) (cell_object objects cell) (kind_there objects (n.in1, kind.Image) h.in1) (kind_there objects (cell, wanted) holds)
@@ -156,9 +147,7 @@ module _ (n : Node) where
     -- two outputs are apart
     outputs_apart : (one other : Option Reference) → IfSome one (λ c. HoldsKind objects (c, wanted)) → IfSome other (λ c. HoldsKind objects (c, wanted)) → has_twice (optional_cells one ++ optional_cells other) ≡ false
         → IfSome one (λ a. IfSome other (λ b. AreApart b a))
-    outputs_apart (Some a) (Some b) s t e =
-        let differ = (or_parts (same_reference a b) false (or_parts (list_any (same_reference a) (b ∷ [])) false e).0).0 in
-        apart_back a b (apart objects a b wanted wanted (no_delay_written n.function) (no_delay_written n.function) s t differ)
+    outputs_apart (Some a) (Some b) s t e = grind (arith, or_parts (same_reference a b) false (or_parts (list_any (same_reference a) (b ∷ [])) false e).0, or_parts (list_any (same_reference a) (b ∷ [])) false e, apart_back a b, apart objects a b wanted wanted, no_delay_written)
     outputs_apart x other s t e = grind arith
 
     pub two_outputs : IfSome n.out1 (λ a. IfSome n.out2 (λ b. AreApart b a))
@@ -180,9 +169,6 @@ module _ (n : Node) where
         → with_written l (written_in n which cell (object_at objects) (object_at objects)) ≡ with_output_object l n which cell
     written_one l which z2 s same = grind (arith, holds_there objects (n.in1, kind.Image) h.in1, second_held n.in2 (second_kind n) h.in2)
 
-    same_first : (cell : Option Reference) → IfSome cell (λ c. output_of objects n First c ≡ output_of objects n First c)
-    same_first x = grind arith
-
     same_second : (one other : Option Reference) → IfSome one (RunsTo objects n) → IfSome other (RunsTo objects n) → IfSome one (λ a. IfSome other (λ b. AreApart b a))
         → IfSome other (λ c. output_of (with_output_object objects n First one) n Second c ≡ output_of objects n Second c)
     same_second (Some a) (Some b) r s e = output_elsewhere objects n a b (output_of objects n First a) s r.in1_apart r.in2_apart e Second
@@ -191,7 +177,7 @@ module _ (n : Node) where
     -- the written values are those of the outputs
     pub written_is : with_written objects (written_by n (object_at objects)) ≡ with_output_object (with_output_object objects n First n.out1) n Second n.out2
     written_is =
-        grind (arith, with_written-append objects (written_in n First n.out1 (object_at objects) (object_at objects)) (written_in n Second n.out2 (object_at objects) (object_at objects)), written_one objects First n.out1 h.out1 (same_first n.out1), same_first n.out1, written_one (with_output_object objects n First n.out1) Second n.out2 h.out2 (same_second n.out1 n.out2 runs_first runs_second two_outputs), same_second n.out1 n.out2 runs_first runs_second two_outputs)
+        grind (arith, with_written-append objects (written_in n First n.out1 (object_at objects) (object_at objects)) (written_in n Second n.out2 (object_at objects) (object_at objects)), written_one objects First n.out1 h.out1 (grind arith), written_one (with_output_object objects n First n.out1) Second n.out2 h.out2 (same_second n.out1 n.out2 runs_first runs_second two_outputs), same_second n.out1 n.out2 runs_first runs_second two_outputs)
 
 -- ---- written values are objects
 
@@ -214,11 +200,8 @@ output_lasts n which (ImageObject a) second (DistributionObject d) runs = (recor
 output_lasts n which first second out runs = grind arith
 
 pub Lasts-with_output : (l : List NamedObject) (n : Node) (which : Output) (output : Option Reference) → IsStrictlyIncreasing (names_of l) → All (λ o. IsObject o.object) l → IfSome output (RunsTo l n) → Lasts l (with_output_object l n which output)
-Lasts-with_output l n which None names are runs = record { objects = are; lasting = refl }
-Lasts-with_output l n which (Some output) names are runs =
-    let made = output_lasts n which (cell_object l n.in1) (option_map (cell_object l) n.in2) (cell_object l output) runs.runs in
-    Lasts-with_object l (output, output_of l n which output)
-    (record { is_object = made.0; lasts = ap (option_map lasting_part) (there_is l output runs.out) ∙ ap Some (sym made.1) }) names are
+Lasts-with_output l n which None names are runs = grind arith
+Lasts-with_output l n which (Some output) names are runs = grind (arith, output_lasts n which (cell_object l n.in1) (option_map (cell_object l) n.in2) (cell_object l output) runs.runs, Lasts-with_object l (output, output_of l n which output), there_is l output runs.out)
 
 -- the same for all objects after a node has run
 pub Lasts-outputs : (n : Node) (l : List NamedObject) → All (λ o. IsObject o.object) l → CanRunNow l n → IsStrictlyIncreasing (names_of l) → Lasts l (with_output_object (with_output_object l n First n.out1) n Second n.out2)

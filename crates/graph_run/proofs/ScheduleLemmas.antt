@@ -1,22 +1,13 @@
 -- Schedules of verified graphs.
-use Rattle.std.proofs.Common.{◌≡◌, ℕ, ◌≤◌, Bool, List, length, map, ap, sym, subst, ◌∙◌, arith, length-append}
-use Rattle.graph_run.proofs.Common.{length-map, Node, Reference, NamedObject, Verified, VirtualOutput, IsReady, IsPlan, PlanView, operand_held, slot_index_of}
+use Rattle.std.proofs.Common.{◌≡◌, ℕ, Bool, List, length, map, ap, ◌∙◌}
+use Rattle.graph_run.proofs.Common.{Node, Reference, NamedObject, Verified, IsReady, IsPlan, PlanView, operand_held, slot_index_of}
 use Rattle.graph_verify.specs.Operand.{is_virtual}
 use Rattle.graph_steps.specs.declared.step.Step.{Step}
 use Rattle.graph_steps.specs.declared.step.Task.{Task}
 use Rattle.graph_steps.specs.Program.{AreInOrder, IsStepOf, NamesPlanes}
-use Rattle.graph_run.specs.Cells.{images_named}
 use Rattle.graph_run.specs.Tasks.{HaveTasks, graph_cells, graph_tasks, tasks_of}
-use Rattle.graph_run.proofs.IndexLemmas.{added_behind}
 use Rattle.graph_run.proofs.ReadyLemmas.{have_tasks}
 use Rattle.graph_run.proofs.WithinLemmas.{ordered, steps_within}
-
--- the virtual images are among the cells
-pub virtuals_below : (steps : List Node) (outs : List VirtualOutput) → length outs ≤ length (graph_cells steps outs)
-virtuals_below steps outs =
-    let virtual = map (λ (o : VirtualOutput). o.cell) outs in
-    let behind = added_behind virtual (images_named steps) in
-    omega (arith, ap length behind.1, length-append virtual behind.0, length-map outs (λ (o : VirtualOutput). o.cell))
 
 module _ (objects : List NamedObject) (nodes : List Node) (v : Verified) (ready : IsReady objects nodes v) (p : PlanView) (plan : IsPlan v.steps v.virtual_outputs p) where
   abbrev virtual : Reference → Bool
@@ -32,9 +23,7 @@ module _ (objects : List NamedObject) (nodes : List Node) (v : Verified) (ready 
     same_tasks = tasks_are ∙ ap (λ (c : List Reference). tasks_of c slots radius v.steps) cells_are ∙ ap (λ (s : List ℕ). tasks_of (graph_cells v.steps v.virtual_outputs) s radius v.steps) slots_are
 
     pub in_order : AreInOrder tasks
-    in_order = subst AreInOrder (sym same_tasks) (ordered v.steps v.virtual_outputs p virtual have radius)
+    in_order = rw same_tasks (ordered v.steps v.virtual_outputs p virtual have radius)
 
     pub within : (s : Step) → IsStepOf s tasks → NamesPlanes (length cells) s
-    within s i =
-        subst (λ (n : ℕ). NamesPlanes n s) (ap length (sym cells_are))
-        (steps_within v.steps v.virtual_outputs p virtual have radius s (subst (IsStepOf s) same_tasks i))
+    within s i = rw cells_are (steps_within v.steps v.virtual_outputs p virtual have radius s (rw same_tasks at i))

@@ -1,20 +1,16 @@
 -- A schedule stays one while the cells that its nodes name hold objects of the same skeletons.
-use Rattle.std.proofs.Common.{◌≡◌, ◌≤◌, ◌+◌, ℕ, true, false, List, [], ◌∷◌, ◌++◌, map, Option, Some, None, inl, inr, refl, sym, ap, subst, ◌∙◌, arith, option_map, option_and_then, unwrap_or}
-use Rattle.graph_run.proofs.Common.{Node, Kind, Reference, Output, parameters, ObjectValue, ImageObject, new_image, U8, NamedObject, object_at, skeleton, image_value, image_held, names_cell, In, In-right, In-from_flat_map, or_left, has_twice, writes, Verified, VirtualOutput, IsPlan, PlanView, slot_index_of}
+use Rattle.std.proofs.Common.{◌≡◌, ◌≤◌, ◌+◌, ℕ, true, List, [], ◌∷◌, map, Option, Some, None, inl, inr, refl, sym, ap, subst, ◌∙◌, arith, option_map, option_and_then, unwrap_or}
+use Rattle.graph_run.proofs.Common.{Node, Kind, Reference, parameters, ObjectValue, ImageObject, new_image, U8, NamedObject, object_at, skeleton, image_value, image_held, names_cell, In, or_left, writes, Verified, IsPlan, PlanView, slot_index_of}
 use Rattle.vx_base.specs.declared.kind.Kind.TheVariants as kind
 use Rattle.node_rows.specs.Radius.{matrix_in}
 use Rattle.graph_verify.specs.Links.{reads}
-use Rattle.graph_verify.proofs.LinkLemmas.{once_across}
-use Rattle.graph_steps.specs.declared.step.Task.{Task}
 use Rattle.graph_steps.specs.Steps.{step_radius}
 use Rattle.graph_run.specs.declared.schedule.Schedule.{Schedule}
-use Rattle.graph_run.specs.Cells.{images_named, node_images}
 use Rattle.graph_run.specs.Program.{client_cells, radius_of}
 use Rattle.graph_run.specs.Schedule.{IsSchedule}
-use Rattle.graph_run.specs.Tasks.{graph_cells, tally_after, tasks_by, tasks_from, write_given}
-use Rattle.graph_run.proofs.IndexLemmas.{cells_parts, in_either, once_all}
+use Rattle.graph_run.specs.Tasks.{graph_cells, tally_after, tasks_by, tasks_from}
 use Rattle.graph_run.proofs.LinkLaws.{All-from_In, In-from_All, reads_second}
-use Rattle.graph_run.proofs.ReadyLemmas.{image_operand}
+use Rattle.graph_run.proofs.ReadyLemmas.{client_by, image_operand}
 use Rattle.graph_run.proofs.VerifiedLemmas.{operand_named}
 
 -- ---- what the skeleton tells
@@ -39,35 +35,20 @@ told_alike tells told one other same = sym (told one) ∙ ap tells same ∙ told
 -- ---- tasks with the same radii
 
 module _ (cells : List Reference) (slots : List ℕ) (one two : Node → ℕ) where
-  write_alike : (at : ℕ) (n : Node) (which : Output) (output : Option Reference) → one n ≡ two n → write_given cells slots one at n which output ≡ write_given cells slots two at n which output
-  write_alike at n which None same = refl
-  write_alike at n which (Some c) same = rw same refl
-
   by_alike : (at tally : ℕ) (n : Node) (k : Kind) → one n ≡ two n → tasks_by cells slots one at tally n k ≡ tasks_by cells slots two at tally n k
-  by_alike at tally n kind.Image same = rw (write_alike at n _ n.out1 same, write_alike at n _ n.out2 same) refl
-  by_alike at tally n other same = refl
+  by_alike at tally n k same = grind (arith, same)
 
   tasks_alike : (nodes : List Node) (at tally : ℕ) → ((n : Node) → In n nodes → one n ≡ two n) → tasks_from cells slots one at tally nodes ≡ tasks_from cells slots two at tally nodes
   tasks_alike [] at tally same = refl
   tasks_alike (n ∷ nodes) at tally same =
       let k = (parameters n.function).output in
-      ap (λ (l : List Task). l ++ tasks_from cells slots one (at + 1) (tally_after tally k) nodes) (by_alike at tally n k (same n (inl refl)))
-      ∙ ap (λ (l : List Task). tasks_by cells slots two at tally n k ++ l) (tasks_alike nodes (at + 1) (tally_after tally k) (λ m i. same m (inr i)))
+      rw (by_alike at tally n k (same n (inl refl)), tasks_alike nodes (at + 1) (tally_after tally k) (λ m i. same m (inr i))) refl
 
 -- ---- schedules
 
 module _ (before after : List NamedObject) (v : Verified) (p : PlanView) (plan : IsPlan v.steps v.virtual_outputs p)
     (same : (n : Node) (c : Reference) → In n v.steps → names_cell n c ≡ true → option_map skeleton (object_at after c) ≡ option_map skeleton (object_at before c)) where
-  abbrev steps : List Node
-  steps = v.steps
-
-  abbrev outs : List VirtualOutput
-  outs = v.virtual_outputs
-
-  abbrev virtual_ones : List Reference
-  virtual_ones = map (λ (o : VirtualOutput). o.cell) outs
-
-  radius_stays : (high : ℕ) (n : Node) → In n steps → radius_of before high n ≡ radius_of after high n
+  radius_stays : (high : ℕ) (n : Node) → In n v.steps → radius_of before high n ≡ radius_of after high n
   radius_stays high n i = ap (λ m. unwrap_or (step_radius n.function m) high) (of_second n.in2 refl)
     where
       of_second : (cell : Option Reference) → n.in2 ≡ cell → matrix_in (option_and_then (object_at before) cell) ≡ matrix_in (option_and_then (object_at after) cell)
@@ -75,27 +56,18 @@ module _ (before after : List NamedObject) (v : Verified) (p : PlanView) (plan :
       of_second (Some c) e =
           told_alike matrix_in matrix_told (object_at before c) (object_at after c) (sym (same n c i (or_left (reads n c) (writes n c) (reads_second n c e))))
 
-  -- a client's image is one that a node names
-  client_named : (c : Reference) → In c (client_cells steps outs) → (n : Node) × In n steps × (names_cell n c ≡ true)
-  client_named c i = elim (in_either virtual_ones (images_named steps) c (subst (In c) (sym (cells_parts steps outs)) (In-right c virtual_ones (client_cells steps outs) i))) [
-    | inl virtual ↦
-        (let once : has_twice (virtual_ones ++ client_cells steps outs) ≡ false = ap has_twice (sym (cells_parts steps outs)) ∙ once_all virtual_ones (images_named steps) plan.once in
-        absurd (once_across c virtual_ones (client_cells steps outs) once virtual i))
-    | inr named ↦ (let n = In-from_flat_map node_images c steps named in (n.0, n.1, operand_named n.0 (c, kind.Image) (image_operand n.0 c n.2)))
-  ]
-
-  height_stays : (c : Reference) → In c (client_cells steps outs) → (image_held before c).height ≡ (image_held after c).height
+  height_stays : (c : Reference) → In c (client_cells v.steps v.virtual_outputs) → (image_held before c).height ≡ (image_held after c).height
   unfolding height_of
   height_stays c i =
-      let n = client_named c i in
-      told_alike height_of height_told (object_at before c) (object_at after c) (sym (same n.0 c n.1 n.2))
+      let n = client_by v.steps v.virtual_outputs plan.once c i in
+      told_alike height_of height_told (object_at before c) (object_at after c) (sym (same n.0 c n.1 (operand_named n.0 (c, kind.Image) (image_operand n.0 c n.2))))
 
   pub schedule_stays : (s : Schedule) → IsSchedule before v p s → IsSchedule after v p s
   schedule_stays s h =
       record {
         cells = h.cells;
         slots = h.slots;
-        tasks = h.tasks ∙ tasks_alike (graph_cells steps outs) (map (slot_index_of p) outs) (radius_of before s.high) (radius_of after s.high) steps 0 0 (radius_stays s.high);
+        tasks = h.tasks ∙ tasks_alike (graph_cells v.steps v.virtual_outputs) (map (slot_index_of p) v.virtual_outputs) (radius_of before s.high) (radius_of after s.high) v.steps 0 0 (radius_stays s.high);
         halo_count = h.halo_count;
         enough = h.enough;
         some = h.some;
@@ -104,7 +76,7 @@ module _ (before after : List NamedObject) (v : Verified) (p : PlanView) (plan :
         once = h.once;
         virtuals = h.virtuals;
         clients =
-            All-from_In (λ (c : Reference). (image_held after c).height ≤ s.high) (client_cells steps outs)
-            (λ c i. subst (λ (rows : ℕ). rows ≤ s.high) (height_stays c i) (In-from_All (λ (d : Reference). (image_held before d).height ≤ s.high) (client_cells steps outs) h.clients c i));
+            All-from_In (λ (c : Reference). (image_held after c).height ≤ s.high) (client_cells v.steps v.virtual_outputs)
+            (λ c i. subst (λ (rows : ℕ). rows ≤ s.high) (height_stays c i) (In-from_All (λ (d : Reference). (image_held before d).height ≤ s.high) (client_cells v.steps v.virtual_outputs) h.clients c i));
         tally_cells = h.tally_cells;
       }

@@ -1,5 +1,5 @@
 -- Heights and formats of the planes of a graph.
-use Rattle.std.proofs.Common.{◌≡◌, ℕ, ◌<◌, ◌≤◌, List, ◌++◌, length, map, get_or, All, length-append, sym, ap, subst, ◌∙◌, arith}
+use Rattle.std.proofs.Common.{◌≡◌, ℕ, ◌<◌, ◌≤◌, List, ◌++◌, length, map, get_or, All, length-append, sym, ap, ◌∙◌, arith}
 use Rattle.std.proofs.lemmas.List.{length-map}
 use Rattle.std.proofs.lemmas.List.Elements.{All-append, All-map}
 use Rattle.std.proofs.lemmas.List.FromFn.{get_or-map-range_with_len}
@@ -8,7 +8,7 @@ use Rattle.graph_run.proofs.Common.{All-from_map, Format, U8, Reference, Node, D
 use Rattle.graph_steps.specs.Planes.{PlaneValue, no_plane, plane}
 use Rattle.graph_steps.specs.Steps.{capacities}
 use Rattle.graph_run.specs.Bind.{image_plane, image_planes}
-use Rattle.graph_run.specs.Program.{client_cells, first_blocks, planes_of}
+use Rattle.graph_run.specs.Program.{first_blocks, planes_of}
 use Rattle.graph_run.specs.Tasks.{block_at, graph_cells}
 use Rattle.graph_run.proofs.IndexLemmas.{cells_parts}
 
@@ -18,28 +18,12 @@ virtual_count virtuals outs descs = sym (length-map virtuals (λ (q : PlaneValue
 
 pub plane_count : (objects : List NamedObject) (steps : List Node) (outs : List VirtualOutput) (virtuals : List PlaneValue) → map (λ (q : PlaneValue). q.desc) virtuals ≡ map (λ (o : VirtualOutput). o.desc) outs
     → length (planes_of objects steps outs virtuals) ≡ length (graph_cells steps outs)
-plane_count objects steps outs virtuals descs =
-    let clients : List Reference = client_cells steps outs in
-    let virtual : List Reference = map (λ (o : VirtualOutput). o.cell) outs in
-    omega (
-      arith,
-      length-append virtuals (image_planes objects clients),
-      length-map clients (λ (c : Reference). image_plane (image_held objects c)),
-      ap length (cells_parts steps outs),
-      length-append virtual clients,
-      length-map outs (λ (o : VirtualOutput). o.cell),
-      virtual_count virtuals outs descs,
-    )
+plane_count objects steps outs virtuals descs = grind (arith, length-append, length-map, cells_parts, virtual_count)
 
 -- the planes of images are no higher than these
 pub all_low : (objects : List NamedObject) (high : ℕ) (cells : List Reference) (virtuals : List PlaneValue) (outs : List VirtualOutput) → map (λ (q : PlaneValue). q.desc) virtuals ≡ map (λ (o : VirtualOutput). o.desc) outs
     → All (λ (o : VirtualOutput). o.desc.height ≤ high) outs → All (λ c. (image_held objects c).height ≤ high) cells → All (λ (q : PlaneValue). q.desc.height ≤ high) (virtuals ++ image_planes objects cells)
-all_low objects high cells virtuals outs descs low_outs low_cells =
-    let low_descs : All (λ (d : Description). d.height ≤ high) (map (λ (o : VirtualOutput). o.desc) outs) = All-map (λ (d : Description). d.height ≤ high) (λ (o : VirtualOutput). o.desc) outs low_outs in
-    let low_virtuals : All (λ (q : PlaneValue). q.desc.height ≤ high) virtuals =
-    All-from_map (λ (d : Description). d.height ≤ high) (λ (q : PlaneValue). q.desc) virtuals (subst (All (λ (d : Description). d.height ≤ high)) (sym descs) low_descs) in
-    All-append (λ (q : PlaneValue). q.desc.height ≤ high) virtuals (image_planes objects cells) low_virtuals
-    (All-map (λ (q : PlaneValue). q.desc.height ≤ high) (λ (c : Reference). image_plane (image_held objects c)) cells low_cells)
+all_low objects high cells virtuals outs descs low_outs low_cells = grind (arith, All-map (λ (d : Description). d.height ≤ high) (λ (o : VirtualOutput). o.desc) outs low_outs, All-from_map (λ (d : Description). d.height ≤ high) (λ (q : PlaneValue). q.desc) virtuals, All-append (λ (q : PlaneValue). q.desc.height ≤ high) virtuals (image_planes objects cells), All-map (λ (q : PlaneValue). q.desc.height ≤ high) (λ (c : Reference). image_plane (image_held objects c)) cells low_cells)
 
 -- the format of a virtual plane is that of its slot
 pub virtual_format : (virtuals rest : List PlaneValue) (slots : List ℕ) (slot_capacity : ℕ → Format × ℕ) (k : ℕ) → capacities virtuals ≡ first_blocks slots slot_capacity → length virtuals ≡ length slots → k < length slots

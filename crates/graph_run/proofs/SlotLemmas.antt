@@ -1,10 +1,8 @@
 -- Slots of a plan: their indices and sizes.
-use Rattle.std.proofs.Common.{◌≡◌, ℕ, ◌+◌, ◌<◌, ◌≤◌, List, [], ◌∷◌, ◌++◌, map, length, suc, Option, Some, None, inl, inr, refl, sym, ap, subst, ◌∙◌, arith, IfSome, slice_get, is_some, unwrap_or, eq-eqb, length-append}
-use Rattle.graph_run.proofs.Common.{range_with_len, list_any, nat_tests, length-map-range_with_len, slice_get-get_or, Format, Reference, same_reference, sample_count, same_format, VirtualOutput, Node, In, any-from_In, In-filter, In-map, IsPlan, PlanView, slot_index, slot_index_of, planned_capacities}
-use Rattle.std.specs.List.{filter}
-use Rattle.buffer_plan.specs.Slots.{of_format}
+use Rattle.std.proofs.Common.{◌≡◌, ℕ, ◌+◌, ◌<◌, ◌≤◌, List, [], ◌∷◌, ◌++◌, map, length, suc, Some, inl, inr, refl, ap, ◌∙◌, arith, IfSome, slice_get, is_some, unwrap_or, eq-eqb, length-append}
+use Rattle.graph_run.proofs.Common.{range_with_len, list_any, nat_tests, length-map-range_with_len, slice_get-get_or, Format, Reference, same_reference, sample_count, VirtualOutput, Node, In, any-from_In, In-filter, In-map, IsPlan, PlanView, slot_index, slot_index_of, planned_capacities}
 use Rattle.std.proofs.lemmas.List.FromFn.{get_or-map-range_with_len}
-use Rattle.buffer_plan.specs.Slots.{is_slot, maximum_of, IsValid}
+use Rattle.buffer_plan.specs.Slots.{maximum_of, IsValid}
 use Rattle.buffer_plan.proofs.PlanLemmas.{same_format-refl}
 use Rattle.graph_run.specs.Slots.{capacities_for}
 
@@ -39,10 +37,6 @@ module _ (p : PlanView) where
       → slice_get (planned_capacities p) (slot_index p format k) ≡ Some (format, p.slot_samples format k)
   planned_at z0 k below = grind (arith, get_left, long, length-append, made_at, get_right)
 
-  -- an index belongs to one slot
-  one_slot : (f g : Format) (j k : ℕ) → j < p.slot_count f → k < p.slot_count g → slot_index p f j ≡ slot_index p g k → (f ≡ g) × (j ≡ k)
-  one_slot f g j k a b same = grind arith
-
 -- ---- the slots of virtual images
 
 below_greatest : (n : ℕ) (ns : List ℕ) → In n ns → n ≤ maximum_of ns
@@ -66,20 +60,7 @@ pub record HasSlots (steps : List Node) (outs : List VirtualOutput) (p : PlanVie
 
 -- a plan's slots hold the greatest of their images
 pub planned_slots : (steps : List Node) (outs : List VirtualOutput) (p : PlanView) → IsPlan steps outs p → HasSlots steps outs p
-planned_slots steps outs p plan = record { given = plan.given; valid = plan.valid; below = plan.below; room = λ o i. with_room o i (p.slot_of o.cell) refl }
-  where
-    with_room : (o : VirtualOutput) → In o outs → (slot : Option ℕ) → p.slot_of o.cell ≡ slot → IfSome slot (λ k. sample_count o.desc ≤ p.slot_samples o.desc.format k)
-    with_room o i None e = tt
-    with_room o i (Some k) e =
-        let format = o.desc.format in
-        let sharers = filter (λ (q : VirtualOutput). is_slot k (p.slot_of q.cell)) (of_format format outs) in
-        let shares : In o sharers =
-        In-filter (λ (q : VirtualOutput). is_slot k (p.slot_of q.cell)) o (of_format format outs)
-        (In-filter (λ (q : VirtualOutput). same_format q.desc.format format) o outs i (same_format-refl format))
-        (ap (is_slot k) e ∙ eq-eqb k k refl) in
-        subst (λ n. sample_count o.desc ≤ n) (sym (plan.samples format k))
-        (below_greatest (sample_count o.desc) (map (λ (q : VirtualOutput). sample_count q.desc) sharers)
-        (In-map (λ (q : VirtualOutput). sample_count q.desc) o sharers shares))
+planned_slots steps outs p plan = grind (arith, In-filter, same_format-refl, eq-eqb, below_greatest, In-map)
 
 module _ (steps : List Node) (outs : List VirtualOutput) (p : PlanView) (plan : HasSlots steps outs p) where
   pub has_slot : (o : VirtualOutput) → In o outs → HasSlot p o
@@ -90,4 +71,4 @@ module _ (steps : List Node) (outs : List VirtualOutput) (p : PlanView) (plan : 
 
   -- images at the same index share a slot
   pub one_home : (a b : VirtualOutput) → In a outs → In b outs → slot_index_of p a ≡ slot_index_of p b → (a.desc.format ≡ b.desc.format) × (p.slot_of a.cell ≡ p.slot_of b.cell)
-  one_home a b i j same = grind (arith, has_slot, one_slot, home_at)
+  one_home a b i j same = grind (arith, has_slot, home_at)

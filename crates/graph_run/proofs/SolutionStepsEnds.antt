@@ -1,5 +1,5 @@
 -- The objects of a graph that is ready to run, at the start of a run and at its end.
-use Rattle.std.proofs.Common.{◌≡◌, ℕ, Bool, true, false, List, [], ◌∷◌, ◌++◌, map, refl, sym, ap, subst, ◌∙◌, inl, arith, All, Option, Some, None, option_map, option_and_then, if◌then◌else◌}
+use Rattle.std.proofs.Common.{◌≡◌, ℕ, Bool, true, false, List, [], ◌∷◌, ◌++◌, map, refl, sym, ap, subst, ◌∙◌, inl, arith, All, Option, Some, option_map, option_and_then, if◌then◌else◌}
 use Rattle.graph_run.proofs.Common.{AllIn, AllIn-permutation, AllIn-permutation_back, CanRun, CanRunNow, Reference, CellsStand, Description, HoldsKind, Image, In, In-from_map, In-left, In-right, IsDescription, IsNode, IsObject, IsStrictlyIncreasing, Kind, Lasts, NamedObject, Node, ObjectValue, Operand, Solves, Verified, VirtualImage, VirtualObject, VirtualOutput, WritesNo, named_at_start, object_at_start, reference_to, object_at, held_by_name, in_slot, is_virtual, is_virtual_object, is_written, label_of, map-told, names_cell, names_of, object_held, one_by_one, operand_held, operand_of, operands, resolved_operand, with_written, written_by}
 use Rattle.vx_base.specs.declared.kind.Kind.TheVariants as kind
 use Rattle.vx_base.proofs.ImageLaws.{new_image_is}
@@ -58,12 +58,6 @@ module _ {objects : List NamedObject} {v : Verified} {s : Schedule} (g : CanRunB
   abbrev pub known : Reference → Operand
   known = resolved_operand is g.nodes
 
-  abbrev pub outs : List VirtualOutput
-  outs = v.virtual_outputs
-
-  abbrev pub steps : List Node
-  steps = v.steps
-
   abbrev pub first : List NamedObject
   first = first_objects objects g.nodes
 
@@ -76,13 +70,13 @@ module _ {objects : List NamedObject} {v : Verified} {s : Schedule} (g : CanRunB
   pub graph_can : CanRun work is g.nodes
   graph_can = can_run work is g.nodes g.ready.runs.1
 
-  pub in_nodes : (n : Node) → In n steps → In n g.nodes
-  in_nodes n i = AllIn-permutation_back g.nodes steps g.ready.verified.order.same_nodes n i
+  pub in_nodes : (n : Node) → In n v.steps → In n g.nodes
+  in_nodes n i = AllIn-permutation_back g.nodes v.steps g.ready.verified.order.same_nodes n i
 
-  pub in_steps : (n : Node) → In n g.nodes → In n steps
-  in_steps n i = AllIn-permutation g.nodes steps g.ready.verified.order.same_nodes n i
+  pub in_steps : (n : Node) → In n g.nodes → In n v.steps
+  in_steps n i = AllIn-permutation g.nodes v.steps g.ready.verified.order.same_nodes n i
 
-  pub is_node_of : (n : Node) → In n steps → IsNode n
+  pub is_node_of : (n : Node) → In n v.steps → IsNode n
   is_node_of n i = In-from_All IsNode g.nodes g.ready.are_nodes n (in_nodes n i)
 
   first_labels : map label_of first ≡ map label_of objects
@@ -104,10 +98,9 @@ module _ {objects : List NamedObject} {v : Verified} {s : Schedule} (g : CanRunB
   first_real c real = ap (option_and_then (in_slot c.slot)) (object_held-begun known g.nodes objects c.name ∙ each (object_held objects c.name) real)
     where
       each : (o : Option ObjectValue) → ((x : ObjectValue) → o ≡ Some x → is_virtual_object x ≡ false) → option_map (begun_under known g.nodes c.name) o ≡ o
-      each None plain = refl
-      each (Some x) plain = ap (λ (y : ObjectValue). Some y) (begun_stays x (is_written g.nodes (reference_to c.name)) (known (reference_to c.name)) (plain x refl))
+      each o plain = grind (arith, plain, begun_stays)
 
-  pub named_real : (n : Node) → In n steps → (c : Reference) → names_cell n c ≡ true → is_virtual (is c) ≡ false → (x : ObjectValue) → object_held objects c.name ≡ Some x → is_virtual_object x ≡ false
+  pub named_real : (n : Node) → In n v.steps → (c : Reference) → names_cell n c ≡ true → is_virtual (is c) ≡ false → (x : ObjectValue) → object_held objects c.name ≡ Some x → is_virtual_object x ≡ false
   named_real n i c named real x there =
       real_as_operand c.slot x (is c) (sym (ap (λ (o : Option ObjectValue). option_map operand_of (option_and_then (in_slot c.slot) o)) there) ∙ g.ready.cells.found n c (in_nodes n i) named) real
 
@@ -120,8 +113,8 @@ module _ {objects : List NamedObject} {v : Verified} {s : Schedule} (g : CanRunB
   names_by_labels : (l : List NamedObject) → map label_of l ≡ map label_of objects → IsStrictlyIncreasing (names_of l)
   names_by_labels l labels = subst IsStrictlyIncreasing (sym (map-told label_of (λ (o : NamedObject). o.name) (λ label. label.0) (λ _. refl) l objects labels)) g.names
 
-  in_order : last ≡ one_by_one steps first
-  in_order = order_gives_rounds g.nodes steps first g.ready.verified.order graph_can.one_writer (pairs_of first (names_by_labels first first_labels)) writes_no_delay
+  in_order : last ≡ one_by_one v.steps first
+  in_order = order_gives_rounds g.nodes v.steps first g.ready.verified.order graph_can.one_writer (pairs_of first (names_by_labels first first_labels)) writes_no_delay
 
   -- whichever nodes have run, each can run
   can_at : (before : List Node) → AllIn before g.nodes → (n : Node) → In n g.nodes → CanRunNow (one_by_one before first) n
@@ -135,11 +128,11 @@ module _ {objects : List NamedObject} {v : Verified} {s : Schedule} (g : CanRunB
   first_stands = at_its_turn work is g.nodes g.ready.runs.1 objects g.ready.cells [] (λ m i. absurd i)
 
   -- each cell that a node names holds an object of the kind that its function has there
-  pub first_kinds : (n : Node) → In n steps → (operand : Reference × Kind) → In operand (operands n) → HoldsKind first operand
+  pub first_kinds : (n : Node) → In n v.steps → (operand : Reference × Kind) → In operand (operands n) → HoldsKind first operand
   first_kinds n i = In-from_All (HoldsKind first) (operands n) (can_at [] (λ m j. absurd j) n (in_nodes n i)).kinds
 
-  pub last_kinds : (n : Node) → In n steps → (operand : Reference × Kind) → In operand (operands n) → HoldsKind last operand
-  last_kinds n i = In-from_All (HoldsKind last) (operands n) (subst (λ (l : List NamedObject). CanRunNow l n) (sym in_order) (can_at steps in_nodes n (in_nodes n i))).kinds
+  pub last_kinds : (n : Node) → In n v.steps → (operand : Reference × Kind) → In operand (operands n) → HoldsKind last operand
+  last_kinds n i = In-from_All (HoldsKind last) (operands n) (subst (λ (l : List NamedObject). CanRunNow l n) (sym in_order) (can_at v.steps in_nodes n (in_nodes n i))).kinds
 
   begun_is : (o : NamedObject) → In o objects → IsObject (named_at_start known g.nodes o).object
   begun_is o i =
@@ -149,7 +142,7 @@ module _ {objects : List NamedObject} {v : Verified} {s : Schedule} (g : CanRunB
       let output = in_outputs is g.nodes v g.ready.verified (reference_to o.name) w (ap is_virtual (own_operand objects o.name o.object there ∙ ap operand_of same)) in
       let known_so : Image d ≡ Image output.0.desc = sym found ∙ ap known output.2 ∙ output_known is g.nodes v g.ready.verified output.0 output.1 in
       let desc : output.0.desc ≡ d = cc in
-      subst IsDescription desc (In-from_All (λ (p : VirtualOutput). IsDescription p.desc) outs g.described output.0 output.1))
+      subst IsDescription desc (In-from_All (λ (p : VirtualOutput). IsDescription p.desc) v.virtual_outputs g.described output.0 output.1))
 
   first_are : All (λ o. IsObject o.object) first
   first_are = All-from_In (λ (o : NamedObject). IsObject o.object) first (λ p i.
@@ -160,7 +153,7 @@ module _ {objects : List NamedObject} {v : Verified} {s : Schedule} (g : CanRunB
   pub last_lasts : Lasts first last
   last_lasts =
       subst (Lasts first) (sym in_order)
-      (lasts_through steps first first_are (names_by_labels first first_labels)
+      (lasts_through v.steps first first_are (names_by_labels first first_labels)
       (λ before after n parts.
       can_at before (λ m i. in_nodes m (subst (λ l. In m l) (sym parts) (In-left m before (n ∷ after) i))) n
       (in_nodes n (subst (λ l. In n l) (sym parts) (In-right n before (n ∷ after) (inl refl))))))

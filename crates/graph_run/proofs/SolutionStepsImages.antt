@@ -1,11 +1,10 @@
 -- The images after a run of a graph are a solution of its steps.
-use Rattle.std.proofs.Common.{◌≡◌, ◌≢◌, ℕ, ◌+◌, ◌<◌, ◌≤◌, Bool, true, false, List, [], map, length, drop, get_or, refl, sym, ap, subst, ◌∙◌, inl, inr, arith, All, Option, Some, None, ◌⊎◌, IfSome, nat_lt, if◌then◌else◌, unwrap_or, option_map, option_and_then}
+use Rattle.std.proofs.Common.{◌≡◌, ◌≢◌, ℕ, ◌+◌, ◌<◌, Bool, true, false, List, [], map, length, drop, get_or, refl, sym, ap, subst, ◌∙◌, inl, inr, arith, All, Option, Some, None, ◌⊎◌, IfSome, unwrap_or, option_map, option_and_then}
 use Rattle.std.specs.List.{slice_get}
-use Rattle.std.proofs.lemmas.List.{get_or-append-add, get_or_append_left, get_or-map, length-map}
+use Rattle.std.proofs.lemmas.List.{get_or-append-add, get_or-map, length-map}
 use Rattle.std.proofs.lemmas.Option.{get_or_from_slice_get, slice_get_within}
-use Rattle.graph_run.proofs.Common.{accumulates, second_or_output, cases_lt, Reference, reference_to, Description, false_from_ne_true, flat_map, Function, optional_cells, object_at, held_is, HoldsImage, HoldsKind, image_held, Image, ImageObject, ImageValue, In, In-append, In-at, In-filter, In-from_any, In-from_filter, In-from_flat_map, In-from_map, In-from_same, In-left, In-right, IsImage, IsObject, is_virtual, is_virtual_object, is_written, Kind, NamedObject, names_cell, Node, node_image, node_output, object_held, object_kind, ObjectValue, operands, Output, First, Second, outputs, parameters, slot_index_of, Samples, second_kind, in_slot, has_twice, image_value, new_image, U8, description_of, Operand, operand_of, kind_in, Verified, VirtualOutput, written_from, written_in, writes}
+use Rattle.graph_run.proofs.Common.{accumulates, second_or_output, cases_lt, Reference, reference_to, Description, false_from_ne_true, flat_map, Function, object_at, held_is, HoldsImage, HoldsKind, image_held, Image, ImageObject, ImageValue, In, In-append, In-at, In-filter, In-from_any, In-from_filter, In-from_flat_map, In-from_same, In-left, In-right, IsImage, IsObject, is_virtual, is_virtual_object, is_written, Kind, NamedObject, names_cell, Node, node_image, node_output, object_held, object_kind, ObjectValue, operands, Output, First, Second, outputs, parameters, slot_index_of, Samples, second_kind, has_twice, description_of, Operand, operand_of, Verified, VirtualOutput, written_from, written_in, writes}
 use Rattle.vx_base.specs.declared.kind.Kind.TheVariants as kind
-use Rattle.vx_base.specs.Node.{with_kind}
 use Rattle.graph_steps.specs.declared.step.Step.{Step}
 use Rattle.graph_steps.specs.declared.step.Task.{Task}
 use Rattle.graph_steps.specs.Planes.{PlaneValue, block_image, block_images, no_plane, plane}
@@ -13,32 +12,24 @@ use Rattle.graph_steps.specs.Program.{IsStepOf, IsUnwritten, SolvesSteps}
 use Rattle.graph_steps.specs.Steps.{second_in, step_image}
 use Rattle.graph_run.specs.declared.schedule.Schedule.{Schedule}
 use Rattle.graph_run.specs.Bind.{image_plane, image_planes}
-use Rattle.graph_run.specs.Cells.{image_given, images_named, index_of, node_images}
+use Rattle.graph_run.specs.Cells.{images_named, index_of, node_images}
 use Rattle.graph_run.specs.Program.{planes_of, radius_of, table_by, tables_of}
 use Rattle.graph_run.specs.Results.{images_in}
 use Rattle.graph_run.specs.Schedule.{ArePlanes, CanRunBy}
 use Rattle.graph_run.specs.Tasks.{HaveTasks, graph_cells, graph_tasks, source, step_for}
 use Rattle.graph_run.proofs.CellLemmas.{held_image}
-use Rattle.graph_run.proofs.IndexLemmas.{index_behind, at_index, cells_parts, in_either, index_at, index_below, index_left, once_all}
-use Rattle.graph_verify.proofs.LinkLemmas.{once_across}
+use Rattle.graph_run.proofs.IndexLemmas.{index_behind, at_index, cells_parts, in_either, index_at, index_below, once_all}
 use Rattle.graph_run.proofs.LinkLaws.{In-from_All}
 use Rattle.graph_run.proofs.OperandLaws.{virtual_written}
-use Rattle.graph_run.proofs.ProgramLemmas.{IsStepFor, all_named, image_named, in_outputs_at, out_at, step_node}
-use Rattle.graph_run.proofs.ProgramPlanes.{table_at}
+use Rattle.graph_run.proofs.ProgramLemmas.{IsStepFor, all_named, image_named, step_node}
+use Rattle.graph_run.proofs.TaskLemmas.{in_outputs_at, out_at}
+use Rattle.graph_run.proofs.ProgramPlanes.{plane_known, table_at}
 use Rattle.graph_run.proofs.SizeSteps.{plane_count, virtual_count}
-use Rattle.graph_run.proofs.ReadyLemmas.{clients_hold, have_tasks, image_operand, in_with_kind}
+use Rattle.graph_run.proofs.ReadyLemmas.{client_outside as outside, second_operand, clients_hold, have_tasks, image_operand, in_with_kind}
 use Rattle.graph_run.proofs.RunLemmas.{second_no_delay}
-use Rattle.graph_run.proofs.SolutionStepsEnds.{first, first_kinds, first_real, first_stands, graph_can, in_nodes, in_steps, is, known, last, last_kinds, last_lasts, named_real, outs, solves, steps}
-use Rattle.graph_run.proofs.SolutionStepsTasks.{image_or, outputs_at, step_there}
-use Rattle.graph_run.proofs.VerifiedLemmas.{named_by_output, operand_named, output_known}
-
--- ---- indices
-
-picked : {X : Type 0} (k n : ℕ) (a b : X) → k < n → (if nat_lt k n then a else b) ≡ a
-picked k n a b below = grind arith
-
-passed_over : {X : Type 0} (k n : ℕ) (a b : X) → n ≤ k → (if nat_lt k n then a else b) ≡ b
-passed_over k n a b above = grind arith
+use Rattle.graph_run.proofs.SolutionStepsEnds.{first, first_kinds, first_real, first_stands, graph_can, in_nodes, in_steps, is, last, last_kinds, last_lasts, named_real, solves}
+use Rattle.graph_run.proofs.SolutionStepsTasks.{image_or, step_there}
+use Rattle.graph_run.proofs.VerifiedLemmas.{named_by_output, operand_named}
 
 -- ---- kinds
 
@@ -57,27 +48,14 @@ second_kinds f other = grind arith
 
 -- an output of a node is one of its operands, and so is its second input
 pub output_operand : (n : Node) (c : Reference) → In c (outputs n) → In (c, (parameters n.function).output) (operands n)
-output_operand n c i =
-    inr (In-right (c, (parameters n.function).output) (with_kind (second_kind n) n.in2) _
-    (elim (In-append c (optional_cells n.out1) (optional_cells n.out2) i) [
-      | inl one ↦ In-left (c, (parameters n.function).output) (with_kind (parameters n.function).output n.out1) _ (in_with_kind c (parameters n.function).output n.out1 one)
-      | inr two ↦ In-right (c, (parameters n.function).output) (with_kind (parameters n.function).output n.out1) _ (in_with_kind c (parameters n.function).output n.out2 two)
-    ]))
-
-pub second_operand : (n : Node) (c : Reference) → n.in2 ≡ Some c → In (c, second_kind n) (operands n)
-second_operand n c e =
-    inr (In-left (c, second_kind n) (with_kind (second_kind n) n.in2) _
-    (in_with_kind c (second_kind n) n.in2 (subst (λ (o : Option Reference). In c (optional_cells o)) (sym e) (inl refl))))
+output_operand n c i = grind (arith, In-append {X = Reference}, in_with_kind, In-left {X = Reference × Kind}, In-right {X = Reference × Kind})
 
 pub one_kind : (o : Option ObjectValue) (j k : Kind) → option_map object_kind o ≡ Some j → option_map object_kind o ≡ Some k → j ≡ k
-one_kind o j k one other = let same : ◌≡◌ {A = Option Kind} (Some j) (Some k) = sym one ∙ other in cc
+one_kind o j k one other = cc
 
 -- an image is no virtual image
 pub image_real : (objects : List NamedObject) (c : Reference) → HoldsImage objects c → (x : ObjectValue) → object_held objects c.name ≡ Some x → is_virtual_object x ≡ false
-image_real objects c image x there = real c.slot x (sym (ap (λ (o : Option ObjectValue). option_map object_kind (option_and_then (in_slot c.slot) o)) there) ∙ image)
-  where
-    real : (slot : Option ℕ) (y : ObjectValue) → option_map object_kind (in_slot slot y) ≡ Some kind.Image → is_virtual_object y ≡ false
-    real slot other is_image = grind arith
+image_real objects c image x there = grind (arith, image, there)
 
 no_plane_read : (wanted : Kind) (object : Option ObjectValue) → wanted ≢ kind.Image → table_by wanted object ≡ object
 no_plane_read wanted object other = grind arith
@@ -86,17 +64,16 @@ no_plane_read wanted object other = grind arith
 
 pub written_there : (n : Node) (which : Output) (c : Reference) (start now : Reference → Option ObjectValue) (a b : ObjectValue) → out_at n which ≡ Some c → now n.in1 ≡ Some a → start c ≡ Some b
     → In (c, node_output n which a (option_and_then now n.in2) b) (written_from start n now)
-written_there n First c start now a b e read there = In-left _ (written_in n First n.out1 start now) (written_in n Second n.out2 start now) (rw (e, read, there) (inl refl))
+written_there n First c start now a b e read there = rw (e, read, there) (inl refl)
 written_there n Second c start now a b e read there = In-right _ (written_in n First n.out1 start now) (written_in n Second n.out2 start now) (rw (e, read, there) (inl refl))
 
 described_format : (image : ImageValue) (d : Description) → ◌≡◌ {A = Option Operand} (Some (Image (description_of image))) (Some (Image d)) → d.format ≡ image.format
-described_format image d e = let same : description_of image ≡ d = cc in ap (λ (x : Description). x.format) (sym same)
+described_format image d e = grind arith
 
 -- unless a node accumulates, its result depends only on the format of its output
 same_image : (n : Node) (which : Output) (a own other : ImageValue) (second : Option ObjectValue) → (own ≡ other) ⊎ ((own.format ≡ other.format) × (accumulates n.function ≡ false))
     → node_image n which own.format a (second_or_output n second (ImageObject own)) ≡ node_image n which other.format a (second_or_output n second (ImageObject other))
-same_image n which a own other second (inl e) = ap (λ (i : ImageValue). node_image n which i.format a (second_or_output n second (ImageObject i))) e
-same_image n which a own other second (inr e) = rw (e.1, e.0) refl
+same_image n which a own other second same = grind arith
 
 -- ---- the cells of a graph
 
@@ -108,21 +85,21 @@ module _ {objects : List NamedObject} {v : Verified} {s : Schedule} (g : CanRunB
   ends = last g
 
   abbrev pub order : List Node
-  order = steps g
+  order = v.steps
 
   abbrev pub virtual : List Reference
-  virtual = map (λ (o : VirtualOutput). o.cell) (outs g)
+  virtual = map (λ (o : VirtualOutput). o.cell) v.virtual_outputs
 
   abbrev pub cells : List Reference
-  cells = graph_cells order (outs g)
+  cells = graph_cells order v.virtual_outputs
 
   abbrev pub clients : List Reference
-  clients = drop (length (outs g)) cells
+  clients = drop (length v.virtual_outputs) cells
 
   abbrev is_virtual_cell : Reference → Bool
   is_virtual_cell c = is_virtual (is g c)
 
-  pub have : HaveTasks order (outs g) g.slots is_virtual_cell
+  pub have : HaveTasks order v.virtual_outputs g.slots is_virtual_cell
   have = have_tasks objects g.nodes v g.ready g.slots g.plan
 
   pub cells_once : has_twice cells ≡ false
@@ -153,23 +130,23 @@ module _ {objects : List NamedObject} {v : Verified} {s : Schedule} (g : CanRunB
   ]
 
   pub cell_there : (n : Node) → In n order → (c : Reference) → In c (node_images n) → In c cells
-  cell_there n i c j = all_named virtual order n i c j
+  cell_there = all_named virtual order
 
   -- it is a virtual image, or a client's image
   pub virtual_or : (c : Reference) → In c cells → In c virtual ⊎ In c clients
-  virtual_or c i = In-append c virtual clients (subst (In c) (cells_parts order (outs g)) i)
+  virtual_or c i = In-append c virtual clients (subst (In c) (cells_parts order v.virtual_outputs) i)
 
   virtual_there : (c : Reference) → In c virtual → In c cells
-  virtual_there c i = subst (In c) (sym (cells_parts order (outs g))) (In-left c virtual clients i)
+  virtual_there c i = subst (In c) (sym (cells_parts order v.virtual_outputs)) (In-left c virtual clients i)
 
   pub client_there : (c : Reference) → In c clients → In c cells
-  client_there c i = subst (In c) (sym (cells_parts order (outs g))) (In-right c virtual clients i)
+  client_there c i = subst (In c) (sym (cells_parts order v.virtual_outputs)) (In-right c virtual clients i)
 
   pub client_outside : (c : Reference) → In c clients → In c virtual → ⊥
-  client_outside c i j = once_across c virtual clients (ap has_twice (sym (cells_parts order (outs g))) ∙ cells_once) j i
+  client_outside = outside order v.virtual_outputs g.plan.once
 
   pub client_image : (c : Reference) → In c clients → HoldsImage objects c
-  client_image c i = clients_hold objects g.nodes v g.ready g.slots g.plan c i
+  client_image = clients_hold objects g.nodes v g.ready g.slots g.plan
 
   -- ---- the images that cells hold
 
@@ -188,10 +165,6 @@ module _ {objects : List NamedObject} {v : Verified} {s : Schedule} (g : CanRunB
   pub starts_client : (c : Reference) → In c clients → object_at starts c ≡ object_at objects c
   starts_client c i = first_real g c (image_real objects c (client_image c i))
 
-  -- a node that writes a cell that is an image writes images
-  image_writer : (n : Node) → In n order → (c : Reference) → In c (outputs n) → In c cells → (parameters n.function).output ≡ kind.Image
-  image_writer n i c j among = one_kind (object_at ends c) (parameters n.function).output kind.Image (last_kinds g n i (c, (parameters n.function).output) (output_operand n c j)) (ends_image c among)
-
   -- the tables that nodes read stay
   table_written : (n : Node) → In n order → (c : Reference) → n.in2 ≡ Some c → second_kind n ≢ kind.Image → is_written g.nodes c ≡ false
   table_written n i c e other = false_from_ne_true (is_written g.nodes c) (λ w.
@@ -200,8 +173,7 @@ module _ {objects : List NamedObject} {v : Verified} {s : Schedule} (g : CanRunB
       let same : second_kind n ≡ (parameters m.0.function).output =
       one_kind (object_at ends c) (second_kind n) (parameters m.0.function).output (last_kinds g n i (c, second_kind n) (second_operand n c e))
       (last_kinds g m.0 j (c, (parameters m.0.function).output) (output_operand m.0 c (In-from_same c (outputs m.0) m.2))) in
-      let clash : true ≡ false = sym (output_kinds m.0.function) ∙ ap written_kind (sym same) ∙ second_kinds n.function other in
-      cc)
+      cc ((output_kinds m.0.function), ap written_kind (sym same) ∙ second_kinds n.function other))
 
   pub table_stays : (n : Node) → In n order → (c : Reference) → n.in2 ≡ Some c → second_kind n ≢ kind.Image → object_at ends c ≡ object_at objects c
   table_stays n i c e other =
@@ -209,8 +181,7 @@ module _ {objects : List NamedObject} {v : Verified} {s : Schedule} (g : CanRunB
       let named : names_cell n c ≡ true = operand_named n (c, second_kind n) (second_operand n c e) in
       let real : is_virtual_cell c ≡ false = false_from_ne_true (is_virtual_cell c) (λ yes_virtual.
       let w = virtual_written g.ready.runs.0 (is g) g.nodes (graph_can g) n c (in_nodes g n i) named yes_virtual in
-      let clash : true ≡ false = sym w ∙ none in
-      cc) in
+      cc (w, none)) in
       let kinds = first_kinds g n i (c, second_kind n) (second_operand n c e) in
       (solves g).others c none (λ delay. second_no_delay n.function (one_kind (object_at starts c) (second_kind n) kind.Delay kinds delay))
       ∙ first_real g c (named_real g n i c named real)
@@ -227,18 +198,17 @@ module _ {objects : List NamedObject} {v : Verified} {s : Schedule} (g : CanRunB
 
   -- ---- the new value of an output
 
+  pub holds_output : (n : Node) → In n order → (which : Output) (c : Reference) (a b : ObjectValue) → out_at n which ≡ Some c → object_at ends n.in1 ≡ Some a → object_at starts c ≡ Some b
+      → object_at ends c ≡ Some (node_output n which a (option_and_then (object_at ends) n.in2) b)
+  holds_output n i which c a b e read there =
+      In-from_All (λ (x : Reference × ObjectValue). object_at ends x.0 ≡ Some x.1) (written_from (object_at starts) n (object_at ends))
+      (In-from_All (λ (m : Node). All (λ (x : Reference × ObjectValue). object_at ends x.0 ≡ Some x.1) (written_from (object_at starts) m (object_at ends))) g.nodes (solves g).written n (in_nodes g n i))
+      _ (written_there n which c (object_at starts) (object_at ends) a b e read there)
+
   pub made : (n : Node) → In n order → (which : Output) (c : Reference) → out_at n which ≡ Some c → In c cells
       → image_held ends c ≡ node_image n which (image_held starts c).format (image_held ends n.in1) (second_or_output n (option_and_then (object_at ends) n.in2) (ImageObject (image_held starts c)))
   made n i which c e among =
-      let a : ImageValue = image_held ends n.in1 in
-      let b : ImageValue = image_held starts c in
-      let read = ends_held n.in1 (cell_there n i n.in1 (inl refl)) in
-      let w : Reference × ObjectValue = (c, node_output n which (ImageObject a) (option_and_then (object_at ends) n.in2) (ImageObject b)) in
-      let holds : object_at ends c ≡ Some w.1 =
-      In-from_All (λ (x : Reference × ObjectValue). object_at ends x.0 ≡ Some x.1) (written_from (object_at starts) n (object_at ends))
-      (In-from_All (λ (m : Node). All (λ (x : Reference × ObjectValue). object_at ends x.0 ≡ Some x.1) (written_from (object_at starts) m (object_at ends))) g.nodes (solves g).written n (in_nodes g n i))
-      w (written_there n which c (object_at starts) (object_at ends) (ImageObject a) (ImageObject b) e read (starts_held c among)) in
-      ap (λ (o : Option ObjectValue). image_value (unwrap_or o (ImageObject (new_image 0 0 U8)))) holds
+      rw (holds_output n i which c (ImageObject (image_held ends n.in1)) (ImageObject (image_held starts c)) e (ends_held n.in1 (cell_there n i n.in1 (inl refl))) (starts_held c among)) refl
 
   -- ---- planes
 
@@ -249,46 +219,31 @@ module _ {objects : List NamedObject} {v : Verified} {s : Schedule} (g : CanRunB
     pub format : (c : Reference) → In c virtual → (block_images planes (index_of cells c)).format ≡ (image_held starts c).format
 
   module _ {blocks : List Samples} {planes : List PlaneValue} (t : ArePlanes objects v s blocks planes) where
-    pub client_plane : (c : Reference) → In c clients → plane (planes_of objects order (outs g) t.virtuals) (index_of cells c) ≡ image_plane (image_held objects c)
+    pub client_plane : (c : Reference) → In c clients → plane (planes_of objects order v.virtual_outputs t.virtuals) (index_of cells c) ≡ image_plane (image_held objects c)
     client_plane c i =
         let k : ℕ = index_of clients c in
         let at : index_of cells c ≡ length t.virtuals + k =
-        ap (λ (l : List Reference). index_of l c) (cells_parts order (outs g))
+        ap (λ (l : List Reference). index_of l c) (cells_parts order v.virtual_outputs)
         ∙ index_behind virtual clients c (client_outside c i)
-        ∙ ap (λ (m : ℕ). m + k) (length-map (outs g) (λ (o : VirtualOutput). o.cell) ∙ sym (virtual_count t.virtuals (outs g) t.descs)) in
-        ap (plane (planes_of objects order (outs g) t.virtuals)) at
+        ∙ ap (λ (m : ℕ). m + k) (length-map v.virtual_outputs (λ (o : VirtualOutput). o.cell) ∙ sym (virtual_count t.virtuals v.virtual_outputs t.descs)) in
+        ap (plane (planes_of objects order v.virtual_outputs t.virtuals)) at
         ∙ get_or-append-add t.virtuals (image_planes objects clients) k no_plane
         ∙ get_or-map (λ (x : Reference). image_plane (image_held objects x)) clients k c no_plane (index_below clients c i)
         ∙ ap (λ (x : Reference). image_plane (image_held objects x)) (at_index clients c c i)
 
-    shown_format : (c : Reference) → In c virtual → (block_images (planes_of objects order (outs g) t.virtuals) (index_of cells c)).format ≡ (image_held starts c).format
+    shown_format : (c : Reference) → In c virtual → (block_images (planes_of objects order v.virtual_outputs t.virtuals) (index_of cells c)).format ≡ (image_held starts c).format
     shown_format c i =
-        let os : List VirtualOutput = outs g in
-        let o = In-from_map (λ (x : VirtualOutput). x.cell) c os i in
-        let k : ℕ = index_of virtual c in
-        let at : index_of cells c ≡ k = ap (λ (l : List Reference). index_of l c) (cells_parts order os) ∙ index_left virtual clients c i in
-        let below : k < length os = omega (arith, index_below virtual c i, length-map os (λ (x : VirtualOutput). x.cell)) in
-        let within : k < length t.virtuals = omega (arith, below, virtual_count t.virtuals (outs g) t.descs) in
-        let own : VirtualOutput = get_or os k o.0 in
-        let cell : own.cell ≡ c = sym (get_or-map (λ (x : VirtualOutput). x.cell) os k o.0 c below) ∙ at_index virtual c c i in
-        let inside : In own os = In-at os k o.0 below in
-        let desc : (plane (planes_of objects order (outs g) t.virtuals) (index_of cells c)).desc ≡ own.desc =
-        ap (λ (m : ℕ). (plane (planes_of objects order (outs g) t.virtuals) m).desc) at
-        ∙ ap (λ (q : PlaneValue). q.desc) (get_or_append_left t.virtuals (image_planes objects clients) no_plane k within)
-        ∙ sym (get_or-map (λ (q : PlaneValue). q.desc) t.virtuals k no_plane own.desc within)
-        ∙ ap (λ (l : List Description). get_or l k own.desc) t.descs
-        ∙ get_or-map (λ (x : VirtualOutput). x.desc) os k o.0 own.desc below in
         let n = virtual_by c i in
         let found = (first_stands g).found n.0 c (in_nodes g n.0 n.1) (named_by_output n.0 c n.2) in
-        let known_as : known g c ≡ Image own.desc = ap (known g) (sym cell) ∙ output_known (is g) g.nodes v g.ready.verified own inside in
-        let image : Some (Image (description_of (image_held starts c))) ≡ Some (Image own.desc) =
-        ap (option_map operand_of) (sym (starts_held c (virtual_there c i))) ∙ found ∙ ap (λ (x : Operand). Some x) known_as in
-        ap (λ (d : Description). d.format) desc ∙ described_format (image_held starts c) own.desc image
+        let among : In c cells = virtual_there c i in
+        let desc : Description = (plane (planes_of objects order v.virtual_outputs t.virtuals) (index_of cells c)).desc in
+        described_format (image_held starts c) desc
+        (ap (option_map operand_of) (sym (starts_held c among)) ∙ found ∙ ap (λ (x : Operand). Some x) (plane_known objects g.are g.nodes v g.ready g.slots g.plan t.virtuals t.descs c among))
 
-    pub show_images : ShowImages (planes_of objects order (outs g) t.virtuals)
+    pub show_images : ShowImages (planes_of objects order v.virtual_outputs t.virtuals)
     show_images =
         record {
-          count = plane_count objects order (outs g) t.virtuals t.descs;
+          count = plane_count objects order v.virtual_outputs t.virtuals t.descs;
           client = λ c i. ap block_image (client_plane c i);
           format = shown_format;
         }
@@ -300,10 +255,10 @@ module _ {objects : List NamedObject} {v : Verified} {s : Schedule} (g : CanRunB
 
   module _ (planes : List PlaneValue) (show : ShowImages planes) where
     abbrev tasks : List Task
-    tasks = graph_tasks order (outs g) g.slots radius
+    tasks = graph_tasks order v.virtual_outputs g.slots radius
 
     abbrev slots : List ℕ
-    slots = map (slot_index_of g.slots) (outs g)
+    slots = map (slot_index_of g.slots) v.virtual_outputs
 
     abbrev tables : ℕ → Option ObjectValue
     tables = tables_of objects order
@@ -312,9 +267,7 @@ module _ {objects : List NamedObject} {v : Verified} {s : Schedule} (g : CanRunB
     whole = images_in ends cells (block_images planes)
 
     pub whole_at : (c : Reference) → In c cells → whole (index_of cells c) ≡ image_held ends c
-    whole_at c i =
-        picked (index_of cells c) (length cells) (image_held ends (get_or cells (index_of cells c) (reference_to 0))) (block_images planes (index_of cells c)) (index_below cells c i)
-        ∙ ap (image_held ends) (at_index cells c (reference_to 0) i)
+    whole_at c i = grind (arith, index_below cells c i, at_index cells c (reference_to 0) i)
 
     -- the output of a step as the run begins
     begins : (n : Node) → In n order → (which : Output) (c : Reference) → out_at n which ≡ Some c → In c cells
@@ -324,33 +277,25 @@ module _ {objects : List NamedObject} {v : Verified} {s : Schedule} (g : CanRunB
         show.format c old,
         false_from_ne_true (accumulates n.function) (λ adds.
             let none : is_virtual_cell c ≡ false = have.adds n i adds c (in_outputs_at n which c e) in
-            let clash : true ≡ false = sym (virtual_is c old) ∙ none in
-            cc),
+            cc ((virtual_is c old), none)),
       )
-      | inr client ↦ inl (show.client c client ∙ ap (λ (o : Option ObjectValue). image_value (unwrap_or o (ImageObject (new_image 0 0 U8)))) (sym (starts_client c client)))
+      | inr client ↦ inl (rw (starts_client c client) (show.client c client))
     ]
 
     -- the second input of a step
-    second_plane_at : (n : Node) → In n order → (c : Reference) → n.in2 ≡ Some c → second_kind n ≡ kind.Image → ◌≡◌ {A = Option ObjectValue} (Some (ImageObject (whole (index_of cells c)))) (object_at ends c)
-    second_plane_at n i c e image =
-        let named : In c (image_given (second_kind n) n.in2) = subst (λ (k : Kind). In c (image_given k n.in2)) (sym image) (subst (λ (o : Option Reference). In c (optional_cells o)) (sym e) (inl refl)) in
-        let among = cell_there n i c (inr (In-left c (image_given (second_kind n) n.in2) _ named)) in
-        ap (λ (a : ImageValue). Some (ImageObject a)) (whole_at c among) ∙ sym (ends_held c among)
-
-    table_lent : (n : Node) (c : Reference) (at : ℕ) → slice_get order at ≡ Some n → n.in2 ≡ Some c → second_kind n ≢ kind.Image → tables at ≡ object_at objects c
-    table_lent n c at there e other =
-        table_at objects order at n (slice_get_within order at n there) (get_or_from_slice_get order at n n there)
-        ∙ no_plane_read (second_kind n) (option_and_then (object_at objects) n.in2) other
-        ∙ ap (option_and_then (object_at objects)) e
-
     second_same : (n : Node) → In n order → (at : ℕ) → slice_get order at ≡ Some n → second_in tables whole (source cells at (second_kind n) n.in2) ≡ option_and_then (object_at ends) n.in2
     second_same n i at there = given_second n.in2 refl
       where
         by_kind : (c : Reference) → n.in2 ≡ Some c → (wanted : Kind) → second_kind n ≡ wanted → second_in tables whole (source cells at wanted (Some c)) ≡ object_at ends c
-        by_kind c e kind.Image k = second_plane_at n i c e k
+        by_kind c e kind.Image k =
+            let among = cell_there n i c (inr (rw (k, e) (inl refl))) in
+            ap (λ (a : ImageValue). Some (ImageObject a)) (whole_at c among) ∙ sym (ends_held c among)
         by_kind c e other k =
-            let table : second_kind n ≢ kind.Image = λ image. (let clash : other ≡ kind.Image = sym k ∙ image in cc) in
-            table_lent n c at there e table ∙ sym (table_stays n i c e table)
+            let table : second_kind n ≢ kind.Image = λ image. (cc (k, image)) in
+            table_at objects order at n (slice_get_within order at n there) (get_or_from_slice_get order at n n there)
+            ∙ no_plane_read (second_kind n) (option_and_then (object_at objects) n.in2) table
+            ∙ ap (option_and_then (object_at objects)) e
+            ∙ sym (table_stays n i c e table)
 
         given_second : (o : Option Reference) → n.in2 ≡ o → second_in tables whole (source cells at (second_kind n) o) ≡ option_and_then (object_at ends) o
         given_second None e = refl
@@ -367,37 +312,31 @@ module _ {objects : List NamedObject} {v : Verified} {s : Schedule} (g : CanRunB
         let second_at = second_same n f.inside f.at (subst (λ (k : ℕ). slice_get order k ≡ Some n) (sym place) f.there) in
         let own : ImageValue = block_images planes (index_of cells c) in
         let all : whole (index_of cells c) ≡ step_image tables (step_for cells slots radius f.at n f.which c) whole own =
-        whole_at c among
+        rw (first_at, second_at)
+        (whole_at c among
         ∙ made n f.inside f.which c f.output among
-        ∙ sym (same_image n f.which (image_held ends n.in1) own (image_held starts c) (option_and_then (object_at ends) n.in2) (begins n f.inside f.which c f.output among))
-        ∙ ap (λ (a : ImageValue). node_image n f.which own.format a (second_or_output n (option_and_then (object_at ends) n.in2) (ImageObject own))) (sym first_at)
-        ∙ ap (λ (o : Option ObjectValue). node_image n f.which own.format (whole (index_of cells n.in1)) (second_or_output n o (ImageObject own))) (sym second_at) in
+        ∙ sym (same_image n f.which (image_held ends n.in1) own (image_held starts c) (option_and_then (object_at ends) n.in2) (begins n f.inside f.which c f.output among))) in
         subst (λ (x : Step). whole x.output ≡ step_image tables x whole (block_images planes x.output)) (sym f.is) all
 
     -- an image that no step writes is a client's, which no node writes
     step_writes : (n : Node) → In n order → (parameters n.function).output ≡ kind.Image → (c : Reference) → In c (outputs n) → IsUnwritten tasks (index_of cells c) → ⊥
     step_writes n i image c j none =
-        let which = outputs_at n c j in
-        let s = step_there cells slots radius order 0 0 n i image which.0 c which.1 in
-        none (step_for cells slots radius s.0 n which.0 c) s.1 refl
+        let s = step_there cells slots radius order 0 0 n i image c j in none (step_for cells slots radius s.0 n s.1 c) s.2 refl
 
     client_unwritten : (c : Reference) → In c clients → IsUnwritten tasks (index_of cells c) → is_written g.nodes c ≡ false
     client_unwritten c i none = false_from_ne_true (is_written g.nodes c) (λ w.
         let m = In-from_any (λ (x : Node). writes x c) g.nodes w in
         let j = in_steps g m.0 m.1 in
         let k = In-from_same c (outputs m.0) m.2 in
-        step_writes m.0 j (image_writer m.0 j c k (client_there c i)) c k none)
-
-    no_delay_image : (c : Reference) → In c cells → kind_in starts c ≢ Some kind.Delay
-    no_delay_image c i delay = let clash : kind.Image ≡ kind.Delay = one_kind (object_at starts c) kind.Image kind.Delay (starts_image c i) delay in cc
+        let k_out = (parameters m.0.function).output in
+        step_writes m.0 j (one_kind (object_at ends c) k_out kind.Image (last_kinds g m.0 j (c, k_out) (output_operand m.0 c k)) (ends_image c (client_there c i))) c k none)
 
     stays : (c : Reference) → In c cells → IsUnwritten tasks (index_of cells c) → image_held ends c ≡ block_images planes (index_of cells c)
     stays c among none = elim (virtual_or c among) [
       | inl old ↦ (let n = virtual_by c old in absurd (step_writes n.0 n.1 n.3 c n.2 none))
       | inr client ↦
-          ap (λ (o : Option ObjectValue). image_value (unwrap_or o (ImageObject (new_image 0 0 U8))))
-          ((solves g).others c (client_unwritten c client none) (no_delay_image c among) ∙ starts_client c client)
-          ∙ sym (show.client c client)
+          (let same : object_at ends c ≡ object_at objects c = (solves g).others c (client_unwritten c client none) (λ delay. cc (starts_image c among, delay)) ∙ starts_client c client in
+          rw same (sym (show.client c client)))
     ]
 
     others : (k : ℕ) → IsUnwritten tasks k → whole k ≡ block_images planes k
@@ -406,10 +345,9 @@ module _ {objects : List NamedObject} {v : Verified} {s : Schedule} (g : CanRunB
           (let c : Reference = get_or cells k (reference_to 0) in
           let at : index_of cells c ≡ k = index_at cells k (reference_to 0) cells_once below in
           let among : In c cells = In-at cells k (reference_to 0) below in
-          picked k (length cells) (image_held ends c) (block_images planes k) below
-          ∙ stays c among (subst (IsUnwritten tasks) (sym at) none)
-          ∙ ap (block_images planes) at)
-      | inr above ↦ passed_over k (length cells) (image_held ends (get_or cells k (reference_to 0))) (block_images planes k) above
+          let same : image_held ends c ≡ block_images planes k = stays c among (rw at none) ∙ ap (block_images planes) at in
+          grind (arith, below, same))
+      | inr above ↦ grind (arith, above)
     ]
 
     -- the images that the graph leaves in the cells are a solution of its steps
@@ -422,4 +360,4 @@ module _ {objects : List NamedObject} {v : Verified} {s : Schedule} (g : CanRunB
             let c : Reference = get_or cells k (reference_to 0) in
             let among : In c cells = In-at cells k (reference_to 0) within in
             let is_image : IsImage (image_held ends c) = subst (λ (o : Option ObjectValue). IfSome o IsObject) (ends_held c among) (held_is ends c (last_lasts g).objects) in
-            subst IsImage (sym (picked k (length cells) (image_held ends c) (block_images planes k) within)) is_image
+            let here : whole k ≡ image_held ends c = grind (arith, within) in rw here is_image

@@ -1,7 +1,7 @@
 -- The objects written back to a table after a run over planes are the result of the graph's run.
-use Rattle.std.proofs.Common.{◌≡◌, ◌≢◌, ℕ, ◌+◌, ◌<◌, ◌≤◌, true, false, List, [], ◌∷◌, ◌++◌, map, length, drop, get_or, refl, sym, ap, subst, ◌∙◌, inl, inr, arith, All, Option, Some, None, ◌⊎◌, unwrap_or, option_map, option_and_then}
+use Rattle.std.proofs.Common.{◌≡◌, ◌≢◌, ℕ, ◌+◌, ◌<◌, ◌≤◌, true, false, List, [], ◌∷◌, ◌++◌, map, length, drop, get_or, refl, sym, ap, subst, ◌∙◌, inl, inr, arith, Option, Some, None, ◌⊎◌, unwrap_or, option_map, option_and_then}
 use Rattle.std.proofs.lemmas.List.{get_or-drop, length-append, length-drop, length-map}
-use Rattle.graph_run.proofs.Common.{cases_Bool, Reference, cell_object, objects_at_end, form_of, object_at, image_held, ImageObject, ImageValue, In, in_slot, In-append, In-at, In-from_any, In-from_same, In-left, In-right, is_virtual_object, is_written, Kind, label_of, Lasts, NamedObject, optional_cells, Operand, Node, node_output, First, object_held, object_kind, ObjectValue, operand_held, option_or, outputs, parameters, slot_index_of, resolved_operand, run_of_graph, Samples, Verified, VirtualOutput, with_written, written_from, writes, operand_of}
+use Rattle.graph_run.proofs.Common.{cases_Bool, Reference, objects_at_end, form_of, object_at, image_held, ImageObject, ImageValue, In, in_slot, In-append, In-at, In-from_any, In-from_same, In-left, In-right, is_virtual_object, is_written, Kind, label_of, Lasts, NamedObject, optional_cells, Operand, Node, node_output, First, object_held, object_kind, ObjectValue, operand_held, option_or, outputs, parameters, slot_index_of, resolved_operand, run_of_graph, Samples, Verified, VirtualOutput, with_written, writes, operand_of}
 use Rattle.vx_base.specs.declared.kind.Kind.TheVariants as kind
 use Rattle.vx_base.specs.PartialDescription.{PartialDescription}
 use Rattle.graph_verify.specs.declared.operand.Operand.TheVariants.{Virtual}
@@ -19,15 +19,15 @@ use Rattle.graph_run.specs.Tasks.{graph_tasks}
 use Rattle.graph_run.proofs.BegunLaws.{both_held, kept_virtual, labels-forgotten, object_held-forgotten}
 use Rattle.graph_run.proofs.HeldLaws.{AreWrites, labels-with_written, last_to, seen, seen-with_written}
 use Rattle.graph_run.proofs.IndexLemmas.{cells_parts, index_at}
-use Rattle.graph_run.proofs.LinkLaws.{In-from_All}
 use Rattle.graph_run.proofs.NameLaws.{Rising, rising, same_objects}
 use Rattle.graph_run.proofs.ObjectLaws.{is_delay, shown}
 use Rattle.graph_run.proofs.OperandLaws.{outline_of_virtual, virtual_there}
 use Rattle.graph_run.proofs.ProgramLemmas.{image_named}
 use Rattle.graph_run.proofs.SolutionStepsEnds.{first_real, in_nodes, in_steps, is, is_node_of, last_labels, last_lasts, solves, unwritten_seen}
-use Rattle.graph_run.proofs.SolutionStepsImages.{ShowImages, cell_there, cells, cells_once, client_image, client_there, clients, ends, ends_held, have, image_real, show_images, solution, starts, tally_kept, virtual, virtual_by, virtual_is, virtual_or, whole_at, written_there}
+use Rattle.graph_run.proofs.SolutionStepsImages.{ShowImages, cell_there, cells, cells_once, client_image, client_there, clients, ends, ends_held, have, holds_output, image_real, show_images, solution, starts, tally_kept, virtual, virtual_by, virtual_is, virtual_or, whole_at}
 use Rattle.graph_run.proofs.SolutionStepsReturns.{counted_kind, forgotten_are, forgotten_lasting, image_back, image_comes, kept_real, last_known, last_none, last_some, tally_back, tally_comes, tally_is_new, tally_output}
-use Rattle.graph_run.proofs.SolutionStepsTasks.{image_or, one_output, reduction_at, tally_count, tally_there}
+use Rattle.graph_run.proofs.SolutionStepsTasks.{image_or, one_output, tally_count, tally_there}
+use Rattle.graph_run.proofs.TallySteps.{reduction_there, tallied}
 use Rattle.graph_run.proofs.TaskLemmas.{turns_kept}
 use Rattle.graph_run.proofs.VerifiedLemmas.{named_by_output, pairs_of}
 use Rattle.graph_run.proofs.WithinLemmas.{turns}
@@ -36,21 +36,13 @@ use Rattle.graph_run.proofs.WithinLemmas.{turns}
 tally_plain : (t : Tally) → is_delay (tally_object t) ≡ false
 tally_plain t = grind arith
 
-held_in : (objects : List NamedObject) (c : Reference) (x : ObjectValue) → object_at objects c ≡ Some x → cell_object objects c ≡ x
-held_in objects c x e = grind (arith, e)
-
 some_kind : (o : Option ObjectValue) (k : Kind) → option_map object_kind o ≡ Some k → (x : ObjectValue) × (o ≡ Some x) × (object_kind x ≡ k)
-some_kind None k e = absurd (cc e)
-some_kind (Some x) k e = (x, refl, cc)
+some_kind o k e = grind arith
 
 -- the new tally of a node is that of the object that it writes
 own_tally : (objects : List NamedObject) (n : Node) (c : Reference) (old : ObjectValue) (new : Tally) → n.out1 ≡ Some c → object_at objects c ≡ Some old → object_kind old ≡ (parameters n.function).output
     → node_tallies objects n ≡ new ∷ [] → tally_by (object_kind old) old ≡ new ∷ []
-own_tally objects n c old new out there is own =
-    ap (λ (k : Kind). tally_by k old) is
-    ∙ ap (tally_by (parameters n.function).output) (sym (held_in objects c old there))
-    ∙ ap (λ (o : Option Reference). tally_by (parameters n.function).output (cell_object objects (unwrap_or o n.in1))) (sym out)
-    ∙ own
+own_tally objects n c old new out there is own = rw is (rw (out, there) at own)
 
 module _ {objects : List NamedObject} {v : Verified} {s : Schedule} (g : CanRunBy objects v s) where
   -- the run leaves objects, and of each what lasts
@@ -67,12 +59,6 @@ module _ {objects : List NamedObject} {v : Verified} {s : Schedule} (g : CanRunB
     abbrev radius : Node → ℕ
     radius = radius_of objects s.high
 
-    abbrev pub outs : List VirtualOutput
-    outs = v.virtual_outputs
-
-    abbrev pub steps : List Node
-    steps = v.steps
-
     abbrev pub all : List Reference
     all = cells g
 
@@ -86,7 +72,7 @@ module _ {objects : List NamedObject} {v : Verified} {s : Schedule} (g : CanRunB
     first = starts g
 
     abbrev pub planes : List PlaneValue
-    planes = planes_of objects steps outs t.virtuals
+    planes = planes_of objects v.steps v.virtual_outputs t.virtuals
 
     abbrev pub whole : ℕ → ImageValue
     whole = images_in last all (block_images planes)
@@ -94,7 +80,7 @@ module _ {objects : List NamedObject} {v : Verified} {s : Schedule} (g : CanRunB
     pub show_all : ShowImages g planes
     show_all = show_images g t
 
-    solved : SolvesSteps (tables_of objects steps) (length planes) (graph_tasks steps outs g.slots radius) (block_images planes) whole
+    solved : SolvesSteps (tables_of objects v.steps) (length planes) (graph_tasks v.steps v.virtual_outputs g.slots radius) (block_images planes) whole
     solved = solution g planes show_all
 
     whole_of : (c : Reference) → In c all → whole (index_of all c) ≡ image_held last c
@@ -108,30 +94,30 @@ module _ {objects : List NamedObject} {v : Verified} {s : Schedule} (g : CanRunB
 
     -- ---- images
 
-    pub theirs_count : length outs + length theirs ≡ length all
+    pub theirs_count : length v.virtual_outputs + length theirs ≡ length all
     theirs_count =
-        omega (arith, ap length (cells_parts steps outs), length-append (map (λ (o : VirtualOutput). o.cell) outs) theirs, length-map outs (λ (o : VirtualOutput). o.cell))
+        omega (arith, ap length (cells_parts v.steps v.virtual_outputs), length-append (map (λ (o : VirtualOutput). o.cell) v.virtual_outputs) theirs, length-map v.virtual_outputs (λ (o : VirtualOutput). o.cell))
 
-    pub theirs_keep : (k : ℕ) → k < length theirs → KeepsBlock (length planes) (graph_tasks steps outs g.slots radius) (length outs + k)
+    pub theirs_keep : (k : ℕ) → k < length theirs → KeepsBlock (length planes) (graph_tasks v.steps v.virtual_outputs g.slots radius) (length v.virtual_outputs + k)
     theirs_keep k below =
-        turns_kept (map (slot_index_of g.slots) outs) (graph_tasks steps outs g.slots radius) (turns steps outs g.slots _ (have g) radius) (length planes) (length outs + k)
-        (omega (arith, length-map outs (slot_index_of g.slots))) (omega (arith, below, theirs_count, show_all.count))
+        turns_kept (map (slot_index_of g.slots) v.virtual_outputs) (graph_tasks v.steps v.virtual_outputs g.slots radius) (turns v.steps v.virtual_outputs g.slots _ (have g) radius) (length planes) (length v.virtual_outputs + k)
+        (omega (arith, length-map v.virtual_outputs (slot_index_of g.slots))) (omega (arith, below, theirs_count, show_all.count))
 
-    pub theirs_index : (k : ℕ) (d : Reference) → k < length theirs → index_of all (get_or theirs k d) ≡ length outs + k
+    pub theirs_index : (k : ℕ) (d : Reference) → k < length theirs → index_of all (get_or theirs k d) ≡ length v.virtual_outputs + k
     theirs_index k d below =
-        let within : length outs + k < length all = omega (arith, below, theirs_count) in
-        ap (index_of all) (get_or-drop (length outs) all k d) ∙ index_at all (length outs + k) d (cells_once g) within
+        let within : length v.virtual_outputs + k < length all = omega (arith, below, theirs_count) in
+        ap (index_of all) (get_or-drop (length v.virtual_outputs) all k d) ∙ index_at all (length v.virtual_outputs + k) d (cells_once g) within
 
-    image_left : (w : Reference × ObjectValue) → In w (plane_objects theirs (drop (length outs) after)) → IsLeft w
+    image_left : (w : Reference × ObjectValue) → In w (plane_objects theirs (drop (length v.virtual_outputs) after)) → IsLeft w
     image_left w i =
-        let r = image_back theirs (drop (length outs) after) w i in
+        let r = image_back theirs (drop (length v.virtual_outputs) after) w i in
         let k : ℕ = r.0 in
-        let at : ℕ = length outs + k in
+        let at : ℕ = length v.virtual_outputs + k in
         let c : Reference = get_or theirs k w.0 in
         let inside : In c theirs = In-at theirs k w.0 r.1 in
         let among : In c all = client_there g c inside in
-        let image : block_image (get_or (drop (length outs) after) k no_plane) ≡ image_held last c =
-        ap block_image (get_or-drop (length outs) after k no_plane) ∙ leaves.images whole solved at (theirs_keep k r.1) ∙ ap whole (sym (theirs_index k w.0 r.1)) ∙ whole_of c among in
+        let image : block_image (get_or (drop (length v.virtual_outputs) after) k no_plane) ≡ image_held last c =
+        ap block_image (get_or-drop (length v.virtual_outputs) after k no_plane) ∙ leaves.images whole solved at (theirs_keep k r.1) ∙ ap whole (sym (theirs_index k w.0 r.1)) ∙ whole_of c among in
         let is_w : w ≡ (c, ImageObject (image_held last c)) = r.2 ∙ ap (λ (a : ImageValue). let pair : Reference × ObjectValue = (c, ImageObject a) in pair) image in
         subst IsLeft (sym is_w)
         (record { left = ends_held g c among; real = image_real objects c (client_image g c inside); plain = refl })
@@ -141,61 +127,61 @@ module _ {objects : List NamedObject} {v : Verified} {s : Schedule} (g : CanRunB
     -- the tally at an index, of a node that writes no image: that of the image that the node reads
     pub record IsTallied (place : ℕ) : Type 0 where
       pub node : Node
-      pub inside : In node steps
+      pub inside : In node v.steps
       pub other : (parameters node.function).output ≢ kind.Image
       pub cell : Reference
       pub out : node.out1 ≡ Some cell
-      pub at : (d : Reference) → get_or (tally_cells steps) place d ≡ cell
+      pub at : (d : Reference) → get_or (tally_cells v.steps) place d ≡ cell
       pub real : (x : ObjectValue) → object_held objects cell.name ≡ Some x → is_virtual_object x ≡ false
       pub old : ObjectValue
       pub held_before : object_at objects cell ≡ Some old
       pub kind_is : object_kind old ≡ (parameters node.function).output
-      pub own : tally_by (object_kind old) old ≡ tally_at (tallies_of objects steps) place ∷ []
-      pub tallied : tally_at counted place ≡ tally_of (image_held last node.in1) (tally_at (tallies_of objects steps) place)
+      pub own : tally_by (object_kind old) old ≡ tally_at (tallies_of objects v.steps) place ∷ []
+      pub tallied : tally_at counted place ≡ tally_of (image_held last node.in1) (tally_at (tallies_of objects v.steps) place)
 
-    pub tally_facts : (place : ℕ) → place < length (tally_cells steps) → IsTallied place
+    pub tally_facts : (place : ℕ) → place < length (tally_cells v.steps) → IsTallied place
     tally_facts place below =
-        let r = reduction_at all (map (slot_index_of g.slots) outs) radius objects steps 0 0 place below in
+        let slots : List ℕ = map (slot_index_of g.slots) v.virtual_outputs in
+        let found = reduction_there all slots radius objects v.steps 0 0 place (omega (arith, below, tally_count objects v.steps)) in
+        let r = (tallied all slots radius objects v.steps 0 0).1 found.0 found.1 in
         let n : Node = r.node in
         let out = one_output n (is_node_of g n r.inside).shape r.other in
         let c : Reference = out.0 in
-        let index : r.index ≡ place = omega (arith, r.same) in
+        let index : found.0.tally ≡ place = omega (arith, found.2) in
+        let same : r.place ≡ place = omega (arith, r.is, found.2) in
         let kept = tally_kept g n r.inside r.other c out.1 in
         let old = some_kind (object_at objects c) (parameters n.function).output kept.1 in
-        let own : tally_by (object_kind old.0) old.0 ≡ tally_at (tallies_of objects steps) place ∷ [] = own_tally objects n c old.0 (tally_at (tallies_of objects steps) place) out.1 old.1 old.2 (r.new _) in
-        let new : IsNew (tally_at (tallies_of objects steps) r.index) = subst (λ (k : ℕ). IsNew (tally_at (tallies_of objects steps) k)) (sym index) (tally_is_new (object_kind old.0) old.0 (tally_at (tallies_of objects steps) place) own) in
+        let first_tally : r.tally ≡ tally_at (tallies_of objects v.steps) place = sym (r.there _) ∙ ap (tally_at (tallies_of objects v.steps)) same in
+        let own : tally_by (object_kind old.0) old.0 ≡ tally_at (tallies_of objects v.steps) place ∷ [] = own_tally objects n c old.0 _ out.1 old.1 old.2 (rw first_tally at r.tally_is) in
+        let new : IsNew (tally_at (tallies_of objects v.steps) found.0.tally) = rw index (tally_is_new (object_kind old.0) old.0 (tally_at (tallies_of objects v.steps) place) own) in
+        let counted_at : tally_at counted place ≡ tally_of (whole (index_of all n.in1)) (tally_at (tallies_of objects v.steps) place) = (rw (index, r.input) at (leaves.reductions whole solved found.0 found.1 new)) in
         record {
           node = n;
           inside = r.inside;
           other = r.other;
           cell = c;
           out = out.1;
-          at = λ d. r.cell d ∙ ap (λ (o : Option Reference). unwrap_or o n.in1) out.1;
+          at = λ d. ap (λ (k : ℕ). get_or (tally_cells v.steps) k d) (sym same) ∙ r.cell d ∙ ap (λ (o : Option Reference). unwrap_or o n.in1) out.1;
           real = kept.0;
           old = old.0;
           held_before = old.1;
           kind_is = old.2;
           own = own;
           tallied =
-              ap (tally_at counted) (sym index)
-              ∙ leaves.reductions whole solved (record { input = index_of all n.in1; tally = r.index }) r.task new
-              ∙ ap (λ (k : ℕ). tally_of (whole (index_of all n.in1)) (tally_at (tallies_of objects steps) k)) index
-              ∙ ap (λ (b : ImageValue). tally_of b (tally_at (tallies_of objects steps) place)) (whole_of n.in1 (cell_there g n r.inside n.in1 (inl refl)));
+              counted_at
+              ∙ ap (λ (b : ImageValue). tally_of b (tally_at (tallies_of objects v.steps) place)) (whole_of n.in1 (cell_there g n r.inside n.in1 (inl refl)));
         }
 
-    tally_left : (w : Reference × ObjectValue) → In w (tally_objects (tally_cells steps) counted) → IsLeft w
+    tally_left : (w : Reference × ObjectValue) → In w (tally_objects (tally_cells v.steps) counted) → IsLeft w
     tally_left w i =
-        let back = tally_back (tally_cells steps) counted w i in
+        let back = tally_back (tally_cells v.steps) counted w i in
         let r : IsTallied back.0 = tally_facts back.0 back.1 in
         let n : Node = r.node in
         let read = ends_held g n.in1 (cell_there g n r.inside n.in1 (inl refl)) in
         let made : Reference × ObjectValue = (r.cell, node_output n First (ImageObject (image_held last n.in1)) (option_and_then (object_at last) n.in2) r.old) in
-        let holds : object_at last r.cell ≡ Some made.1 =
-        In-from_All (λ (x : Reference × ObjectValue). object_at last x.0 ≡ Some x.1) (written_from (object_at first) n (object_at last))
-        (In-from_All (λ (m : Node). All (λ (x : Reference × ObjectValue). object_at last x.0 ≡ Some x.1) (written_from (object_at first) m (object_at last))) g.nodes (solves g).written n (in_nodes g n r.inside))
-        made (written_there n First r.cell (object_at first) (object_at last) (ImageObject (image_held last n.in1)) r.old r.out read (first_real g r.cell r.real ∙ r.held_before)) in
+        let holds : object_at last r.cell ≡ Some made.1 = holds_output g n r.inside First r.cell (ImageObject (image_held last n.in1)) r.old r.out read (first_real g r.cell r.real ∙ r.held_before) in
         let counted_as : made.1 ≡ tally_object (tally_at counted back.0) =
-        tally_output n First (image_held last n.in1) (option_and_then (object_at last) n.in2) r.old (tally_at (tallies_of objects steps) back.0)
+        tally_output n First (image_held last n.in1) (option_and_then (object_at last) n.in2) r.old (tally_at (tallies_of objects v.steps) back.0)
         (subst (λ (k : Kind). (k ≡ kind.Distribution) ⊎ (k ≡ kind.Extremes)) (sym r.kind_is) (counted_kind n.function r.other)) r.own
         ∙ ap tally_object (sym r.tallied) in
         let is_w : w ≡ (r.cell, tally_object (tally_at counted back.0)) = back.2 ∙ ap (λ (x : Reference). let pair : Reference × ObjectValue = (x, tally_object (tally_at counted back.0)) in pair) (r.at w.0) in
@@ -205,10 +191,10 @@ module _ {objects : List NamedObject} {v : Verified} {s : Schedule} (g : CanRunB
     -- ---- all that is written back
 
     abbrev pub images : List (Reference × ObjectValue)
-    images = plane_objects theirs (drop (length outs) after)
+    images = plane_objects theirs (drop (length v.virtual_outputs) after)
 
     abbrev pub tallies : List (Reference × ObjectValue)
-    tallies = tally_objects (tally_cells steps) counted
+    tallies = tally_objects (tally_cells v.steps) counted
 
     pub all_left : (w : Reference × ObjectValue) → In w (images ++ tallies) → IsLeft w
     all_left w i = elim (In-append w images tallies i) [
@@ -244,30 +230,27 @@ module _ {objects : List NamedObject} {v : Verified} {s : Schedule} (g : CanRunB
             cc
 
     -- each cell that a node writes, and that is no virtual image, gets an object
-    comes : (n : Node) → In n steps → (c : Reference) → In c (outputs n) → ((x : ObjectValue) → object_held objects c.name ≡ Some x → is_virtual_object x ≡ false)
+    comes : (n : Node) → In n v.steps → (c : Reference) → In c (outputs n) → ((x : ObjectValue) → object_held objects c.name ≡ Some x → is_virtual_object x ≡ false)
         → (x : ObjectValue) × In (c, x) (images ++ tallies)
     comes n i c j real = elim (image_or (parameters n.function).output) [
       | inl image ↦ elim (virtual_or g c (cell_there g n i c (image_named n c image j))) [
         | inl old ↦ absurd (virtual_object c old real)
         | inr client ↦
-            (let enough : length theirs ≤ length (drop (length outs) after) = omega (arith, length-drop (length outs) after, theirs_count, leaves.planes_count, show_all.count) in
-            let x = image_comes theirs (drop (length outs) after) c enough client in
+            (let enough : length theirs ≤ length (drop (length v.virtual_outputs) after) = omega (arith, length-drop (length v.virtual_outputs) after, theirs_count, leaves.planes_count, show_all.count) in
+            let x = image_comes theirs (drop (length v.virtual_outputs) after) c enough client in
             (x.0, In-left (c, x.0) images tallies x.1))
       ]
       | inr other ↦
           (let out = one_output n (is_node_of g n i).shape other in
-          let inside : In (unwrap_or n.out1 n.in1) (tally_cells steps) = tally_there steps n i other in
+          let inside : In (unwrap_or n.out1 n.in1) (tally_cells v.steps) = tally_there v.steps n i other in
           let same : unwrap_or n.out1 n.in1 ≡ c = only_output n.out1 n.out2 out.0 out.1 out.2 j in
-          let enough : length (tally_cells steps) ≤ length counted = omega (arith, leaves.tallies_count, tally_count objects steps) in
-          let x = tally_comes (tally_cells steps) counted c enough (subst (λ (y : Reference). In y (tally_cells steps)) same inside) in
+          let enough : length (tally_cells v.steps) ≤ length counted = omega (arith, leaves.tallies_count, tally_count objects v.steps) in
+          let x = tally_comes (tally_cells v.steps) counted c enough (subst (λ (y : Reference). In y (tally_cells v.steps)) same inside) in
           (x.0, In-right (c, x.0) images tallies x.1))
     ]
       where
         only_output : (one two : Option Reference) (d : Reference) → one ≡ Some d → two ≡ None → In c (optional_cells one ++ optional_cells two) → unwrap_or one n.in1 ≡ c
-        only_output None two d is_one no_two k = absurd (cc is_one)
-        only_output (Some e) (Some f) d is_one no_two k = absurd (cc no_two)
-        only_output (Some e) None d is_one no_two (inl same) = sym same
-        only_output (Some e) None d is_one no_two (inr none) = elim none [ ]
+        only_output one two d is_one no_two k = grind arith
 
     -- ---- each cell
 
@@ -282,8 +265,7 @@ module _ {objects : List NamedObject} {v : Verified} {s : Schedule} (g : CanRunB
     seen_virtual c x there virtual_one =
         let none : last_to c (images ++ tallies) ≡ None = last_none c (images ++ tallies) (λ w i e.
         (let real = (all_left w i).real x (ap (λ (d : Reference). object_held objects d.name) (sym e) ∙ there) in
-        let clash : true ≡ false = sym virtual_one ∙ real in
-        cc)) in
+        cc (virtual_one, real))) in
         let other = both_held objects last labels_end c.name x there in
         let kept : kept_virtual (object_held objects c.name) (object_held last c.name) ≡ Some x = rw (there, other.1, virtual_one) refl in
         seen-with_written (images ++ tallies) objects are_writes c
@@ -315,10 +297,10 @@ module _ {objects : List NamedObject} {v : Verified} {s : Schedule} (g : CanRunB
     seen_same c = by_object (object_held objects c.name) refl
       where
         by_object : (o : Option ObjectValue) → object_held objects c.name ≡ o → seen (with_written objects (images ++ tallies)) c ≡ seen (objects_at_end objects last) c
-        by_object None e = seen_real c (λ x there. (let clash : ◌≡◌ {A = Option ObjectValue} None (Some x) = sym e ∙ there in absurd (cc clash)))
+        by_object None e = seen_real c (λ x there. absurd (cc (e, there)))
         by_object (Some y) e = elim (cases_Bool (is_virtual_object y)) [
           | inl virtual_one ↦ seen_virtual c y e virtual_one
-          | inr plain ↦ seen_real c (λ x there. (let same : ◌≡◌ {A = Option ObjectValue} (Some y) (Some x) = sym e ∙ there in let one : y ≡ x = cc in ap is_virtual_object (sym one) ∙ plain))
+          | inr plain ↦ seen_real c (λ x there. grind (arith, e, there, plain))
         ]
 
     pub returns : with_written objects (images ++ tallies) ≡ run_of_graph (resolved_operand (operand_held objects) g.nodes) g.nodes objects

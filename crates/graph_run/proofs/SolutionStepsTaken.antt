@@ -1,12 +1,10 @@
 -- The table of a graph's objects while the samples of its images are in planes, and when they move back.
-use Rattle.std.proofs.Common.{◌≡◌, ◌≢◌, ℕ, suc, ◌+◌, ◌<◌, ◌≤◌, List, [], ◌∷◌, map, length, drop, get_or, refl, sym, ap, subst, ◌∙◌, inl, inr, arith, Option, Some, None, ◌⊎◌, IfSome, unwrap_or, option_map, option_and_then}
+use Rattle.std.proofs.Common.{◌≡◌, ◌≢◌, ℕ, suc, ◌+◌, ◌<◌, ◌≤◌, List, [], ◌∷◌, length, drop, get_or, refl, sym, ap, subst, ◌∙◌, inl, inr, arith, Option, Some, None, ◌⊎◌, IfSome, unwrap_or, option_map, option_and_then}
 use Rattle.std.proofs.lemmas.List.{get_or-drop, length-drop}
-use Rattle.graph_run.proofs.Common.{Reference, Function, object_at, HoldsImage, HoldsKind, image_held, ImageObject, ImageValue, In, In-at, Kind, kind_in, NamedObject, Node, object_kind, ObjectValue, operand_held, option_or, resolved_operand, run_of_graph, Samples, second_kind, Verified, with_written, description_of, parameters, U8, new_image, image_value, distribution_value, DistributionObject, ExtremesObject}
+use Rattle.graph_run.proofs.Common.{Reference, Function, object_at, HoldsImage, HoldsKind, image_held, ImageObject, ImageValue, In, In-at, Kind, kind_in, NamedObject, Node, object_kind, ObjectValue, operand_held, option_or, resolved_operand, run_of_graph, Samples, second_kind, Verified, with_written, description_of, parameters, DistributionObject, ExtremesObject}
 use Rattle.vx_base.specs.declared.kind.Kind.TheVariants as kind
 use Rattle.graph_steps.specs.declared.tally.Tally.{Tally}
-use Rattle.graph_steps.specs.declared.tally.Tally.TheVariants as tally
 use Rattle.graph_steps.specs.Tallies.{tally_at, tally_of}
-use Rattle.vx_base.specs.Object.{new_distribution, no_extremes}
 use Rattle.graph_steps.specs.Planes.{PlaneValue, no_plane, plane}
 use Rattle.graph_run.specs.declared.schedule.Schedule.{Schedule}
 use Rattle.graph_run.specs.Bind.{AreFor, HoldImages, bare_images, plane_objects, without_samples}
@@ -14,7 +12,7 @@ use Rattle.graph_run.specs.Bound.{AreTalliesFor, IsLent, IsTallyFor, KeepTallies
 use Rattle.graph_run.specs.Program.{client_cells, node_table, planes_of, radius_of, table_by, tables_of, tallies_of, tally_by}
 use Rattle.graph_run.specs.Results.{Leaves, last_objects, tally_cells, tally_objects}
 use Rattle.graph_run.specs.Schedule.{ArePlanes, CanRunBy}
-use Rattle.graph_run.specs.Tasks.{graph_cells, graph_tasks}
+use Rattle.graph_run.specs.Tasks.{graph_tasks}
 use Rattle.graph_run.proofs.BindLemmas.{bare_written, out_and_back, planes_written}
 use Rattle.graph_run.proofs.OutputLemmas.{length-histogram}
 use Rattle.graph_run.proofs.OperandLaws.{no_delay_written}
@@ -22,9 +20,11 @@ use Rattle.graph_run.proofs.SolutionStepsTasks.{one_output, tally_count}
 use Rattle.graph_run.proofs.HeldLaws.{AreWrites, last_to, seen, seen-with_written}
 use Rattle.graph_run.proofs.LinkLaws.{All-from_In}
 use Rattle.graph_run.proofs.ObjectLaws.{shown}
+use Rattle.graph_run.proofs.ProgramPlanes.{map_alike}
+use Rattle.graph_run.proofs.ReadyLemmas.{second_operand}
 use Rattle.graph_run.proofs.RunLemmas.{second_no_delay, with_written-append}
 use Rattle.graph_run.proofs.SolutionLaws.{unshown}
-use Rattle.graph_run.proofs.SolutionStepsImages.{client_image, client_plane, one_kind, second_operand, table_stays, tally_kept}
+use Rattle.graph_run.proofs.SolutionStepsImages.{client_image, client_plane, one_kind, table_stays, tally_kept}
 use Rattle.graph_run.proofs.SolutionStepsEnds.{is_node_of, last_kinds}
 use Rattle.graph_run.proofs.SolutionStepsObjects.{IsTallied, returns, show_all, tally_facts, theirs_count, theirs_index, theirs_keep}
 use Rattle.graph_run.proofs.SolutionStepsReturns.{counted_kind, image_back, last_known, last_none, last_some}
@@ -49,15 +49,12 @@ image_there objects ws are c image some =
 -- ---- images without samples
 
 in_bare : (objects : List NamedObject) (cells : List Reference) (w : Reference × ObjectValue) → In w (bare_images objects cells) → In w.0 cells × (w.1 ≡ ImageObject (without_samples (image_held objects w.0)))
-in_bare objects [] w i = elim i [ ]
-in_bare objects (c ∷ cells) w (inl e) =
-    (inl (ap (λ (x : Reference × ObjectValue). x.0) e), ap (λ (x : Reference × ObjectValue). x.1) e ∙ ap (λ (x : Reference × ObjectValue). ImageObject (without_samples (image_held objects x.0))) (sym e))
-in_bare objects (c ∷ cells) w (inr i) = let r = in_bare objects cells w i in (inr r.0, r.1)
+in_bare objects [] w i = absurd i
+in_bare objects (c ∷ cells) w i = grind (arith, in_bare objects cells w)
 
 bare_there : (objects : List NamedObject) (cells : List Reference) (c : Reference) → In c cells → In (c, ImageObject (without_samples (image_held objects c))) (bare_images objects cells)
-bare_there objects [] c i = elim i [ ]
-bare_there objects (d ∷ cells) c (inl e) = inl (ap (λ (x : Reference). let pair : Reference × ObjectValue = (x, ImageObject (without_samples (image_held objects x))) in pair) e)
-bare_there objects (d ∷ cells) c (inr i) = inr (bare_there objects cells c i)
+bare_there objects [] c i = absurd i
+bare_there objects (d ∷ cells) c i = grind (arith, bare_there objects cells c)
 
 module _ (objects : List NamedObject) (cells : List Reference) (holds : HoldImages objects cells) where
   abbrev taken : List NamedObject
@@ -77,13 +74,12 @@ module _ (objects : List NamedObject) (cells : List Reference) (holds : HoldImag
   taken_images c i = ap (option_map object_kind) (taken_held c i)
 
   taken_description : (c : Reference) → In c cells → description_of (image_held objects c) ≡ description_of (image_held taken c)
-  taken_description c i = ap (λ (o : Option ObjectValue). description_of (image_value (unwrap_or o (ImageObject (new_image 0 0 U8))))) (sym (taken_held c i))
+  taken_description c i = rw (taken_held c i) refl
 
   -- planes for the images are planes for these
   pub taken_for : (some : List Reference) (planes : List PlaneValue) → ((c : Reference) → In c some → In c cells) → AreFor objects some planes → AreFor taken some planes
-  taken_for [] planes among are = tt
-  taken_for (c ∷ some) [] among are = are
   taken_for (c ∷ some) (q ∷ planes) among are = (are.0 ∙ taken_description c (among c (inl refl)), are.1, taken_for some planes (λ d i. among d (inr i)) are.2)
+  taken_for some planes among are = grind arith
 
   -- objects other than images stay
   pub taken_other : (c : Reference) (k : Kind) → HoldsKind objects (c, k) → k ≢ kind.Image → k ≢ kind.Delay → object_at taken c ≡ object_at objects c
@@ -97,17 +93,12 @@ module _ (objects : List NamedObject) (cells : List Reference) (holds : HoldImag
 for_each : (objects : List NamedObject) (cells : List Reference) (planes : List PlaneValue) → length cells ≤ length planes
     → ((k : ℕ) (d : Reference) → k < length cells → ((get_or planes k no_plane).desc ≡ description_of (image_held objects (get_or cells k d))) × ((get_or planes k no_plane).format ≡ (get_or planes k no_plane).desc.format))
     → AreFor objects cells planes
-for_each objects [] planes enough each = tt
-for_each objects (c ∷ cells) [] enough each = absurd (omega (arith, enough))
 for_each objects (c ∷ cells) (q ∷ planes) enough each =
     let own = each 0 c (omega arith) in
     (own.0, own.1, for_each objects cells planes (omega (arith, enough)) (λ k d below. each (suc k) d (omega (arith, below))))
+for_each objects cells planes enough each = grind arith
 
 -- ---- tables
-
-map_alike : {X : Type 0} (f g : Node → X) (ns : List Node) → ((n : Node) → In n ns → f n ≡ g n) → map f ns ≡ map g ns
-map_alike f g [] same = refl
-map_alike f g (n ∷ ns) same = ap (λ x. x ∷ map f ns) (same n (inl refl)) ∙ ap (λ l. g n ∷ l) (map_alike f g ns (λ m i. same m (inr i)))
 
 lent_kinds : (f : Function) → unwrap_or (parameters f).second_input kind.Image ≢ kind.Image → IsLent (unwrap_or (parameters f).second_input kind.Image)
 lent_kinds f other = grind arith
@@ -126,47 +117,29 @@ module _ {objects : List NamedObject} {v : Verified} {s : Schedule} (g : CanRunB
   table_kind n i c e other =
       ap (option_map object_kind) (sym (table_stays g n i c e other)) ∙ last_kinds g n i (c, second_kind n) (second_operand n c e)
 
-  table_same : (n : Node) → In n v.steps → node_table bare n ≡ node_table objects n
-  table_same n i = by_kind (second_kind n) n.in2 refl refl
-    where
-      by_kind : (k : Kind) (o : Option Reference) → second_kind n ≡ k → n.in2 ≡ o → table_by k (option_and_then (object_at bare) o) ≡ table_by k (option_and_then (object_at objects) o)
-      by_kind kind.Image o is e = refl
-      by_kind k None is e = refl
-      by_kind k (Some c) is e =
-          let other : second_kind n ≢ kind.Image = λ image. (let clash : k ≡ kind.Image = sym is ∙ image in cc) in
-          ap (table_by k) (taken_other objects theirs hold c (second_kind n) (table_kind n i c e other) other (second_no_delay n.function))
+  read_table : (n : Node) → In n v.steps → (k : Kind) (o : Option Reference) → second_kind n ≡ k → n.in2 ≡ o
+      → (table_by k (option_and_then (object_at bare) o) ≡ table_by k (option_and_then (object_at objects) o)) × IfSome (table_by k (option_and_then (object_at bare) o)) (λ object. IsLent (object_kind object))
+  read_table n i kind.Image o is e = (refl, tt)
+  read_table n i k None is e = (refl, tt)
+  read_table n i k (Some c) is e =
+      let other : second_kind n ≢ kind.Image = λ image. (cc (is, image)) in
+      let holds : HoldsKind objects (c, second_kind n) = table_kind n i c e other in
+      let same : object_at bare c ≡ object_at objects c = taken_other objects theirs hold c (second_kind n) holds other (second_no_delay n.function) in
+      (ap (table_by k) same, grind (arith, same, holds, lent_kinds n.function other))
 
   -- the tables that nodes read are those of the table without samples, and can be lent
   pub tables_same : tables_of bare v.steps ≡ tables_of objects v.steps
   tables_same =
       let read : List (Option ObjectValue) → ℕ → Option ObjectValue = λ l k. get_or l k None in
-      ap read (map_alike (node_table bare) (node_table objects) v.steps table_same)
+      ap read (map_alike (node_table bare) (node_table objects) v.steps (λ n i. (read_table n i (second_kind n) n.in2 refl refl).0))
 
   pub tables_lent : LendTables bare v.steps
   tables_lent =
-      All-from_In (λ (n : Node). IfSome (node_table bare n) (λ object. IsLent (object_kind object))) v.steps (λ n i.
-      subst (λ (o : Option ObjectValue). IfSome o (λ object. IsLent (object_kind object))) (sym (table_same n i)) (lent n i (second_kind n) n.in2 refl refl))
-    where
-      lent_if : (o : Option ObjectValue) (k : Kind) → option_map object_kind o ≡ Some k → IsLent k → IfSome o (λ object. IsLent (object_kind object))
-      lent_if None k is may = tt
-      lent_if (Some x) k is may = let same : k ≡ object_kind x = cc in subst IsLent same may
-
-      lent : (n : Node) → In n v.steps → (k : Kind) (o : Option Reference) → second_kind n ≡ k → n.in2 ≡ o → IfSome (table_by k (option_and_then (object_at objects) o)) (λ object. IsLent (object_kind object))
-      lent n i kind.Image o is e = tt
-      lent n i k None is e = tt
-      lent n i k (Some c) is e =
-          let other : second_kind n ≢ kind.Image = λ image. (let clash : k ≡ kind.Image = sym is ∙ image in cc) in
-          lent_if (object_at objects c) (second_kind n) (table_kind n i c e other) (lent_kinds n.function other)
+      All-from_In (λ (n : Node). IfSome (node_table bare n) (λ object. IsLent (object_kind object))) v.steps (λ n i. (read_table n i (second_kind n) n.in2 refl refl).1)
 
   -- the objects in which tallies are kept are there
   keeps_tally : (l : List NamedObject) (wanted : Kind) (c : Reference) → (wanted ≢ kind.Image → HoldsKind l (c, wanted) × ((wanted ≡ kind.Distribution) ⊎ (wanted ≡ kind.Extremes))) → KeepsTally l wanted c
-  keeps_tally l kind.Image c kept = tt
-  keeps_tally l kind.Distribution c kept = (kept (λ e. cc)).0
-  keeps_tally l kind.Extremes c kept = (kept (λ e. cc)).0
-  keeps_tally l wanted c kept = elim (kept (λ e. cc)).1 [
-    | inl e ↦ absurd (cc e)
-    | inr e ↦ absurd (cc e)
-  ]
+  keeps_tally l wanted c kept = grind (arith, kept)
 
   pub tallies_kept : KeepTallies objects v.steps
   tallies_kept =
@@ -182,28 +155,14 @@ module _ {objects : List NamedObject} {v : Verified} {s : Schedule} (g : CanRunB
 -- a tally of the object that a cell holds
 pub tally_for : (l : List NamedObject) (c : Reference) (old : ObjectValue) (a : ImageValue) (new counted : Tally) → object_at l c ≡ Some old → (object_kind old ≡ kind.Distribution) ⊎ (object_kind old ≡ kind.Extremes)
     → tally_by (object_kind old) old ≡ new ∷ [] → counted ≡ tally_of a new → IsTallyFor l c counted
-tally_for l c (DistributionObject d) a new counted there of own is =
-    let same : tally.Histogram (new_distribution d.bins) ≡ new = cc in
-    let made : counted ≡ tally_of a (tally.Histogram (new_distribution d.bins)) = is ∙ ap (tally_of a) (sym same) in
-    subst (IsTallyFor l c) (sym made) (
-      ap (option_map object_kind) there,
-      ap (λ (o : Option ObjectValue). (distribution_value (unwrap_or o (ImageObject (new_image 0 0 U8)))).bins) (sym there),
-      length-histogram d.bins a,
-    )
-tally_for l c (ExtremesObject x) a new counted there of own is =
-    let same : tally.Extremes no_extremes ≡ new = cc in
-    let made : counted ≡ tally_of a (tally.Extremes no_extremes) = is ∙ ap (tally_of a) (sym same) in
-    subst (IsTallyFor l c) (sym made) (ap (option_map object_kind) there)
-tally_for l c old a new counted there of own is = elim of [
-  | inl e ↦ absurd (cc e)
-  | inr e ↦ absurd (cc e)
-]
+tally_for l c (DistributionObject d) a new counted there of own is = grind (arith, length-histogram d.bins a)
+tally_for l c (ExtremesObject x) a new counted there of own is = grind arith
+tally_for l c old a new counted there of own is = absurd (grind (arith, of))
 
 tallies_each : (l : List NamedObject) (cells : List Reference) (tallies : List Tally) → length cells ≤ length tallies → ((k : ℕ) (d : Reference) → k < length cells → IsTallyFor l (get_or cells k d) (tally_at tallies k))
     → AreTalliesFor l cells tallies
-tallies_each l [] tallies enough each = tt
-tallies_each l (c ∷ cells) [] enough each = absurd (omega (arith, enough))
 tallies_each l (c ∷ cells) (t ∷ tallies) enough each = (each 0 c (omega arith), tallies_each l cells tallies (omega (arith, enough)) (λ k d below. each (suc k) d (omega (arith, below))))
+tallies_each l cells tallies enough each = grind arith
 
 -- ---- moving back
 
@@ -225,15 +184,9 @@ module _ {objects : List NamedObject} {v : Verified} {s : Schedule} (g : CanRunB
   abbrev came : List NamedObject
   came = with_written out (plane_objects clients back)
 
-  holding : HoldImages objects clients
-  holding = hold g
-
-  total : first_client + length clients ≡ length (graph_cells v.steps v.virtual_outputs)
-  total = theirs_count g t leaves
-
   enough_back : length clients ≤ length back
   enough_back =
-      omega (arith, length-drop first_client after, total, leaves.planes_count, (show_all g t leaves).count)
+      omega (arith, length-drop first_client after, theirs_count g t leaves, leaves.planes_count, (show_all g t leaves).count)
 
   planes_for : AreFor objects clients back
   planes_for = for_each objects clients back enough_back each
@@ -255,23 +208,23 @@ module _ {objects : List NamedObject} {v : Verified} {s : Schedule} (g : CanRunB
 
   -- the images come back to cells that hold images of theirs
   pub back_images : HoldImages out clients
-  back_images = taken_images objects clients holding
+  back_images = taken_images objects clients (hold g)
 
   pub back_for : AreFor out clients back
-  back_for = taken_for objects clients holding clients back (λ c i. i) planes_for
+  back_for = taken_for objects clients (hold g) clients back (λ c i. i) planes_for
 
   came_is : came ≡ with_written objects (plane_objects clients back)
-  came_is = out_and_back objects clients back (pairs_of objects g.names) holding planes_for
+  came_is = out_and_back objects clients back (pairs_of objects g.names) (hold g) planes_for
 
   -- the tallies are of objects that are still there
   tally_held : (k : ℕ) → (below : k < length (tally_cells v.steps)) → (r : IsTallied g t leaves k) → object_at came r.cell ≡ Some r.old
   tally_held k below r =
       ap (λ (l : List NamedObject). object_at l r.cell) came_is
-      ∙ same_elsewhere objects (plane_objects clients back) (planes_written objects clients back holding planes_for) r.cell
+      ∙ same_elsewhere objects (plane_objects clients back) (planes_written objects clients back (hold g) planes_for) r.cell
       (last_none r.cell (plane_objects clients back) (λ w i e.
       (let b = image_back clients back w i in
       let cell : r.cell ≡ get_or clients b.0 w.0 = e ∙ ap (λ (x : Reference × ObjectValue). x.0) b.2 in
-      let image : HoldsImage objects r.cell = subst (HoldsImage objects) (sym cell) (holding (get_or clients b.0 w.0) (In-at clients b.0 w.0 b.1)) in
+      let image : HoldsImage objects r.cell = subst (HoldsImage objects) (sym cell) ((hold g) (get_or clients b.0 w.0) (In-at clients b.0 w.0 b.1)) in
       r.other (sym r.kind_is ∙ one_kind (object_at objects r.cell) (object_kind r.old) kind.Image (ap (option_map object_kind) r.held_before) image))))
       (λ delay.
       (let same : object_kind r.old ≡ kind.Delay = one_kind (object_at objects r.cell) (object_kind r.old) kind.Delay (ap (option_map object_kind) r.held_before) delay in

@@ -1,6 +1,6 @@
 -- A step of a node suits its planes, where these are of the descriptions that the node's operands were found to have.
-use Rattle.std.proofs.Common.{◌≡◌, ℕ, true, List, ◌++◌, Option, Some, None, IfSome, sym, ap, subst, ◌∙◌, inl, inr, arith, is_some, is_none, if◌then◌else◌, option_map, option_and_then, option_to_list, unwrap_or}
-use Rattle.graph_run.proofs.Common.{list_all, and_parts, Function, Kind, Node, Reference, Output, Description, ImageValue, IsNode, optional_cells, outputs, parameters, second_kind, ObjectValue, ImageObject, IsObject, object_kind, object_format, operand_of, operand_format, are_of_one_size, node_fault, operands_of, Operand, Image, SecondHasSize, In}
+use Rattle.std.proofs.Common.{◌≡◌, ℕ, true, List, Option, Some, None, IfSome, sym, ap, subst, ◌∙◌, inl, inr, arith, is_some, is_none, if◌then◌else◌, option_map, option_and_then, option_to_list, unwrap_or}
+use Rattle.graph_run.proofs.Common.{list_all, and_parts, Function, Kind, Node, Reference, Output, Description, ImageValue, IsNode, optional_cells, outputs, parameters, second_kind, ObjectValue, ImageObject, IsObject, object_kind, object_format, operand_of, operand_format, are_of_one_size, node_fault, operands_of, Operand, Image, SecondHasSize, In, In-append}
 use Rattle.vx_base.specs.declared.kind.Kind.TheVariants as kind
 use Rattle.vx_base.specs.Convolution.{ConvolutionValue}
 use Rattle.std.proofs.lemmas.List.Folds.{list_all-append}
@@ -9,23 +9,12 @@ use Rattle.graph_verify.proofs.SuitLemmas.{Suits as SuitsOutput, met, no_fault_s
 use Rattle.graph_steps.specs.declared.step.SecondSource.TheVariants.{Table}
 use Rattle.graph_steps.specs.Steps.{CanMake, Covers, Suits, blank_image, second_in, step_radius}
 use Rattle.graph_run.specs.Tasks.{source, step_for}
-use Rattle.graph_run.proofs.RunLemmas.{has_of_node, same_formats}
+use Rattle.graph_run.proofs.RunLemmas.{object_fits, has_of_node, same_formats}
 
 -- ---- operands
 
--- an image of the size of another
-fits_size : (a : ImageValue) (object : ObjectValue) → are_of_one_size (operand_of (ImageObject a)) (operand_of object) ≡ true → SecondHasSize a (Some object)
-fits_size a other e = grind arith
-
--- what both operands have, as far as they are there, each that is there has
-one_of_both : (P : Operand → Type 0) (is : Reference → Operand) (a b : Option Reference) (o : Reference) → In o (optional_cells a ++ optional_cells b) → IfSome (option_map is a) P → IfSome (option_map is b) P → P (is o)
-one_of_both P is None None o i one two = elim i [ ]
-one_of_both P is (Some x) b o (inl e) one two = subst (λ (c : Reference). P (is c)) (sym e) one
-one_of_both P is (Some x) (Some y) o (inr (inl e)) one two = subst (λ (c : Reference). P (is c)) (sym e) two
-one_of_both P is (Some x) (Some y) o (inr (inr i)) one two = elim i [ ]
-one_of_both P is (Some x) None o (inr i) one two = elim i [ ]
-one_of_both P is None (Some y) o (inl e) one two = subst (λ (c : Reference). P (is c)) (sym e) two
-one_of_both P is None (Some y) o (inr i) one two = elim i [ ]
+pub in_given : (o : Option Reference) (c : Reference) → In c (optional_cells o) → o ≡ Some c
+in_given o c i = grind arith
 
 -- the second input is of the first one's size
 second_sized : (function : Function) (o : Operand) (second first_out second_out : Option Operand) → node_fault function (record { in1 = o; in2 = second; out1 = first_out; out2 = second_out }) ≡ None
@@ -33,8 +22,7 @@ second_sized : (function : Function) (o : Operand) (second first_out second_out 
 second_sized function o second first_out second_out h = grind (arith, met, passed, and_parts, list_all-append)
 
 sized : (a : ImageValue) (second : Option ObjectValue) → list_all (are_of_one_size (operand_of (ImageObject a))) (option_to_list (option_map operand_of second)) ≡ true → SecondHasSize a second
-sized a None h = tt
-sized a (Some object) h = fits_size a object (and_parts (are_of_one_size (operand_of (ImageObject a)) (operand_of object)) true h).0
+sized a second h = grind (arith, object_fits)
 
 -- a second input is what the function has there
 wanted_second : (s : Option Kind) (cell : Option Reference) (second : Option ObjectValue) (operand : Option Operand) (found : Reference → Operand) → (if is_some s then is_some cell else is_none cell) ≡ true
@@ -43,32 +31,32 @@ wanted_second s cell second operand found has same is_kind = grind arith
 
 -- ---- a step
 
--- a second input that is this operand of a node, of the kind that the node's function has there
-pub record SecondStands (n : Node) (wanted : Option Operand) (rows : Option ConvolutionValue) (second : Option ObjectValue) : Type 0 where
+-- a second input that is this operand of a node, of this kind
+pub record SecondStands (k : Kind) (wanted : Option Operand) (rows : Option ConvolutionValue) (second : Option ObjectValue) : Type 0 where
   pub operand : option_map operand_of second ≡ wanted
-  pub kind : IfSome second (λ object. object_kind object ≡ second_kind n)
+  pub kind : IfSome second (λ object. object_kind object ≡ k)
   pub matrix : matrix_in second ≡ rows
 
 module _ (known : Reference → Operand) (n : Node) (node : IsNode n) (none : node_fault n.function (operands_of known n) ≡ None)
     (o : Reference) (written : In o (outputs n)) (first out : Description) (in1 : known n.in1 ≡ Image first) (output : known o ≡ Image out)
-    (matrix : Option ConvolutionValue) (second : Option ObjectValue) (stands : SecondStands n (option_map known n.in2) matrix second) where
+    (matrix : Option ConvolutionValue) (second : Option ObjectValue) (stands : SecondStands (second_kind n) (option_map known n.in2) matrix second) where
   suits_output : SuitsOutput n.function (known n.in1) (option_and_then operand_format (option_map known n.in2)) (known o)
   suits_output =
       let both = no_fault_suits n.function (operands_of known n) none in
-      one_of_both (SuitsOutput n.function (known n.in1) (option_and_then operand_format (option_map known n.in2))) known n.out1 n.out2 o written both.0 both.1
+      elim (In-append o (optional_cells n.out1) (optional_cells n.out2) written) [
+        | inl one ↦ rw (in_given n.out1 o one) at both.0
+        | inr two ↦ rw (in_given n.out2 o two) at both.1
+      ]
 
   found : SuitsOutput n.function (Image first) (option_and_then object_format second) (Image out)
   found =
-      subst (λ (x : Operand). SuitsOutput n.function x (option_and_then object_format second) (Image out)) in1
-      (subst (λ (x : Operand). SuitsOutput n.function (known n.in1) (option_and_then object_format second) x) output
-      (subst (λ f. SuitsOutput n.function (known n.in1) f (known o)) (ap (option_and_then operand_format) (sym stands.operand) ∙ same_formats second) suits_output))
+      let formats : option_and_then operand_format (option_map known n.in2) ≡ option_and_then object_format second = ap (option_and_then operand_format) (sym stands.operand) ∙ same_formats second in
+      rw (in1, output, formats) at suits_output
 
   second_size : SecondHasSize (blank_image first) second
   second_size =
       sized (blank_image first) second
-      (subst (λ (x : Operand). list_all (are_of_one_size x) (option_to_list (option_map operand_of second)) ≡ true) in1
-      (subst (λ (x : Option Operand). list_all (are_of_one_size (known n.in1)) (option_to_list x) ≡ true) (sym stands.operand)
-      (second_sized n.function (known n.in1) (option_map known n.in2) (option_map known n.out1) (option_map known n.out2) none)))
+      (rw (in1, ← stands.operand) at (second_sized n.function (known n.in1) (option_map known n.in2) (option_map known n.out1) (option_map known n.out2) none))
 
   second_wanted : IfSome second (λ object. (parameters n.function).second_input ≡ Some (object_kind object))
   second_wanted =
@@ -77,7 +65,7 @@ module _ (known : Reference → Operand) (n : Node) (node : IsNode n) (none : no
 
   module _ (cells : List Reference) (slots : List ℕ) (radius : Node → ℕ) (at : ℕ) (which : Output) where
     can_make : CanMake (step_for cells slots radius at n which o) (blank_image first) second out
-    can_make = record { node = node; kind = second_wanted; formats = found.formats; size = fits_size (blank_image first) (ImageObject (blank_image out)) found.size; second_size = second_size }
+    can_make = record { node = node; kind = second_wanted; formats = found.formats; size = object_fits (blank_image first) (ImageObject (blank_image out)) found.size; second_size = second_size }
 
     -- the step suits planes of these descriptions
     pub step_suits : (tables : ℕ → Option ObjectValue) (high : ℕ) (elsewhere : Description) → second ≡ second_in tables (λ _. blank_image elsewhere) (source cells at (second_kind n) n.in2)

@@ -6,7 +6,7 @@ use Rattle.graph_verify.specs.Rounds.{round, rounds, step, one_pass, ReadsAlone}
 use Rattle.graph_verify.proofs.LinkLemmas.{two_writers-after, written_once}
 use Rattle.graph_run.proofs.LinkLaws.{reads_first, reads_second}
 use Rattle.graph_run.proofs.HeldLaws.{kind-form_seen}
-use Rattle.graph_run.proofs.NodeLaws.{output_at, output_of, given_to, given_from, given_in, output_of_again, form-output_of}
+use Rattle.graph_run.proofs.NodeLaws.{output_at, output_of, given_to, given_from, given_in, form-output_of}
 use Rattle.graph_run.proofs.RoundLaws.{round_written, round_other}
 
 -- what a node gives to its outputs as they were at first
@@ -36,7 +36,7 @@ module _ (nodes : List Node) (start : Reference → Option ObjectValue) where
   -- each cell is left as it is, or gets what a node gives it
   Follows-next : OneWriter writes nodes → (now next : Reference → Option ObjectValue) → Follows nodes start now
       → ((c : Reference) → (next c ≡ now c) ⊎ ((n : Node) × In n nodes × (writes n c ≡ true) × (next c ≡ given_first start n now c))) → Follows nodes start next
-  Follows-next one now next f h = grind (arith, form-output_of, output_of_again, same_kinds)
+  Follows-next one now next f h = grind (arith, form-output_of, same_kinds)
 
   Follows-round : OneWriter writes nodes → (now : Reference → Option ObjectValue) → Follows nodes start now → Follows nodes start (round writes (given_first start) nodes now)
   Follows-round one now f = grind (arith, Follows-next, cases_Bool, In-from_any, round_written, round_other)

@@ -39,19 +39,16 @@ kind_found x operand wanted e is_kind = grind arith
 
 -- the virtual images that the nodes of a verified graph write
 module _ (is : Reference → Operand) (nodes : List Node) (v : Verified) (how : IsVerified is nodes v) where
-  abbrev written : List VirtualOutput
-  written = v.virtual_outputs
-
-  pub output_known : (o : VirtualOutput) → In o written → resolved_operand is nodes o.cell ≡ Image o.desc
-  output_known o i = In-from_All (λ (p : VirtualOutput). resolved_operand is nodes p.cell ≡ Image p.desc) written how.descriptions o i
+  pub output_known : (o : VirtualOutput) → In o v.virtual_outputs → resolved_operand is nodes o.cell ≡ Image o.desc
+  output_known o i = In-from_All (λ (p : VirtualOutput). resolved_operand is nodes p.cell ≡ Image p.desc) v.virtual_outputs how.descriptions o i
 
   -- each virtual image that the nodes write is an output
   pub in_outputs : (cell : Reference) → is_written nodes cell ≡ true → is_virtual_operand (is cell) ≡ true
-      → (o : VirtualOutput) × In o written × (cell ≡ o.cell)
+      → (o : VirtualOutput) × In o v.virtual_outputs × (cell ≡ o.cell)
   in_outputs cell by_node virtual =
       let writer = In-from_any (λ m. writes m cell) nodes by_node in
       let out = In-outputs writer.0 cell v.steps (AllIn-permutation nodes v.steps how.order.same_nodes writer.0 writer.1) writer.2 in
-      In-from_map (λ (p : VirtualOutput). p.cell) cell written
+      In-from_map (λ (p : VirtualOutput). p.cell) cell v.virtual_outputs
       (subst (λ l. In cell l) (sym how.cells) (In-filter (λ c. is_virtual_operand (is c)) cell (flat_map outputs v.steps) out virtual))
 
 module _ (objects : List NamedObject) (nodes : List Node) (v : Verified) (work : ℕ) (how : IsVerified (operand_held objects) nodes v)
@@ -61,9 +58,6 @@ module _ (objects : List NamedObject) (nodes : List Node) (v : Verified) (work :
 
   abbrev pub known : Reference → Operand
   known = resolved_operand is nodes
-
-  abbrev pub steps : List Node
-  steps = v.steps
 
   pub can : CanRun work is nodes
   can = can_run work is nodes runs
@@ -104,5 +98,4 @@ module _ (objects : List NamedObject) (nodes : List Node) (v : Verified) (work :
 
 -- names that increase, each below all later ones
 pub pairs_of : (objects : List NamedObject) → IsStrictlyIncreasing (names_of objects) → AllPairs (λ a b. a.name < b.name) objects
-pairs_of objects h i j d less within =
-    grind (arith, AllPairs-from_increasing (names_of objects) h i j 0 less (omega (arith, within, length-map objects (λ (o : NamedObject). o.name))), names_of objects, length-map objects (λ (o : NamedObject). o.name), get_or-map (λ (o : NamedObject). o.name) objects i d 0 (omega (arith, less, within)), get_or-map (λ (o : NamedObject). o.name) objects j d 0 within)
+pairs_of objects h i j d less within = grind (arith, AllPairs-from_increasing (names_of objects) h i j 0 less, names_of objects, length-map objects (λ (o : NamedObject). o.name), get_or-map (λ (o : NamedObject). o.name) objects i d 0, get_or-map (λ (o : NamedObject). o.name) objects j d 0 within)

@@ -1,5 +1,5 @@
 -- The tasks of a graph: the fields of a program that its plan and its order give.
-use Rattle.std.proofs.Common.{◌≡◌, ◌≢◌, ℕ, ◌<◌, ◌≤◌, Bool, true, false, List, [], ◌∷◌, length, map, refl, sym, ap, subst, ◌∙◌, inl, inr, arith, Option, Some, None, ◌+◌, ◌-◌, ◌++◌, get_or}
+use Rattle.std.proofs.Common.{◌≡◌, ◌≢◌, ℕ, ◌<◌, ◌≤◌, Bool, true, false, List, [], ◌∷◌, length, map, refl, sym, ap, subst, ◌∙◌, inl, inr, arith, Some, None, ◌+◌, ◌-◌, ◌++◌, get_or}
 use Rattle.std.proofs.lemmas.List.{get_or-append_right, get_or-map, length-append, length-map}
 use Rattle.graph_run.proofs.Common.{flat_map, ImageValue, IsImage, Node, Reference, VirtualOutput, PlanView, slot_index_of, accumulates, outputs, In, In-from_filter}
 use Rattle.graph_steps.specs.declared.step.Step.{Step}
@@ -10,35 +10,31 @@ use Rattle.graph_run.proofs.Common.{In-at, NamedObject, image_held}
 use Rattle.graph_steps.specs.Program.{AreFree, AreInOrder, HaveOneWriter, IsClient, IsStepOf, KeepsBlock, IsLive, IsUnwritten, NamesPlanes}
 use Rattle.graph_steps.specs.Steps.{ReadsPlane}
 use Rattle.graph_run.specs.Bind.{image_plane, image_planes}
-use Rattle.graph_run.specs.Cells.{images_named, index_of}
+use Rattle.graph_run.specs.Cells.{index_of}
 use Rattle.graph_run.specs.Tasks.{AreNamed, AreReadAfter, AreReadWithin, AreUntaken, HaveTasks, TakeTurns, graph_cells, graph_tasks, previous_holder}
-use Rattle.graph_run.proofs.IndexLemmas.{added_behind, index_below, index_right}
+use Rattle.graph_run.proofs.IndexLemmas.{cells_parts, index_below, index_right}
 use Rattle.graph_run.proofs.SlotLemmas.{planned_slots}
 use Rattle.graph_run.proofs.TaskLemmas.{turns_kept, turns_take}
 use Rattle.graph_run.proofs.ProgramLemmas.{all_named, image_named, one_writer_each, read_after, step_node, turns_begin}
 use Rattle.graph_run.proofs.FreeLemmas.{by_all, graph_free, graph_turns, read_there}
+use Rattle.graph_run.specs.Program.{client_cells}
 
 -- ---- one of the tasks
 
-reads_in : (count : ℕ) (tasks : List Task) (s : Step) → AreReadWithin count tasks → IsStepOf s tasks → (c : ℕ) → ReadsPlane s c → c < count
-reads_in count [] s within i c read = elim i [ ]
-reads_in count (Reduce r ∷ later) s within i c read = reads_in count later s within.1 i c read
-reads_in count (Write w ∷ later) s within (inl e) c read = within.0 c (subst (λ (x : Step). ReadsPlane x c) e read)
-reads_in count (Write w ∷ later) s within (inr i) c read = reads_in count later s within.1 i c read
-
-reads_other : (tasks : List Task) (s : Step) → AreReadAfter tasks → IsStepOf s tasks → (c : ℕ) → ReadsPlane s c → c ≢ s.output
-reads_other [] s after i c read = elim i [ ]
-reads_other (Reduce r ∷ later) s after i c read = reads_other later s after.1 i c read
-reads_other (Write w ∷ later) s after (inl e) c read = λ same. after.0 c (subst (λ (x : Step). ReadsPlane x c) e read) s (inl e) (sym same)
-reads_other (Write w ∷ later) s after (inr i) c read = reads_other later s after.1 i c read
-
-reads_untaken : (tasks : List Task) (s : Step) → AreUntaken tasks → IsStepOf s tasks → (c : ℕ) → ReadsPlane s c → s.takes ≢ Some c
-reads_untaken [] s untaken i c read = elim i [ ]
-reads_untaken (Reduce r ∷ later) s untaken i c read = reads_untaken later s untaken i c read
-reads_untaken (Write w ∷ later) s untaken (inl e) c read = λ takes. untaken.0 c (subst (λ (x : Step). ReadsPlane x c) e read) (ap (λ (x : Step). x.takes) (sym e) ∙ takes)
-reads_untaken (Write w ∷ later) s untaken (inr i) c read = reads_untaken later s untaken.1 i c read
+reads_one : (count : ℕ) (tasks : List Task) (s : Step) → AreReadWithin count tasks → AreReadAfter tasks → AreUntaken tasks → IsStepOf s tasks → (c : ℕ) → ReadsPlane s c → (c < count) × (c ≢ s.output) × (s.takes ≢ Some c)
+reads_one count [] s within after untaken i c read = absurd i
+reads_one count (Reduce r ∷ later) s within after untaken i c read = reads_one count later s within.1 after.1 untaken i c read
+reads_one count (Write w ∷ later) s within after untaken (inl e) c read =
+    let r : ReadsPlane w c = rw e at read in
+    (within.0 c r, λ same. after.0 c r s (inl e) (sym same), λ takes. untaken.0 c r (ap (λ (x : Step). x.takes) (sym e) ∙ takes))
+reads_one count (Write w ∷ later) s within after untaken (inr i) c read = reads_one count later s within.1 after.1 untaken.1 i c read
 
 -- ---- a graph
+
+-- the virtual images are among the cells
+pub virtuals_below : (steps : List Node) (outs : List VirtualOutput) → length outs ≤ length (graph_cells steps outs)
+virtuals_below steps outs =
+    omega (arith, ap length (cells_parts steps outs), length-append (map (λ (o : VirtualOutput). o.cell) outs) (client_cells steps outs), length-map outs (λ (o : VirtualOutput). o.cell))
 
 module _ (steps : List Node) (outs : List VirtualOutput) (p : PlanView) (is_virtual : Reference → Bool) (have : HaveTasks steps outs p is_virtual) (radius : Node → ℕ) where
   abbrev virtual : List Reference
@@ -74,22 +70,15 @@ module _ (steps : List Node) (outs : List VirtualOutput) (p : PlanView) (is_virt
   pub begins : (c : ℕ) → IsLive (KeepsBlock count tasks) tasks c → IsUnwritten tasks c × KeepsBlock count tasks c
   begins = turns_begin (map (slot_index_of p) outs) tasks count turns after within
 
-  -- there are no more virtual images than planes
-  virtual_count : length (map (slot_index_of p) outs) ≤ count
-  virtual_count =
-      let behind = added_behind virtual (images_named steps) in
-      omega (arith, ap length behind.1, length-append virtual behind.0, length-map outs (slot_index_of p), length-map outs (λ (o : VirtualOutput). o.cell))
-
   -- what accumulates takes no block
   adds_whole : (s : Step) → IsStepOf s tasks → accumulates s.node.function ≡ true → s.takes ≡ None
   adds_whole s i adds =
       let of = step_node (graph_cells steps outs) (map (slot_index_of p) outs) radius steps 0 0 s i in
-      let behind = added_behind virtual (images_named steps) in
       let adds_there : accumulates of.node.function ≡ true = ap (λ (x : Step). accumulates x.node.function) (sym of.is) ∙ adds in
       let client : is_virtual of.cell ≡ false = have.adds of.node of.inside adds_there of.cell of.written in
-      let outside = λ (j : In of.cell virtual). (let k = In-from_filter is_virtual of.cell (flat_map outputs steps) (subst (In of.cell) have.order j) in let clash : true ≡ false = sym k.1 ∙ client in let no : ⊥ = cc in no) in
+      let outside = λ (j : In of.cell virtual). (let k = In-from_filter is_virtual of.cell (flat_map outputs steps) (subst (In of.cell) have.order j) in let no : ⊥ = cc (k.1, client) in no) in
       let above : length virtual ≤ index_of (graph_cells steps outs) of.cell =
-      subst (λ (l : List Reference). length virtual ≤ index_of l of.cell) (sym behind.1) (index_right virtual behind.0 of.cell outside) in
+      subst (λ (l : List Reference). length virtual ≤ index_of l of.cell) (sym (cells_parts steps outs)) (index_right virtual (client_cells steps outs) of.cell outside) in
       let high : length (map (slot_index_of p) outs) ≤ index_of (graph_cells steps outs) of.cell = omega (arith, above, length-map outs (slot_index_of p), length-map outs (λ (o : VirtualOutput). o.cell)) in
       let none : previous_holder (map (slot_index_of p) outs) (index_of (graph_cells steps outs) of.cell) ≡ None = grind (arith, high) in
       ap (λ (x : Step). x.takes) of.is ∙ none
@@ -99,10 +88,10 @@ module _ (steps : List Node) (outs : List VirtualOutput) (p : PlanView) (is_virt
       let of = step_node (graph_cells steps outs) (map (slot_index_of p) outs) radius steps 0 0 s i in
       record {
         output = subst (λ (x : Step). x.output < count) (sym of.is) (index_below (graph_cells steps outs) of.cell (named of.node of.inside of.cell (image_named of.node of.cell of.image of.written)));
-        reads = λ c read. (reads_in count tasks s within i c read, reads_other tasks s after i c read, reads_untaken tasks s both_free.1 i c read);
+        reads = reads_one count tasks s within after both_free.1 i;
         taken = λ from e. (elim (turns_take (map (slot_index_of p) outs) 0 tasks turns s i) [
-          | inl none ↦ (let clash : ◌≡◌ {A = Option ℕ} None (Some from) = sym none.1 ∙ e in absurd (cc clash))
-          | inr some ↦ (let same : ◌≡◌ {A = Option ℕ} (Some some.1.0) (Some from) = sym some.1.2 ∙ e in let one : some.1.0 ≡ from = cc in omega (arith, some.1.1, one, virtual_count))
+          | inl none ↦ absurd (cc (none.1, e))
+          | inr some ↦ (let one : some.1.0 ≡ from = cc (some.1.2, e) in omega (arith, some.1.1, one, virtuals_below steps outs, length-map outs (slot_index_of p)))
         ]);
         own = adds_whole s i;
       }
@@ -110,7 +99,7 @@ module _ (steps : List Node) (outs : List VirtualOutput) (p : PlanView) (is_virt
   pub written : (s : Step) → IsStepOf s tasks → s.takes ≡ None → KeepsBlock count tasks s.output
   written s i none = elim (turns_take (map (slot_index_of p) outs) 0 tasks turns s i) [
     | inl client ↦ turns_kept (map (slot_index_of p) outs) tasks turns count s.output client.0 (steps_within s i).output
-    | inr some ↦ (let clash : ◌≡◌ {A = Option ℕ} None (Some some.1.0) = sym none ∙ some.1.2 in absurd (cc clash))
+    | inr some ↦ absurd (cc (none, some.1.2))
   ]
 
   in_order : (all : List Task) → AreReadAfter all → AreInOrder all
@@ -134,8 +123,5 @@ client_planes planes objects cells are k above below =
     let small : at < length cells = omega (arith, above, below) in
     let none : Reference = record { name = 0; slot = None } in
     let c : Reference = get_or cells at none in
-    subst IsClient
-    (sym
-    (get_or-append_right planes (image_planes objects cells) (length planes) k no_plane refl above
-    ∙ get_or-map (λ (x : Reference). image_plane (image_held objects x)) cells at none no_plane small))
+    rw (get_or-append_right planes (image_planes objects cells) (length planes) k no_plane refl above, get_or-map (λ (x : Reference). image_plane (image_held objects x)) cells at none no_plane small)
     (client_plane (image_held objects c) (are c (In-at cells at none small)))

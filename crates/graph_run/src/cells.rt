@@ -81,6 +81,7 @@ fn position_of(cells: &[ObjRef], cell: ObjRef) -> Option<usize>
 }
 
 /// Returns the first index of a reference, or the length of the list if the reference isn't in it.
+#[tactic(auto, using(crate::proofs::IndexLemmas::index_found, crate::proofs::IndexLemmas::index_none))]
 pub fn index_of(cells: &[ObjRef], cell: ObjRef) -> usize
     ensures { result ≡ index_of cells.now cell }
 {

@@ -22,6 +22,7 @@ ghost use Rattle.graph_run.specs.Operands.{CellsStand};
 ghost use Rattle.graph_run.specs.Solution.{WritesNo, ReadImages, Solves};
 
 /// Running each node once, after the nodes that feed it, gives the result of the rounds.
+#[tactic(auto, using(crate::proofs::OrderLaws::order_gives_rounds))]
 pub fn once_in_order()
     ensures { (nodes steps : List Node) (objects : List NamedObject) → IsOrder feeds nodes steps →
         two_writers nodes ≡ false →
@@ -31,6 +32,7 @@ pub fn once_in_order()
 
 /// If a graph has no cycle and no object has two writers, then the result of the rounds is the only
 /// solution of the nodes' equations.
+#[tactic(auto, using(crate::proofs::SolutionLaws::only_solution))]
 pub fn rounds_solve()
     ensures solves { (nodes : List Node) (before : List NamedObject) → two_writers nodes ≡ false →
         has_cycle feeds nodes ≡ false →
@@ -45,6 +47,7 @@ pub fn rounds_solve()
 {}
 
 /// A run of a graph with one node writes the same values as a run of the node alone.
+#[tactic(auto, using(crate::proofs::BegunLaws::one_node))]
 pub fn run_of_one_node()
     ensures { (is : Reference → Operand) (n : Node) (objects : List NamedObject) →
         AllPairs (λ a b. a.name < b.name) objects →
@@ -53,6 +56,7 @@ pub fn run_of_one_node()
 {}
 
 /// The order in which nodes are added doesn't change the result of a run.
+#[tactic(auto, using(crate::proofs::AddingLaws::same_graph))]
 pub fn added_in_any_order()
     ensures { (is : Reference → Operand) (nodes others : List Node) (objects : List NamedObject) →
         IsPermutation nodes others → two_writers nodes ≡ false →
@@ -64,6 +68,7 @@ pub fn added_in_any_order()
 /// If a graph's verdict is `None`, each node can run when its turn comes. The verdict on each node
 /// alone, with its resolved operands, is `None`. After any of the nodes have run, all objects still
 /// match their resolved operands.
+#[tactic(auto, using(crate::proofs::TurnLaws::each_alone, crate::proofs::TurnLaws::at_its_turn))]
 pub fn each_at_its_turn()
     ensures alone { (work : ℕ) (is : Reference → Operand) (nodes : List Node) (n : Node) →
         verdict work is nodes ≡ None → In n nodes →
@@ -77,6 +82,7 @@ pub fn each_at_its_turn()
 
 /// If a graph's verdict is `None`, a run gives the same result as running each node once, in an
 /// order in which the nodes can run. Virtual images are restored at the end.
+#[tactic(auto, using(crate::proofs::TurnLaws::run_in_order))]
 pub fn runs_in_order()
     ensures { (work : ℕ) (is : Reference → Operand) (nodes steps : List Node)
         (objects : List NamedObject) →

@@ -43,6 +43,7 @@ impl OutputPlanes {
 /// Moves the samples of a node's output images from the table to planes, if the node's function
 /// writes images. An output stays in the table unless it is a non-virtual image with a live name.
 /// If both outputs are one image, its samples move to the second plane. Allocates nothing.
+#[tactic(auto, using(crate::proofs::LendLemmas::lent_lasts))]
 pub fn lend_outputs(table: &mut Table, node: &Node) -> OutputPlanes
     requires { IsStrictlyIncreasing (map (λ o. o.name) table.old.objects) }
     ensures lent { LendsOutputs table.old table.new node.now result }

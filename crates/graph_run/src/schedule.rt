@@ -43,6 +43,7 @@ pub struct Schedule {
 
 /// Returns the schedule of a verified graph, with the slots of a plan. An error means that there is
 /// no memory for the schedule.
+#[tactic(auto, using(crate::proofs::WithinLemmas::virtuals_below))]
 pub fn schedule_of(
     alloc: Global,
     table: &Table,

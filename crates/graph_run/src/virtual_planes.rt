@@ -44,6 +44,7 @@ pub fn add_virtual(
 
 /// Returns the block that the virtual image at index `k` has before a run. The last image in a slot
 /// has the slot's block. Every other image has an empty block.
+#[tactic(auto, using(crate::proofs::VirtualLemmas::first_taken))]
 fn first_block(alloc: Global, slots: &[usize], k: usize, blocks: &mut [Block]) -> Samples
     requires there { k < length slots.now }
     requires within { slice_index_or slots.now k 0 < length blocks.old }

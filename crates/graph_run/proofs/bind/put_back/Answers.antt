@@ -3,7 +3,7 @@ use Rattle.std.proofs.lemmas.List.{drop_more, drop-set-lt, length-set}
 use Rattle.graph_run.proofs.Common.{Context, with_written}
 use Rattle.graph_run.specs.Bind.{plane_objects}
 use Rattle.graph_run.proofs.ListLemmas.{rest_at}
-use Rattle.graph_run.proofs.BindLemmas.{next_context, for_length, first_can, next_can, next_written}
+use Rattle.graph_run.proofs.BindLemmas.{CanPut, next_context, for_length, next_can, next_written}
 use Rattle.graph_run.proofs.bind.put_back.Goals as goal
 
 pub loop-at-preserved : goal.loop-at-preserved
@@ -19,7 +19,7 @@ loop-at-preserved c =
     let cell_at : drop k cells ≡ cell ∷ drop (k + 1) cells = rest_at cells k cell cell c.loop-at-test.true c.index-cells-at.is in
     let below : k < length planes = omega (arith, c.loop-at-test.true, c.loop-at.auto.planes, for_length _ _ _ c.requires.planes) in
     let plane_at : drop k planes ≡ plane ∷ drop (k + 1) planes = drop_more planes k c.index-planes-at.result below in
-    let can = first_can t.objects cells planes k cell plane cell_at plane_at inv.can in
+    let can : CanPut t.objects (cell ∷ drop (k + 1) cells) (plane ∷ drop (k + 1) planes) = rw (cell_at, plane_at) at inv.can in
     let left : after.objects ≡ _ = ap (λ (x : Context). x.objects) c.put_image.ensures in
     let others = drop (k + 1) cells in
     let later = drop (k + 1) planes in

@@ -24,15 +24,7 @@ loop-cell-preserved c =
       can = subst (λ (o : List NamedObject). CanTake o others) (sym left) (taken_can t.objects cell others can);
       room = omega (arith, ap length pushed, length_push planes (image_plane (image_held t.objects cell)), ap length e, inv.room, c.push_reserved.ensures.capacity);
       capacity = c.push_reserved.ensures.capacity ∙ inv.capacity;
-      planes =
-          ap (λ l. l ++ image_planes after.objects others) pushed
-          ∙ ap (λ (o : List NamedObject). (planes ++ image_plane (image_held t.objects cell) ∷ []) ++ image_planes o others) left
-          ∙ append_assoc planes (image_plane (image_held t.objects cell) ∷ []) _
-          ∙ ap (λ l. planes ++ l) (sym (taken_planes t.objects cell others can))
-          ∙ before;
+      planes = grind (arith, pushed, left, append_assoc planes (image_plane (image_held t.objects cell) ∷ []) (image_planes after.objects others), taken_planes t.objects cell others can, before);
       next = next_context c.args.table.now t after _ inv.next c.take_image-plane.ensures.left;
-      written =
-          ap (λ (o : List NamedObject). with_written o (bare_images o others)) left
-          ∙ sym (taken_written t.objects cell others can)
-          ∙ written;
+      written = grind (arith, left, taken_written t.objects cell others can, written);
     }

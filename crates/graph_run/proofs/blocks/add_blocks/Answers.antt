@@ -1,7 +1,7 @@
-use Rattle.std.proofs.Common.{◌≡◌, ℕ, ◌+◌, [], ◌∷◌, ◌++◌, List, length, map, ap, get_or, refl, sym, subst, ◌∙◌, arith}
-use Rattle.graph_run.proofs.Common.{Format, U8, lent_of, Samples}
+use Rattle.std.proofs.Common.{◌≡◌, ℕ, [], ◌∷◌, ◌++◌, length, map, ap, get_or, refl, ◌∙◌, arith}
+use Rattle.graph_run.proofs.Common.{Format, U8, Samples}
 use Rattle.std.proofs.lemmas.List.{length_push}
-use Rattle.graph_run.specs.Blocks.{blocks_of_format, block_size}
+use Rattle.graph_run.specs.Blocks.{block_size}
 use Rattle.graph_run.proofs.BlockLemmas.{lends_more, capacities_left, sizes_more, taken_adds}
 use Rattle.graph_run.proofs.blocks.add_blocks.Goals as goal
 
@@ -19,9 +19,7 @@ loop-k-preserved c =
     record {
       room = omega (arith, ap length pushed, length_push blocks b, c.loop-k.invariant.room, c.push_reserved.ensures.capacity, c.loop-k-test.true);
       capacities = ap (map block_size) pushed ∙ sizes_more capacities blocks b k r d c.loop-k-test.true refl c.loop-k.invariant.capacities taken.format taken.count;
-      lends = λ f.
-          subst (λ (l : List Samples). lent_of c.take.new.self f ≡ lent_of c.args.pool.now f + blocks_of_format l f) (sym pushed)
-          (lends_more blocks b r.0 taken.format c.args.pool.now pool c.take.new.self f taken.lends.lends (c.loop-k.invariant.lends f));
+      lends = λ f. grind (arith, pushed, lends_more blocks b r.0 taken.format c.args.pool.now pool c.take.new.self f taken.lends.lends (c.loop-k.invariant.lends f));
       adds = λ f.
           omega (arith, taken_adds pool c.take.new.self r.0 taken.lends.lends taken.lends.most taken.lends.other_free f, capacities_left capacities k r d c.loop-k-test.true refl f, c.loop-k.invariant.adds f);
     }

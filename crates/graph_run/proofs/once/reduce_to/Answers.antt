@@ -1,19 +1,10 @@
-use Rattle.std.proofs.Common.{◌∙◌, ap, sym, subst}
-use Rattle.graph_run.proofs.Common.{ImageValue, IsImage, with_object, with_objects}
+use Rattle.std.proofs.Common.{◌∙◌, ap}
+use Rattle.graph_run.proofs.Common.{ImageValue, with_object, with_objects}
 use Rattle.graph_steps.specs.declared.tally.Tally.{Tally}
 use Rattle.graph_steps.specs.Tallies.{tally_of}
-use Rattle.graph_run.specs.Bound.{IsTallyFor}
 use Rattle.graph_run.specs.Results.{tally_object}
-use Rattle.graph_run.proofs.OnceLemmas.{is_for, reads, tally_written}
+use Rattle.graph_run.proofs.OnceLemmas.{tally_written}
 use Rattle.graph_run.proofs.once.reduce_to.Goals as goal
-
-pub image-requires-2 : goal.image-requires-2
-image-requires-2 c = subst IsImage (sym c.image.ensures) (reads c.args.table.now.objects c.args.node.now c.args.output c.requires.runs).image
-
-pub set_tally-requires : goal.set_tally-requires
-set_tally-requires c =
-    subst (IsTallyFor c.args.table.now.objects c.args.output) (sym (c.add_all.ensures ∙ ap (λ (i : ImageValue). tally_of i c.tally_for-tally.result) (c.image-2.ensures ∙ c.image.ensures)))
-    (is_for c.args.table.now c.args.node.now c.args.output c.requires.runs c.args.wanted c.requires.wanted c.requires.other c.tally_for-tally.result c.tally_for-tally.ensures)
 
 pub returns : goal.returns
 returns c = λ which.

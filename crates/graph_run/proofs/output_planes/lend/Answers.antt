@@ -1,6 +1,5 @@
 use Rattle.std.proofs.Common.{◌≡◌, Option, Some, refl, sym, subst, rules}
 use Rattle.graph_run.proofs.Common.{Reference, image_held}
-use Rattle.graph_steps.specs.Planes.{whole_plane}
 use Rattle.graph_run.specs.Bind.{image_plane}
 use Rattle.graph_run.specs.OutputPlanes.{LendsOutput}
 use Rattle.graph_run.proofs.LendLemmas.{image_lent}

@@ -30,33 +30,12 @@ left_by objects bare ns steps ts tasks ps planes after ls tallies counted o n t 
 -- the blocks, after they were lent as a slice
 blocks_back : (old lent between new : List Samples) (len : ℕ) → lent ≡ old → map samples_format between ≡ map samples_format lent → map samples_format new ≡ map samples_format between → len ≡ length old
     → map samples_format (take len (new ++ drop (length new) old)) ≡ map samples_format old
-blocks_back old lent between new len lent_is first then all =
-    let formats : map samples_format new ≡ map samples_format old = then ∙ first ∙ ap (map samples_format) lent_is in
-    let long : length new ≡ length old = omega (arith, ap length formats, length-map new samples_format, length-map old samples_format) in
-    ap (map samples_format) (written_back old new len long all) ∙ formats
+blocks_back old lent between new len lent_is first then all = grind (arith, length-map, written_back)
 
 pub begin_tallies-requires : goal.begin_tallies-requires
 begin_tallies-requires c =
     let g = can_run c.args.table.now.objects c.args.verified.now c.args.schedule.now c.requires.objects c.requires.names c.requires.ready c.requires.schedule c.prove_descriptions.ensures in
     subst (KeepTallies c.args.table.now.objects) (sym c.steps.ensures.steps) (tallies_kept g)
-
-pub fill_planes-requires-clause-runs : goal.fill_planes-requires-clause-runs
-fill_planes-requires-clause-runs c = can_run c.args.table.now.objects c.args.verified.now c.args.schedule.now c.requires.objects c.requires.names c.requires.ready c.requires.schedule c.prove_descriptions.ensures
-
-pub fill_planes-requires-clause-sizes : goal.fill_planes-requires-clause-sizes
-fill_planes-requires-clause-sizes c = ap (map block_size) c.as_mut_slice-slots.ensures.value ∙ c.in_ok-take_blocks.ensures.capacities ∙ c.deref.ensures.value
-
-pub run-requires : goal.run-requires
-run-requires c =
-    let steps = c.steps-2.ensures.steps in
-    let halos = c.deref-3.ensures.value in
-    let tasks = c.deref-2.ensures.value in
-    let planes = c.as_mut_slice-planes.ensures.value in
-    let tallies = c.as_mut_slice-tallies.ensures.value ∙ c.in_ok-begin_tallies.ensures ∙ ap (tallies_of c.args.table.now.objects) c.steps.ensures.steps in
-    record {
-      program = rw (steps, halos, tasks, planes) c.fill_planes.ensures.program;
-      reduces = rw (tasks, planes, tallies) c.fill_planes.ensures.reduces;
-    }
 
 pub empty_planes-requires : goal.empty_planes-requires
 empty_planes-requires c =
@@ -73,29 +52,13 @@ empty_planes-requires c =
     (c.run.ensures.blocks ∙ ap capacities planes) c.fill_planes.new.blocks c.fill_planes.ensures.formats)
 
 pub give_back-requires : goal.give_back-requires
-give_back-requires c =
-    let blocks = blocks_back c.take_blocks.new.blocks.items c.as_mut_slice-slots.result.now c.fill_planes.new.blocks c.empty_planes.new.blocks c.take_blocks.new.blocks.len c.as_mut_slice-slots.ensures.value
-    c.fill_planes.ensures.formats c.empty_planes.ensures.formats (omega (arith, c.take_blocks.new.blocks.ok.0)) in
-    λ f. omega (arith, counts_stay _ _ blocks f, c.in_ok-take_blocks.ensures.lends f)
+give_back-requires c = grind (arith, blocks_back, counts_stay)
 
 pub returns-clause-lent : goal.returns-clause-lent
-returns-clause-lent c =
-    let blocks = blocks_back c.take_blocks.new.blocks.items c.as_mut_slice-slots.result.now c.fill_planes.new.blocks c.empty_planes.new.blocks c.take_blocks.new.blocks.len c.as_mut_slice-slots.ensures.value
-    c.fill_planes.ensures.formats c.empty_planes.ensures.formats (omega (arith, c.take_blocks.new.blocks.ok.0)) in
-    λ f. omega (arith, counts_stay _ _ blocks f, c.in_ok-take_blocks.ensures.lends f, c.give_back.ensures.lent f)
+returns-clause-lent c = grind (arith, blocks_back, counts_stay, c.in_ok-take_blocks.ensures.lends, c.give_back.ensures.lent)
 
 pub returns-clause-free : goal.returns-clause-free
-returns-clause-free c =
-    let blocks = blocks_back c.take_blocks.new.blocks.items c.as_mut_slice-slots.result.now c.fill_planes.new.blocks c.empty_planes.new.blocks c.take_blocks.new.blocks.len c.as_mut_slice-slots.ensures.value
-    c.fill_planes.ensures.formats c.empty_planes.ensures.formats (omega (arith, c.take_blocks.new.blocks.ok.0)) in
-    λ f. omega (
-      arith,
-      counts_stay _ _ blocks f,
-      blocks_counted c.take_blocks.new.blocks.items c.args.schedule.now.capacities.items (c.in_ok-take_blocks.ensures.capacities ∙ c.deref.ensures.value) f,
-      c.in_ok-take_blocks.ensures.lends f,
-      c.give_back.ensures.lent f,
-      c.give_back.ensures.blocks f,
-    )
+returns-clause-free c = grind (arith, blocks_back, counts_stay, blocks_counted, c.in_ok-take_blocks.ensures.lends, c.give_back.ensures.lent, c.give_back.ensures.blocks)
 
 pub returns-clause-value : goal.returns-clause-value
 returns-clause-value c = λ nodes ready.

@@ -6,15 +6,10 @@ use Rattle.graph_run.specs.Bind.{HoldImages}
 use Rattle.graph_run.specs.Blocks.{band_plan}
 use Rattle.graph_run.specs.Program.{AddOnce, client_cells, radius_of}
 use Rattle.graph_run.specs.Results.{tally_cells}
-use Rattle.graph_run.specs.Tasks.{graph_cells, tasks_of}
+use Rattle.graph_run.specs.Tasks.{graph_cells}
 use Rattle.graph_run.proofs.ReadyLemmas.{clients_hold}
-use Rattle.graph_run.proofs.ScheduleLemmas.{in_order, virtuals_below, within}
+use Rattle.graph_run.proofs.ScheduleLemmas.{in_order, same_tasks, within}
 use Rattle.graph_run.proofs.schedule.schedule_of.Goals as goal
-
-pub clients_of-requires : goal.clients_of-requires
-clients_of-requires c =
-    let v = c.args.verified.now in
-    omega (arith, virtuals_below v.steps v.virtual_outputs, ap length c.virtual_outputs-images.ensures, ap length c.deref.ensures.value, ap length c.in_ok-cells.ensures)
 
 pub high_of-high-requires : goal.high_of-high-requires
 high_of-high-requires c =
@@ -29,15 +24,13 @@ high_of-high-requires c =
 pub halos_of-requires-clause-order : goal.halos_of-requires-clause-order
 halos_of-requires-clause-order c =
     let v = c.args.verified.now in
-    in_order c.args.table.now.objects c.requires.ready.0 v c.requires.ready.1 (plan_view c.args.plan.now) c.requires.plan c.deref-2.result.now c.deref-3.result.now
-    (radius_of c.args.table.now.objects c.high_of-high.result) c.deref-4.result.now (c.deref-2.ensures.value ∙ c.in_ok-cells.ensures) (c.deref-3.ensures.value ∙ c.in_ok-slots.ensures)
+    in_order _ _ _ c.requires.ready.1 _ c.requires.plan _ _ _ _ (c.deref-2.ensures.value ∙ c.in_ok-cells.ensures) (c.deref-3.ensures.value ∙ c.in_ok-slots.ensures)
     (c.deref-4.ensures.value ∙ c.in_ok-tasks.ensures)
 
 pub halos_of-requires-clause-reads : goal.halos_of-requires-clause-reads
 halos_of-requires-clause-reads c = λ s i k read.
     let v = c.args.verified.now in
-    let names = within c.args.table.now.objects c.requires.ready.0 v c.requires.ready.1 (plan_view c.args.plan.now) c.requires.plan c.deref-2.result.now c.deref-3.result.now
-    (radius_of c.args.table.now.objects c.high_of-high.result) c.deref-4.result.now (c.deref-2.ensures.value ∙ c.in_ok-cells.ensures) (c.deref-3.ensures.value ∙ c.in_ok-slots.ensures)
+    let names = within _ _ _ c.requires.ready.1 _ c.requires.plan _ _ _ _ (c.deref-2.ensures.value ∙ c.in_ok-cells.ensures) (c.deref-3.ensures.value ∙ c.in_ok-slots.ensures)
     (c.deref-4.ensures.value ∙ c.in_ok-tasks.ensures) s i
     in
     let below = names.reads k read in
@@ -46,25 +39,10 @@ halos_of-requires-clause-reads c = λ s i k read.
 pub halos_of-requires-clause-output : goal.halos_of-requires-clause-output
 halos_of-requires-clause-output c = λ s i.
     let v = c.args.verified.now in
-    let names = within c.args.table.now.objects c.requires.ready.0 v c.requires.ready.1 (plan_view c.args.plan.now) c.requires.plan c.deref-2.result.now c.deref-3.result.now
-    (radius_of c.args.table.now.objects c.high_of-high.result) c.deref-4.result.now (c.deref-2.ensures.value ∙ c.in_ok-cells.ensures) (c.deref-3.ensures.value ∙ c.in_ok-slots.ensures)
+    let names = within _ _ _ c.requires.ready.1 _ c.requires.plan _ _ _ _ (c.deref-2.ensures.value ∙ c.in_ok-cells.ensures) (c.deref-3.ensures.value ∙ c.in_ok-slots.ensures)
     (c.deref-4.ensures.value ∙ c.in_ok-tasks.ensures) s i
     in
     omega (arith, names.output, c.deref-2.ensures.len, c.len.ensures)
-
-pub capacities_of-requires-clause-halos : goal.capacities_of-requires-clause-halos
-capacities_of-requires-clause-halos c =
-    let v = c.args.verified.now in
-    omega (
-      arith,
-      virtuals_below v.steps v.virtual_outputs,
-      ap length c.virtual_outputs-images.ensures,
-      ap length c.in_ok-cells.ensures,
-      c.in_ok-halos.ensures.count,
-      c.len.ensures,
-      c.in_ok-cells.cells.ok.0,
-      c.deref-5.ensures.len,
-    )
 
 pub returns : goal.returns
 returns c =
@@ -84,9 +62,7 @@ returns c =
     record {
       cells = c.in_ok-cells.ensures;
       slots = c.in_ok-slots.ensures;
-      tasks = c.in_ok-tasks.ensures
-          ∙ ap (λ (l : List Reference). tasks_of l c.deref-3.result.now radius v.steps) (c.deref-2.ensures.value ∙ c.in_ok-cells.ensures)
-          ∙ ap (λ (l : List ℕ). tasks_of (graph_cells v.steps outs) l radius v.steps) (c.deref-3.ensures.value ∙ c.in_ok-slots.ensures);
+      tasks = same_tasks _ _ _ c.requires.ready.1 _ c.requires.plan _ _ _ _ (c.deref-2.ensures.value ∙ c.in_ok-cells.ensures) (c.deref-3.ensures.value ∙ c.in_ok-slots.ensures) c.in_ok-tasks.ensures;
       halo_count = omega (arith, c.in_ok-halos.ensures.count, c.len.ensures, c.in_ok-cells.cells.ok.0, ap length c.in_ok-cells.ensures);
       enough = subst (λ (l : List Task). Suffice high halos l) c.deref-4.ensures.value c.in_ok-halos.ensures.enough;
       some = c.high_of-high.ensures.some;

@@ -1,8 +1,7 @@
-use Rattle.std.proofs.Common.{◌≡◌, ℕ, ◌∙◌, IsTrue, map, sym, ap, subst, All}
-use Rattle.graph_run.proofs.Common.{Node, Numbered, linked_nodes, AreOperands, is_image, operand_held}
+use Rattle.std.proofs.Common.{rules, ◌≡◌, ◌∙◌, IsTrue, map, sym, ap, subst, All}
+use Rattle.graph_run.proofs.Common.{Numbered, linked_nodes, AreOperands, is_image, operand_held}
 use Rattle.vx_base.specs.Graph.{nodes_of}
-use Rattle.graph_verify.specs.declared.linked.Linked.{Linked}
-use Rattle.graph_run.proofs.FoundLemmas.{images_are, numbers_are, refused_is}
+use Rattle.graph_run.proofs.FoundLemmas.{images_are, refused_is}
 use Rattle.graph_run.proofs.verify.verify_in.Goals as goal
 
 pub verify-requires-clause-images : goal.verify-requires-clause-images
@@ -14,10 +13,7 @@ verify-requires-clause-images c =
     (subst (All (λ n. IsTrue (is_image (is n.in1)))) (sym nodes) c.requires)
 
 pub returns-clause-numbers : goal.returns-clause-numbers
-returns-clause-numbers c =
-    let pairs : map {B = ℕ × Node} (λ (l : Linked). (l.number, l.node)) c.deref.result.now ≡ map {B = ℕ × Node} (λ (n : Numbered). (n.number, n.node)) c.args.graph.now.nodes =
-    ap (map {B = ℕ × Node} (λ (l : Linked). (l.number, l.node))) c.deref.ensures.value ∙ c.in_ok-nodes.ensures.numbers ∙ ap (map {B = ℕ × Node} (λ (n : Numbered). (n.number, n.node))) c.nodes.ensures.nodes in
-    numbers_are (map {B = ℕ × Node} (λ (l : Linked). (l.number, l.node)) c.deref.result.now) (map {B = ℕ × Node} (λ (n : Numbered). (n.number, n.node)) c.args.graph.now.nodes) c.verify.result pairs c.verify.ensures.numbers
+returns-clause-numbers c = search rules
 
 pub returns-clause-refused : goal.returns-clause-refused
 returns-clause-refused c =

@@ -11,12 +11,7 @@ use Rattle.graph_run.proofs.virtual_planes.return_blocks.Goals as goal
 use Rattle.graph_run.proofs.virtual_planes.return_blocks.Goals.{then-is_last, else-is_last}
 
 pub put-requires : goal.put-requires
-put-requires c =
-    let k = c.loop-k.k in
-    let inv = c.loop-k.invariant in
-    returned_format c.args.blocks.now c.loop-k.blocks c.args.planes.now c.loop-k.planes k (get_or c.args.slots.now k 0) c.give.result c.index-blocks-slots.result c.index-planes-k.result
-    c.give.ensures.format (omega (arith, inv.count, c.requires.count, c.loop-k-test.true)) (inv.planes k (omega arith)) (c.requires.formats k c.loop-k-test.true) inv.formats
-    (omega (arith, c.loop-k.auto.blocks, c.requires.within k c.loop-k-test.true))
+put-requires c = grind (arith, returned_format)
 
 pub loop-k-preserved : goal.loop-k-preserved
 loop-k-preserved c =
