@@ -92,3 +92,6 @@ pub same_answer : (limits : LimitsValue) (c later : Context) (one two : ℕ) (gr
 same_answer limits c later one two graph other h is_graph is_other same delays done =
     ap (λ found. reply_and_state c (process_found found limits c)) is_other
     ∙ ap (reply_and_state c) (same_run limits c later one graph other h is_graph same delays (outcome_is c later (process_found (Ok graph) limits c) (ap (λ found. reply_and_state c (process_found found limits c)) (sym is_graph) ∙ done)))
+
+-- runs of the same nodes in another order
+pub ruleset any_order = (same_run, same_answer)

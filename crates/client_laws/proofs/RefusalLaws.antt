@@ -74,3 +74,6 @@ never_success limits state request = never_said limits state request Success (λ
 -- no reply is a refusal that says that there is no memory
 pub never_no_memory : (limits : LimitsValue) (state : State) (request : Request) → (answer_to limits state request).0 ≢ Refused NoMemory
 never_no_memory limits state request = never_said limits state request NoMemory (λ refusal. (refusal_says refusal).1)
+
+-- what no refusal says
+pub ruleset refusals = (never_success, never_no_memory)

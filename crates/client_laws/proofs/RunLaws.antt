@@ -278,3 +278,6 @@ same_reply limits (Some c) name = of_graph (graph_named c.objects name)
     of_graph : (found : Result GraphValue Refusal) → (reply_and_state c (process_found found limits c)).0 ≡ (reply_and_state c (verify_found found limits c)).0
     of_graph (Err refusal) = refl
     of_graph (Ok graph) = of_verdict (graph_verdict limits c.objects graph) _
+
+-- what a run leaves of each reference
+pub ruleset what_a_run_leaves = (written_stay, others_stay, virtual_images_stay)

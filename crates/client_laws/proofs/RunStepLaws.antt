@@ -1,7 +1,7 @@
 -- A graph that runs keeps the limits, and what is held: as it begins, virtual images become images; its rounds write to outputs what they may become;
 -- and as it ends, virtual images are forgotten.
 use Rattle.std.proofs.Common.{◌≡◌, inl, inr, ℕ, true, false, cond, IsTrue, List, [], ◌∷◌, ◌++◌, length, map, get_or, Option, Some, None, IfSome, refl, sym, ap, subst, ◌∙◌, All, not, ◌||◌, is_some, is_none, unwrap_or, arith}
-use Rattle.client_laws.proofs.Common.{list_any, IsStrictlyIncreasing, option_map, option_and_then, not-false, All-head, All-tail, Kind, Node, Reference, parameters, nodes_of, optional_cells, inputs, operands, ObjectValue, IsObject, object_kind, in_slot, aged_under, NamedObject, object_held, object_at, Context, with_objects, Operand, Missing, writes, is_written, operand_of, operand_kind, operand_format, operands_of, partial_descs, as_known, resolved_operand, node_fault, is_unwritten_image, reads_unwritten, adds_to_virtual, first_fault, can_run, rounds_of_nodes, is_virtual_object, objects_at_end, run_of_graph, Rejected, Empty, LimitsValue, graph_verdict, process_found, operand_held, operand_in, is_kind, stands_for, KeepsLimits, kind_held, holds_operand, names_of, held_kind, is_taken, kinds_taken, OperandsStand, stands_parts, CanRunOn, of_operands, labels-begun, label_of}
+use Rattle.client_laws.proofs.Common.{list_any, IsStrictlyIncreasing, option_map, option_and_then, not-false, All-head, All-tail, Kind, Node, Reference, parameters, nodes_of, optional_cells, inputs, operands, ObjectValue, IsObject, object_kind, in_slot, aged_under, NamedObject, object_held, object_at, Context, with_objects, Operand, Missing, writes, is_written, operand_of, operand_kind, operand_format, operands_of, partial_descs, as_known, resolved_operand, node_fault, is_unwritten_image, reads_unwritten, adds_to_virtual, first_fault, can_run, rounds_of_nodes, is_virtual_object, objects_at_end, run_of_graph, Rejected, Empty, LimitsValue, graph_verdict, process_found, operand_held, operand_in, is_kind, KeepsLimits, kind_held, holds_operand, names_of, held_kind, is_taken, kinds_taken, OperandsStand, stands_parts, CanRunOn, of_operands, labels-begun, label_of}
 use Rattle.std.proofs.lemmas.List.Elements.{All-nil, All-cons, All-map}
 use Rattle.client_model.proofs.OutcomeLaws.{Keeps, unless_keeps}
 use Rattle.std.proofs.lemmas.Bool.{and_cases, both_ways, cond_both, or_parts}

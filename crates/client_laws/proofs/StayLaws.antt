@@ -146,3 +146,6 @@ pub ready_after_one : (limits : LimitsValue) (c later : Context) (request : Requ
 ready_after_one limits c later request name nodes v h is e leaves known was there ready =
     ready_stays limits c later (request ∷ []) name nodes v (after_one limits c later request h is e)
     (All-replicate (λ r. changes_nodes r name ≡ false) 1 request leaves) known was there ready
+
+-- what stays of the objects that are held
+pub ruleset what_stays = (skeletons_stay, nodes_stay, operand_stays, verdict_stays)

@@ -23,6 +23,7 @@ ghost use Rattle.client_model.specs.States.{KeepsLimits};
 ghost use Rattle.client_laws.specs.Run.{IsRunOf};
 
 /// ProcessGraph gets the reply that VerifyGraph would get.
+#[tactic(auto, using(crate::proofs::RunLaws::same_reply))]
 pub fn what_verifies_runs()
     ensures { (limits : LimitsValue) (state : State) (name : ℕ) →
         (answer_to limits state (ProcessGraph name)).0
@@ -35,6 +36,7 @@ pub fn what_verifies_runs()
 /// output also takes that output as it was before the run. Inputs and outputs include virtual
 /// images. Objects that no node writes are unchanged. After the run, virtual images have no samples
 /// again, and the graph's registered delays age.
+#[tactic(auto, using(crate::proofs::RunLaws::run_is))]
 pub fn a_run_is_the_only_solution()
     ensures { (limits : LimitsValue) (c later : Context) (name : ℕ) → KeepsLimits limits c →
         answer_to limits (Some c) (ProcessGraph name) ≡ (Empty, Some later) →
@@ -51,6 +53,7 @@ pub fn a_run_is_the_only_solution()
 ///   delay doesn't age with the graph. The law doesn't cover whole delays, since a delay changes
 ///   when one of its slots is written.
 /// - `virtual_images`: a virtual image is unchanged.
+#[tactic(auto, using(crate::proofs::RunLaws::what_a_run_leaves))]
 pub fn what_a_run_leaves()
     ensures written { (limits : LimitsValue) (c later : Context) (name : ℕ) (graph : GraphValue)
         (n : Node) → KeepsLimits limits c →
@@ -78,6 +81,7 @@ pub fn what_a_run_leaves()
 /// If a graph runs, it would also run with its nodes added in another order, and leave the same
 /// result. Two graphs with the same registered delays, and with the same nodes in any order, also
 /// leave the same result.
+#[tactic(auto, using(crate::proofs::OrderLaws::any_order))]
 pub fn nodes_in_any_order()
     ensures had { (limits : LimitsValue) (c later : Context) (name : ℕ) (graph other : GraphValue) →
         KeepsLimits limits c → graph_named c.objects name ≡ Ok graph →

@@ -31,6 +31,7 @@ ghost use Rattle.client_model.specs.States.{IsLater, Stays, changes_nodes};
 /// - Names are distinct and below the next name, which is at most 2^32.
 /// - Each object has a live name or is used by a node, and nodes still find their operands.
 /// - At most 1,024 objects are held, and their charge is at most the quota.
+#[tactic(auto, using(crate::proofs::StepLaws::state_after_keeps))]
 pub fn limits_are_kept()
     ensures { (limits : LimitsValue) (requests : List Request) → All IsRequest requests →
         IfSome (state_after limits None requests) (KeepsLimits limits) }
@@ -45,6 +46,7 @@ pub fn limits_are_kept()
 /// - the verdict on a graph is the same until the graph's nodes change
 /// - a verified graph can still run, in the same order and with the same descriptions, until its
 ///   nodes change or the graph is dropped
+#[tactic(auto, using(crate::proofs::StayLaws::what_stays))]
 pub fn what_is_held_stays()
     ensures after_one { (limits : LimitsValue) (c later : Context) (request : Request) (name : ℕ) →
         KeepsLimits limits c → IsRequest request →
@@ -77,6 +79,7 @@ pub fn what_is_held_stays()
 {}
 
 /// A refusal leaves the state unchanged, and its code is neither SUCCESS nor NO_MEMORY.
+#[tactic(auto, using(crate::proofs::RefusalLaws::refusals))]
 pub fn refusals()
     ensures state { (limits : LimitsValue) (state : State) (request : Request) (code : Code) →
         (answer_to limits state request).0 ≡ Refused code →
