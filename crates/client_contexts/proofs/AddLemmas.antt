@@ -1,11 +1,11 @@
 -- Nodes that are added to a graph.
-use Rattle.std.proofs.Common.{◌≡◌, ℕ, true, false, IsTrue, List, [], ◌∷◌, ◌++◌, Option, Some, None, Ok, IfSome, refl, All, is_some, is_none, if◌then◌else◌, inl, inr, arith}
-use Rattle.client_contexts.proofs.Common.{cases_Bool, option_and_then, All-nil, All-cons, All-append, All-map, Kind, Node, Reference, reference_to, GraphValue, with_node, operands, ObjectValue, GraphObject, OfOperands, of_operands, Context, object_named, with_objects, with_graph, in_slot, NamedObject, object_held, IsUnder, graph_under, graph_of_kind, LimitsValue, operands_refusal, KeepsLimits, holds_operand, OperandsStand, MayComeTo}
+use Rattle.std.proofs.Common.{◌≡◌, ℕ, true, IsTrue, List, ◌∷◌, ◌++◌, Some, None, Ok, All, is_some, if◌then◌else◌, inl, inr, arith}
+use Rattle.client_contexts.proofs.Common.{cases_Bool, All-nil, All-cons, All-append, All-map, All-weaker, Kind, Node, Reference, reference_to, GraphValue, with_node, operands, GraphObject, OfOperands, of_operands, Context, object_named, with_objects, with_graph, NamedObject, object_held, IsUnder, graph_under, graph_of_kind, LimitsValue, operands_refusal, KeepsLimits, holds_operand, OperandsStand, MayComeTo}
 use Rattle.client_model.specs.Graphs.{add_node, add_to}
 use Rattle.client_contexts.specs.Steps.{SaysWhy, graph_fault as fault_of}
 use Rattle.vx_base.specs.declared.kind.Kind.TheVariants as kind
 use Rattle.vx_base.specs.Graph.{can_add}
-use Rattle.vx_base.specs.Node.{optional_cells, inputs, outputs}
+use Rattle.vx_base.specs.Node.{inputs, outputs}
 use Rattle.graph_verify.specs.declared.fault.GraphFault.{GraphFault}
 use Rattle.graph_verify.specs.declared.fault.GraphFault.TheVariants as graph_fault
 use Rattle.object_table.specs.Uses.{used_names}
@@ -16,26 +16,13 @@ use Rattle.client_model.proofs.NamedLaws.{held_if_live}
 -- the name of each operand that can be used is held
 pub names_held : (objects : List NamedObject) (graph : ℕ) (n : Node) → OperandsStand objects graph n → All (λ name. IsTrue (is_some (object_held objects name))) (used_names n)
 names_held objects graph n stood =
-    All-map (λ name. IsTrue (is_some (object_held objects name))) {Y = Reference} (λ cell. cell.name) (inputs n ++ outputs n)
-    (All-append Held (inputs n) (outputs n) (All-cons Held n.in1 (optional_cells n.in2) (one kind.Image n.in1 each.in1) (if_given _ n.in2 each.in2))
-    (All-append Held (optional_cells n.out1) (optional_cells n.out2) (if_given _ n.out1 each.out1) (if_given _ n.out2 each.out2)))
+    All-map (λ name. IsTrue (is_some (object_held objects name))) {Y = Reference} (λ cell. cell.name) (inputs n ++ outputs n) (grind (arith, All-cons, All-append, All-nil, each))
   where
-    each : OfOperands (λ operand. IsTrue (holds_operand objects graph operand)) n
-    each = of_operands (λ operand. IsTrue (holds_operand objects graph operand)) n stood
+    there : (operand : Reference × Kind) → IsTrue (holds_operand objects graph operand) → IsTrue (is_some (object_held objects operand.0.name))
+    there operand is = grind (arith, stands_parts)
 
-    Held : Reference → Type 0
-    Held cell = IsTrue (is_some (object_held objects cell.name))
-
-    there : (slot : Option ℕ) (found : Option ObjectValue) → is_none (option_and_then (in_slot slot) found) ≡ false → IsTrue (is_some found)
-    there slot None h = cc
-    there slot (Some object) h = refl
-
-    one : (k : Kind) (cell : Reference) → IsTrue (holds_operand objects graph (cell, k)) → Held cell
-    one k cell is = there cell.slot (object_held objects cell.name) (stands_parts objects graph (cell, k) is).there
-
-    if_given : (k : Kind) (cell : Option Reference) → IfSome cell (λ x. IsTrue (holds_operand objects graph (x, k))) → All Held (optional_cells cell)
-    if_given k None is = All-nil Held
-    if_given k (Some cell) is = All-cons Held cell [] (one k cell is) (All-nil Held)
+    each : OfOperands (λ operand. IsTrue (is_some (object_held objects operand.0.name))) n
+    each = of_operands (λ operand. IsTrue (is_some (object_held objects operand.0.name))) n (All-weaker _ _ there (operands n) stood)
 
 module _ (limits : LimitsValue) (c : Context) (name : ℕ) (h : KeepsLimits limits c) (live : IsTrue (is_some (object_named c.objects name))) (is : IsUnder c.objects kind.Graph name) where
   -- the graph under a live name
@@ -52,12 +39,7 @@ module _ (limits : LimitsValue) (c : Context) (name : ℕ) (h : KeepsLimits limi
     -- a node within the limits is added
     pub node_added : (number : ℕ) (new : Context) → can_add graph_now ≡ true → number ≡ graph_now.next → new ≡ with_objects c (with_graph c.objects name (with_node graph_now n))
         → MayComeTo (add_node c name n) c new (Ok (reply.Node number))
-    node_added number new capacity numbered changed =
-        record {
-          done = rw (added_or_full, capacity, numbered, changed);
-          refused = tt;
-          unchanged = tt;
-        }
+    node_added number new capacity numbered changed = record { done = rw (added_or_full, capacity, numbered, changed); refused = tt; unchanged = tt }
 
     -- or it is refused, unless there is no memory
     pub node_refused : (why : GraphFault) → why ≡ (if can_add graph_now then graph_fault.NoMemory else graph_fault.NoResources) → SaysWhy (add_node c name n) (fault_of why)

@@ -1,16 +1,14 @@
 -- A node is refused alike, and can run alike, on objects of which the same parts last.
-use Rattle.std.proofs.Common.{◌≡◌, ℕ, Bool, List, [], ◌∷◌, map, Option, Some, None, IfSome, refl, sym, ap, subst, ◌∙◌, arith, All, get_or, unwrap_or, if◌then◌else◌, false, is_none}
-use Rattle.client_contexts.proofs.Common.{list_any, option_and_then, option_map, IsStrictlyIncreasing, names_of, Description, Kind, Node, Reference, parameters, operands, ObjectValue, ImageObject, object_kind, image_held, Operands, Refusal, verdict_on, NamedObject, object_at, object_held, object_named, Context, with_objects, operands_refusal, operand_held, IsFound}
-use Rattle.std.specs.Option.{option_or}
+use Rattle.std.proofs.Common.{◌≡◌, ℕ, List, [], ◌∷◌, map, Option, Some, None, refl, sym, ap, subst, ◌∙◌, arith, unwrap_or}
+use Rattle.client_contexts.proofs.Common.{option_and_then, option_map, IsStrictlyIncreasing, names_of, Description, Kind, Node, Reference, operands, ImageObject, object_kind, image_held, Operands, verdict_on, NamedObject, object_at, object_named, operands_refusal, IsFound}
 use Rattle.std.proofs.Math.Path.{fun_ext}
 use Rattle.vx_base.specs.declared.kind.Kind.TheVariants as kind
-use Rattle.object_table.specs.Delay.{slot_kind}
 use Rattle.object_table.specs.Skeleton.{skeleton}
 use Rattle.object_table.proofs.GraphLemmas.{any_alike}
 use Rattle.object_table.proofs.SkeletonLaws.{kind-skeleton, option_map-told, slot_kind-skeleton}
 use Rattle.graph_verify.specs.declared.operand.Operand.{Operand}
 use Rattle.graph_verify.specs.declared.operand.Operand.TheVariants.{Image, Missing}
-use Rattle.graph_verify.specs.Operand.{operand_of, operands_of}
+use Rattle.graph_verify.specs.Operand.{operands_of}
 use Rattle.graph_run.specs.Lasting.{lasting_named}
 use Rattle.graph_run.specs.Operands.{HoldsOperand}
 use Rattle.graph_run.specs.OutputPlanes.{IsLiveImage, IsPlaneOf}
@@ -18,12 +16,10 @@ use Rattle.graph_run.specs.Turns.{CanRunNow}
 use Rattle.graph_run.proofs.LastingLemmas.{cell-lasts, named-lasts, skeletons-last}
 use Rattle.graph_run.proofs.CellLemmas.{held_image}
 use Rattle.graph_run.proofs.LendLemmas.{PlaneValue, image_from_operand, operand-lasts}
-use Rattle.client_model.specs.declared.refusal.Refusal.TheVariants.{Rejected, OptimizedAway}
 use Rattle.client_model.specs.Immediate.{is_some_virtual, node_refusal, operand_in, operands_in}
-use Rattle.client_model.specs.Operands.{holds_nothing, is_kind, is_of_other_kind, is_unknown, stands_for}
-use Rattle.client_model.specs.States.{kind_held}
+use Rattle.client_model.specs.Operands.{holds_nothing, is_of_other_kind, is_unknown}
 use Rattle.client_model.proofs.NamedLaws.{held_if_live, held_kind}
-use Rattle.client_contexts.specs.Lookup.{IsKnown, IsLookup}
+use Rattle.client_contexts.specs.Lookup.{IsKnown}
 
 -- an image is found as one
 image_found : (objects : List NamedObject) (cell : Reference) (d : Description) → HoldsOperand objects cell (Image d) → IsFound objects (cell, kind.Image)
@@ -31,12 +27,7 @@ image_found objects cell d operand = (ImageObject (image_held objects cell), hel
 
 -- and isn't refused under a live name
 image_allowed : (objects : List NamedObject) (cell : Reference) (d : Description) → IsStrictlyIncreasing (names_of objects) → IsLiveImage objects cell d → operands_refusal None objects ((cell, kind.Image) ∷ []) ≡ None
-image_allowed objects cell d names h =
-    let found = image_found objects cell d h.1 in
-    let unknown : is_unknown objects cell ≡ false = grind (arith, h.0) in
-    let other : is_of_other_kind objects (cell, kind.Image) ≡ false = grind (arith, held_if_live objects cell.name names, held_kind objects cell, found.1, found.2, h.0) in
-    let nothing : holds_nothing objects cell ≡ false = ap is_none found.1 in
-    rw (unknown, other, nothing)
+image_allowed objects cell d names h = grind (arith, held_if_live objects cell.name names, held_kind objects cell, image_found objects cell d h.1, h.0)
 
 -- ---- objects of which the same parts last
 
@@ -50,25 +41,13 @@ module _ (one other : List NamedObject) (same : map lasting_named one ≡ map la
   operand_alike : operand_in one ≡ operand_in other
   operand_alike = fun_ext (λ cell. operand-lasts other one cell same)
 
-  unknown_alike : (cell : Reference) → is_unknown one cell ≡ is_unknown other cell
-  unknown_alike cell = grind (arith, named_alike cell.name)
-
-  kind_alike : (operand : Reference × Kind) → is_of_other_kind one operand ≡ is_of_other_kind other operand
-  kind_alike operand = grind (arith, named_alike operand.0.name, slot_kind-skeleton operand.0.slot)
-
-  nothing_alike : (cell : Reference) → holds_nothing one cell ≡ holds_nothing other cell
-  nothing_alike cell = grind (arith, at_alike cell)
-
-  virtual_alike : (cell : Reference) → is_some_virtual (object_at one cell) ≡ is_some_virtual (object_at other cell)
-  virtual_alike cell = grind (arith, at_alike cell)
-
   -- the refusal of references
   refused_alike : (all : List (Reference × Kind)) → operands_refusal None one all ≡ operands_refusal None other all
   refused_alike all =
       rw (
-        any_alike (λ (operand : Reference × Kind). is_unknown one operand.0) (λ operand. is_unknown other operand.0) all (λ k d below. unknown_alike (get_or all k d).0),
-        any_alike (is_of_other_kind one) (is_of_other_kind other) all (λ k d below. kind_alike (get_or all k d)),
-        any_alike (λ (operand : Reference × Kind). holds_nothing one operand.0) (λ operand. holds_nothing other operand.0) all (λ k d below. nothing_alike (get_or all k d).0),
+        any_alike (λ (operand : Reference × Kind). is_unknown one operand.0) (λ operand. is_unknown other operand.0) all (λ k d below. grind (arith, named_alike)),
+        any_alike (is_of_other_kind one) (is_of_other_kind other) all (λ k d below. grind (arith, named_alike, slot_kind-skeleton)),
+        any_alike (λ (operand : Reference × Kind). holds_nothing one operand.0) (λ operand. holds_nothing other operand.0) all (λ k d below. grind (arith, at_alike)),
       )
 
   operands_alike : (n : Node) → operands_in one n ≡ operands_in other n
@@ -79,12 +58,11 @@ module _ (one other : List NamedObject) (same : map lasting_named one ≡ map la
   -- the refusal of a node
   pub node_refused_alike : (n : Node) → node_refusal one n ≡ node_refusal other n
   node_refused_alike n =
-      let by : Option Refusal → Bool → Option Operands → Option Refusal =
-      λ refused away found. option_or refused (option_or (if away then Some OptimizedAway else None) (option_map Rejected (option_and_then (verdict_on n) found))) in
-      let away : List NamedObject → Reference × Kind → Bool = λ objects operand. is_some_virtual (object_at objects operand.0) in
-      ap (λ refused. by refused (list_any (away one) (operands n)) (operands_in one n)) (refused_alike (operands n))
-      ∙ ap (λ b. by (operands_refusal None other (operands n)) b (operands_in one n)) (any_alike (away one) (away other) (operands n) (λ k d below. virtual_alike (get_or (operands n) k d).0))
-      ∙ ap (λ found. by (operands_refusal None other (operands n)) (list_any (away other) (operands n)) found) (operands_alike n)
+      rw (
+        refused_alike (operands n),
+        operands_alike n,
+        any_alike (λ (operand : Reference × Kind). is_some_virtual (object_at one operand.0)) (λ operand. is_some_virtual (object_at other operand.0)) (operands n) (λ k d below. grind (arith, at_alike)),
+      )
 
   -- a node that can run
   pub runs_alike : (n : Node) → CanRunNow one n → CanRunNow other n

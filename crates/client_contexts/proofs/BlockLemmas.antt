@@ -1,10 +1,10 @@
 -- The number of blocks that hold a context's samples, when an object is added and when objects are written.
-use Rattle.std.proofs.Common.{◌≡◌, ◌∙◌, ℕ, ◌+◌, ◌-◌, true, List, [], Option, Some, length, take, drop, refl, sym, ap, subst, arith, sum, sum_by, unwrap_or, take-append-drop}
-use Rattle.client_contexts.proofs.Common.{with_new_keeps, IsStrictlyIncreasing, option_map, All-weaker, sum-map, Format, U8, Reference, reference_to, Description, GraphValue, ImageValue, new_image, image_over, description_of, ObjectValue, ImageObject, DelayObject, GraphObject, object_kind, blocks_in, KeepsBlocks, Context, with_graph, in_slot, NamedObject, object_held, object_at, with_object, image_value, aged_object, IsUnder, HoldsImage, object_under, image_held, names_of, map_some}
+use Rattle.std.proofs.Common.{◌≡◌, ◌∙◌, ℕ, ◌+◌, ◌-◌, true, List, Some, length, refl, sym, ap, subst, arith, sum, take-append-drop}
+use Rattle.client_contexts.proofs.Common.{with_new_keeps, IsStrictlyIncreasing, option_map, All-weaker, sum-map, Format, U8, Reference, reference_to, Description, GraphValue, ImageValue, new_image, image_over, description_of, ObjectValue, ImageObject, DelayObject, GraphObject, object_kind, blocks_in, KeepsBlocks, Context, with_graph, in_slot, NamedObject, object_held, object_at, with_object, image_value, aged_object, IsUnder, HoldsImage, graph_under, object_under, image_held, names_of, map_some}
 use Rattle.std.proofs.lemmas.List.Sums.{sum_by-append}
 use Rattle.std.proofs.lemmas.Option.{option_and_then_some}
 use Rattle.vx_base.specs.declared.kind.Kind.TheVariants as kind
-use Rattle.vx_base.specs.Rectangle.{empty_rectangle}
+use Rattle.object_table.specs.Ageing.{one_more, with_registration}
 use Rattle.object_table.specs.Blocks.{image_blocks, object_blocks}
 use Rattle.object_table.specs.Context.{with_new}
 use Rattle.object_table.specs.Delay.{with_slot}
@@ -12,7 +12,6 @@ use Rattle.object_table.specs.Skeleton.{skeleton}
 use Rattle.object_table.proofs.BlockLaws.{blocks-with_new, same_blocks, keeps_blocks}
 use Rattle.object_table.proofs.HeldLemmas.{HasObject, map-with_object}
 use Rattle.object_table.proofs.SkeletonLaws.{map-told, skeleton-with_slot}
-use Rattle.object_table.proofs.SlotLemmas.{image_of_kind}
 use Rattle.graph_run.specs.Lasting.{lasting_named, Lasts}
 use Rattle.graph_run.proofs.CellLemmas.{held_once}
 
@@ -38,12 +37,7 @@ lasting_blocks objects new h =
 aged_blocks : (object : ObjectValue) (format : Format) → object_blocks (aged_object object) format ≡ object_blocks object format
 aged_blocks (DelayObject images) format =
     let n = length images - 1 in
-    omega (
-      arith,
-      sum_by-append (λ image. image_blocks image format) (drop n images) (take n images),
-      sum_by-append (λ image. image_blocks image format) (take n images) (drop n images),
-      ap (sum_by (λ image. image_blocks image format)) (take-append-drop n images),
-    )
+    grind (arith, sum_by-append (λ image. image_blocks image format), take-append-drop n images)
 aged_blocks other format = refl
 
 module _ (objects : List NamedObject) (names : IsStrictlyIncreasing (names_of objects)) where
@@ -59,39 +53,29 @@ module _ (objects : List NamedObject) (names : IsStrictlyIncreasing (names_of ob
       objects (held_once objects cell.name object names found)))
       ∙ sum-map of_named objects
 
-  -- a value with the skeleton of the old one is written to an object
-  blocks_written : (cell : Reference) (new : ObjectValue) → option_map skeleton (object_at objects cell) ≡ Some (skeleton new) → KeepsBlocks objects (with_object objects cell new)
-  blocks_written cell new there =
-      let (was, held_there, alike) = map_some skeleton (object_at objects cell) (skeleton new) there in
-      option_and_then_some (in_slot cell.slot) (object_held objects cell.name) was held_there
-      (λ object found at.
-      blocks_replaced cell new object found (λ format. same_blocks (with_slot cell.slot new object) object format (skeleton-with_slot cell.slot new object (rw (at, alike)))))
-
   -- an image of the same size and format is written
   pub image_blocks_kept : (cell : Reference) (image new : ImageValue) → HoldsImage objects cell → image_held objects cell ≡ image → description_of new ≡ description_of image
       → KeepsBlocks objects (with_object objects cell (ImageObject new))
   image_blocks_kept cell image new there is same =
       let (object, at, of_kind) = map_some object_kind (object_at objects cell) kind.Image there in
-      let value : image_value object ≡ image = ap (λ (o : Option ObjectValue). image_value (unwrap_or o (ImageObject (new_image 0 0 U8)))) (sym at) ∙ is in
-      blocks_written cell (ImageObject new)
-      (ap (option_map skeleton) at
-      ∙ ap (λ (x : ObjectValue). Some (skeleton x)) (image_of_kind object of_kind ∙ ap ImageObject value)
-      ∙ ap (λ (d : Description). let left : Option ObjectValue = Some (ImageObject (image_over d empty_rectangle [])) in left) (sym same))
+      let alike : skeleton object ≡ skeleton (ImageObject new) = grind (arith, at, of_kind, is, same) in
+      option_and_then_some (in_slot cell.slot) (object_held objects cell.name) object at
+      (λ held found there.
+      blocks_replaced cell (ImageObject new) held found (λ format. same_blocks (with_slot cell.slot (ImageObject new) held) held format (skeleton-with_slot cell.slot (ImageObject new) held (rw (there, alike)))))
 
   -- a delay ages
   pub age_keeps_blocks : (name : ℕ) (object : ObjectValue) → object_held objects name ≡ Some object
       → KeepsBlocks objects (with_object objects (reference_to name) (aged_object (object_under objects name)))
   age_keeps_blocks name object found =
       blocks_replaced (reference_to name) (aged_object (object_under objects name)) object found
-      (λ format.
-      ap (λ (o : Option ObjectValue). object_blocks (aged_object (unwrap_or o (ImageObject (new_image 0 0 U8)))) format) found ∙ aged_blocks object format)
+      (λ format. grind (arith, found, aged_blocks object format))
 
   -- a graph changes
   pub graph_keeps_blocks : (name : ℕ) (graph : GraphValue) → IsUnder objects kind.Graph name → KeepsBlocks objects (with_graph objects name graph)
   graph_keeps_blocks name graph is =
       let (object, there, of_kind) = map_some object_kind (object_held objects name) kind.Graph is in
-      blocks_replaced (reference_to name) (GraphObject graph) object there (none object of_kind)
-    where
-      none : (object : ObjectValue) → object_kind object ≡ kind.Graph → (format : Format) → 0 ≡ object_blocks object format
-      none (GraphObject was) e format = refl
-      none other e format = cc
+      blocks_replaced (reference_to name) (GraphObject graph) object there (λ format. grind (arith, of_kind))
+
+  -- a delay is registered with a graph
+  pub register_keeps_blocks : (graph delay : ℕ) → IsUnder objects kind.Graph graph → KeepsBlocks objects (with_registration objects graph (graph_under objects graph) delay)
+  register_keeps_blocks graph delay is = λ format. grind (arith, graph_keeps_blocks graph (one_more objects (graph_under objects graph) delay) is format)

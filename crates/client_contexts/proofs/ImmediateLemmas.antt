@@ -1,52 +1,37 @@
 -- A node that runs immediately, or is refused.
-use Rattle.std.proofs.Common.{◌≡◌, Bool, true, false, List, IfSome, Option, Some, None, refl, sym, ap, subst, ◌∙◌, arith, All, unwrap_or, ◌||◌, if◌then◌else◌, is_none, is_some, IsTrue, option_to_list, Err, Ok}
-use Rattle.client_contexts.proofs.Common.{list_any, option_map, list_any-append, Kind, Node, Reference, parameters, operands, with_kind, second_kind, ObjectValue, object_kind, Operands, is_virtual, verdict_on, NamedObject, object_at, Refusal, Empty, Outcome, Context, with_objects, reply_unless, operands_refusal, immediate, operand_held, OfOperands, of_operands, IsFound, IsStrictlyIncreasing, all_operands, names_of}
+use Rattle.std.proofs.Common.{◌≡◌, Bool, false, List, IfSome, Option, Some, None, sym, ap, subst, ◌∙◌, arith, All, if◌then◌else◌, is_none, is_some, IsTrue, option_to_list, Err, Ok}
+use Rattle.client_contexts.proofs.Common.{list_any, option_map, list_any-append, Kind, Node, Reference, parameters, operands, with_kind, second_kind, ObjectValue, Operands, is_virtual, verdict_on, NamedObject, object_at, Refusal, Empty, Outcome, Context, with_objects, reply_unless, operands_refusal, immediate, operand_held, OfOperands, of_operands, IsFound, IsStrictlyIncreasing, all_operands, names_of}
 use Rattle.client_model.specs.declared.refusal.Refusal.TheVariants.{Rejected, OptimizedAway}
 use Rattle.std.specs.Option.{option_or}
 use Rattle.std.proofs.lemmas.Bool.{or_parts}
 use Rattle.vx_base.specs.declared.kind.Kind.TheVariants as kind
-use Rattle.vx_base.specs.Object.{VirtualObject}
 use Rattle.vx_base.specs.Outputs.{written_by}
 use Rattle.vx_base.proofs.NodeLaws.{same_kind_equal}
-use Rattle.graph_verify.specs.Operand.{operand_of, operands_of, written_operands, other_operands}
-use Rattle.graph_run.specs.Graph.{is_virtual_object}
+use Rattle.graph_verify.specs.Operand.{operands_of, written_operands, other_operands}
 use Rattle.object_table.specs.NamedObject.{with_written}
-use Rattle.client_model.specs.Operands.{stands_for}
 use Rattle.client_model.specs.Immediate.{operand_in, operand_if, operands_in, is_some_virtual, node_refusal}
 use Rattle.graph_verify.specs.declared.operand.Operand.{Operand}
-use Rattle.graph_verify.specs.declared.operand.Operand.TheVariants.{Image, Missing}
+use Rattle.graph_verify.specs.declared.operand.Operand.TheVariants.{Image}
 use Rattle.graph_run.specs.declared.output_planes.OutputPlanes.{OutputPlanes}
 use Rattle.graph_run.specs.OutputPlanes.{ArePlanesOf, HavePlanes, LendsOutputs, with_planes}
 use Rattle.graph_run.specs.Turns.{CanRunNow, HoldsKind}
-use Rattle.graph_run.proofs.LendLemmas.{planes_there, value_lent}
+use Rattle.graph_run.proofs.LendLemmas.{last_lent, planes_there, value_lent}
+use Rattle.client_contexts.proofs.BlockLemmas.{lasting_blocks}
 use Rattle.client_model.proofs.NodeStepLaws.{neither, operands_pass}
 use Rattle.client_contexts.specs.Lookup.{AreKnown, IsKnown}
 use Rattle.client_contexts.proofs.AlikeLemmas.{live_known, node_refused_alike, runs_alike}
 use Rattle.client_contexts.proofs.ScopeLemmas.{to_operands}
 
--- an operand is a virtual image if the object is one
-same_virtual : (object : ObjectValue) → is_virtual_object object ≡ is_virtual (operand_of object)
-same_virtual (VirtualObject image) = refl
-same_virtual other = refl
-
--- an object that can be used where a kind is wanted, and isn't a virtual image, is of that kind
-of_kind : (object : ObjectValue) (wanted : Kind) → is_virtual (operand_of object) ≡ false → stands_for (object_kind object) wanted ≡ true → object_kind object ≡ wanted
-of_kind (VirtualObject image) wanted solid stands = cc
-of_kind other wanted solid stands = sym (same_kind_equal wanted (object_kind other) stands)
-
 -- the object that is found, as an operand
 module _ (objects : List NamedObject) (operand : Reference × Kind) (found : IsFound objects operand) where
-  operand_is : operand_held objects operand.0 ≡ operand_of found.0
-  operand_is = ap (λ o. unwrap_or (option_map operand_of o) Missing) found.1
-
   operand_there : operand_in objects operand.0 ≡ Some (operand_held objects operand.0)
-  operand_there = ap (option_map operand_of) found.1 ∙ ap Some (sym operand_is)
+  operand_there = grind (arith, found.1)
 
   away_there : is_some_virtual (object_at objects operand.0) ≡ is_virtual (operand_held objects operand.0)
-  away_there = ap is_some_virtual found.1 ∙ same_virtual found.0 ∙ ap is_virtual (sym operand_is)
+  away_there = grind (arith, found.1)
 
   holds_kind : is_virtual (operand_held objects operand.0) ≡ false → HoldsKind objects operand
-  holds_kind solid = ap (option_map object_kind) found.1 ∙ ap Some (of_kind found.0 operand.1 (ap is_virtual (sym operand_is) ∙ solid) found.2)
+  holds_kind solid = grind (arith, found.1, found.2, same_kind_equal)
 
 -- ---- the operands of a node that are found
 
@@ -58,8 +43,7 @@ module _ (objects : List NamedObject) (n : Node) (found : All (IsFound objects) 
   each = of_operands (IsFound objects) n found
 
   operand_if_there : (cell : Option Reference) (wanted : Kind) → IfSome cell (λ x. IsFound objects (x, wanted)) → operand_if objects cell ≡ option_map (operand_held objects) cell
-  operand_if_there None wanted s = refl
-  operand_if_there (Some cell) wanted s = operand_there objects (cell, wanted) s
+  operand_if_there cell wanted s = grind (arith, operand_there)
 
   operands_there : operands_in objects n ≡ Some held_operands
   operands_there =
@@ -75,8 +59,7 @@ module _ (objects : List NamedObject) (n : Node) (found : All (IsFound objects) 
 
   away_if_there : (cell : Option Reference) (wanted : Kind) → IfSome cell (λ x. IsFound objects (x, wanted))
       → list_any is_away (with_kind wanted cell) ≡ list_any is_virtual (option_to_list (option_map (operand_held objects) cell))
-  away_if_there None wanted s = refl
-  away_if_there (Some cell) wanted s = ap (λ b. b || false) (away_there objects (cell, wanted) s)
+  away_if_there cell wanted s = grind (arith, away_there)
 
   away_is : list_any is_away (operands n) ≡ list_any is_virtual (all_operands held_operands)
   away_is =
@@ -92,8 +75,7 @@ module _ (objects : List NamedObject) (n : Node) (found : All (IsFound objects) 
   -- unless it is a virtual image, each operand has the wanted kind
   module _ (solid : list_any is_virtual (all_operands held_operands) ≡ false) where
     of_kind_if : (cell : Option Reference) (wanted : Kind) → list_any is_virtual (option_to_list (option_map (operand_held objects) cell)) ≡ false → IfSome cell (λ x. IsFound objects (x, wanted)) → IfSome cell (λ x. HoldsKind objects (x, wanted))
-    of_kind_if None wanted plain s = tt
-    of_kind_if (Some cell) wanted plain s = holds_kind objects (cell, wanted) s (or_parts (is_virtual (operand_held objects cell)) false plain).0
+    of_kind_if cell wanted plain s = grind (arith, holds_kind)
 
     pub all_of_kind : All (HoldsKind objects) (operands n)
     all_of_kind =
@@ -158,5 +140,5 @@ module _ {old lent : Context} {n : Node} {planes : OutputPlanes} (lends : LendsO
       let pass = operands_pass None old.objects (operands n) (neither _ _ (sym (allowed ∙ refusal_lent))).0 in
       planes_there old.objects n planes are (λ k d below. unless_unknown _ (pass k d below).known) (runs_back can)
 
--- the refusals of a node, and its outcome
-pub ruleset immediate_steps = (refusal_is, refused_is, done_is)
+-- the refusals of a node, its outcome, and the number of blocks after it
+pub ruleset immediate_steps = (refusal_is, refused_is, done_is, last_lent, lasting_blocks)

@@ -1,7 +1,7 @@
 -- Pictures that are read from a source: the samples, and then the client's context and the world.
 use Rattle.std.specs.Prelude.{⊤}
 use Rattle.std.proofs.Common.{◌≡◌, ◌∙◌, ℕ, false, List, ℤ, Some, length, Result, Ok, Err, inl, inr, OnOk, OnErr, IfErr, refl, sym, ap, subst, ne_eqb}
-use Rattle.client_contexts.proofs.Common.{is_at, lookup, nat_cmp, option_map, AppliesToKept, Reference, Description, Format, Context, Empty, Request, Reply, WriteImage, reply_and_state, write_image, LimitsValue, KeepsLimits, AreKept, KeptGraph, ClientContext, World}
+use Rattle.client_contexts.proofs.Common.{is_at, lookup, nat_cmp, Reference, Description, Format, Context, Empty, Request, Reply, WriteImage, reply_and_state, write_image, LimitsValue, KeepsLimits, AreKept, KeptGraph, ClientContext, World}
 use Rattle.vx_base.specs.Reference.{IsReference}
 use Rattle.vx_base.specs.Picture.{PictureValue, IsPicture, Describes, values, samples_format}
 use Rattle.vx_base.specs.declared.code.Code.{Code}
@@ -20,6 +20,7 @@ use Rattle.client_contexts.proofs.WriteLemmas.{write_refused}
 use Rattle.client_contexts.proofs.RuntimeLemmas.{applies_to_kept}
 use Rattle.client_contexts.proofs.VerifiedLemmas.{same_keeps}
 use Rattle.std.specs.Map.{set_value}
+use Rattle.std.proofs.lemmas.Result.{IfErr-weaker, on_ok_weaker}
 use Rattle.std.proofs.lemmas.Map.Steps.{set_value_same}
 
 abbrev pub picture_in : Description → Samples → PictureValue
@@ -79,32 +80,23 @@ module _ {S E : Type 0} (fills : S → S → Format → List ℤ → Result ⊤ 
       → ((other : ℕ) → is_at (nat_cmp client) other ≡ false → lookup (is_at (nat_cmp other)) after ≡ lookup (is_at (nat_cmp other)) before) → n.verified ≡ o.verified
       → OnOk result ((p : PictureValue) × IsRead fills d old new p (Ok tt) × (write_image o.context cell p ≡ Ok (Empty, Some n.context)))
       → OnOk result (WritesReadPicture fills d old new client cell world later)
-  write_applies is others same done = go result done
-    where
-      go : (r : Result ⊤ (WriteFault E)) → OnOk r ((p : PictureValue) × IsRead fills d old new p (Ok tt) × (write_image o.context cell p ≡ Ok (Empty, Some n.context)))
-          → OnOk r (WritesReadPicture fills d old new client cell world later)
-      go (Err e) none = tt
-      go (Ok x) (p, read, written) =
-          let request : Request = WriteImage cell p in
-          let reply : Result Reply NoMemory = Ok Empty in
-          let answers : answer_to limits (Some o.context) request ≡ (Empty, Some n.context) = ap (reply_and_state o.context) written in (
-            p,
-            read,
-            subst (λ (w : World). Applies client request w later reply) shown (applies_done limits client request Empty before after o n was is others answers),
-            subst (λ (w : World). AppliesToKept client request w later reply) shown
-                (applies_to_kept limits client request reply before after (Some o) (Some n) was is others (same_keeps limits.work request refl o.verified n.verified reply same)),
-          )
+  write_applies is others same done =
+      on_ok_weaker result
+      (λ (p, read, written).
+      let request : Request = WriteImage cell p in
+      let reply : Result Reply NoMemory = Ok Empty in
+      let answers : answer_to limits (Some o.context) request ≡ (Empty, Some n.context) = ap (reply_and_state o.context) written in (
+        p,
+        read,
+        rw (← shown) (applies_done limits client request Empty before after o n was is others answers),
+        rw (← shown) (applies_to_kept limits client request reply before after (Some o) (Some n) was is others (same_keeps limits.work request refl o.verified n.verified reply same)),
+      )) done
 
   -- or the result is the reason why not
   pub write_told : IfErr result (SaysWhyUnwritten fills d old new (IsRefusedFor o.context cell d)) → IfErr result (SaysWhyUnwritten fills d old new (IsRefused client cell d world))
-  write_told told = go result told
-    where
-      state : state_of client world ≡ Some o.context
-      state = ap (λ (w : World). state_of client w) (sym shown) ∙ ap (option_map (λ (x : ClientContext). x.context)) was
-
-      go : (r : Result ⊤ (WriteFault E)) → IfErr r (SaysWhyUnwritten fills d old new (IsRefusedFor o.context cell d)) → IfErr r (SaysWhyUnwritten fills d old new (IsRefused client cell d world))
-      go (Ok x) none = tt
-      go (Err fault) said = unwritten_weaker fills d old new (IsRefusedFor o.context cell d) (IsRefused client cell d world) fault (λ code. refused_by client world o.context cell d code state) said
+  write_told told =
+      IfErr-weaker result _ _
+      (λ fault said. unwritten_weaker fills d old new (IsRefusedFor o.context cell d) (IsRefused client cell d world) fault (λ code. refused_by client world o.context cell d code (rw (← shown, was) refl)) said) told
 
 -- if the client's entry is unchanged, the world is unchanged
 pub write_same : {T F : Type 0} (limits : LimitsValue) (client : ℕ) (before after : List (ℕ × ClientContext)) (world : World) (o n : ClientContext) (result : Result T F) → record { limits = limits; contexts = before } ≡ world

@@ -21,10 +21,16 @@ of_held : {P Q : ObjectValue → Type 0} (o : Option ObjectValue) → IfSome o P
 of_held None said follows = tt
 of_held (Some object) said follows = follows object refl said
 
--- what is said of the nodes of an object that is held
-of_nodes : (P : List Node → Type 0) (o : Option ObjectValue) (nodes : List Node) → option_map nodes_in o ≡ Some nodes → IfSome o (λ object. P (nodes_in object)) → P nodes
-of_nodes P None nodes e said = absurd (cc)
-of_nodes P (Some object) nodes e said = let same : nodes_in object ≡ nodes = cc in subst P same said
+-- what is kept of a graph, of the nodes that it has
+abbrev IsKeptOf : Context → KeptGraph → List Node → Type 0
+IsKeptOf c k nodes = IsReady c.objects nodes k.verified × IsSchedule c.objects k.verified (plan_view k.plan) k.schedule × (verdict k.work (operand_held c.objects) nodes ≡ None)
+
+kept_of : (c : Context) (name : ℕ) (k : KeptGraph) (nodes : List Node) → IsKept c name k → option_map nodes_in (object_held c.objects name) ≡ Some nodes → IsKeptOf c k nodes
+kept_of c name k nodes kept is = grind arith
+
+kept_from : (c : Context) (name : ℕ) (k : KeptGraph) → name < c.next → IsPlan k.verified.steps k.verified.virtual_outputs (plan_view k.plan)
+    → IfSome (object_held c.objects name) (λ object. IsKeptOf c k (nodes_in object)) → IsKept c name k
+kept_from c name k below plan is = grind arith
 
 -- what is kept of a graph holds after a request that leaves its nodes
 module _ (limits : LimitsValue) (c later : Context) (request : Request) (h : KeepsLimits limits c) (is : IsRequest request)
@@ -52,24 +58,16 @@ module _ (limits : LimitsValue) (c later : Context) (request : Request) (h : Kee
 
   pub kept_after_one : (name : ℕ) (k : KeptGraph) → changes_nodes request name ≡ false → IsKept c name k → IsKept later name k
   kept_after_one name k leaves kept =
-      let stayed = had_nodes name leaves kept.below in
-      record {
-        below = omega (arith, kept.below, next_stays.next);
-        plan = kept.plan;
-        schedule =
-            of_held (object_held later.objects name) stayed
-            (λ object there stays. schedule_after_one name k (nodes_in object)
-            (of_nodes (λ nodes. IsReady c.objects nodes k.verified) (object_held c.objects name) (nodes_in object) stays kept.ready) kept.plan stays (ap (option_map nodes_in) there)
-            (of_nodes (λ nodes. IsSchedule c.objects k.verified (plan_view k.plan) k.schedule) (object_held c.objects name) (nodes_in object) stays kept.schedule));
-        ready =
-            of_held (object_held later.objects name) stayed
-            (λ object there stays. ready_after_one limits c later request name (nodes_in object) k.verified h is e leaves kept.below stays (ap is_some there)
-            (of_nodes (λ nodes. IsReady c.objects nodes k.verified) (object_held c.objects name) (nodes_in object) stays kept.ready));
-        allowed =
-            of_held (object_held later.objects name) stayed
-            (λ object there stays. verdict_stays_held limits c later (request ∷ []) name (nodes_in object) k.work (after_one limits c later request h is e) stays (ap (option_map nodes_in) there)
-            ∙ of_nodes (λ nodes. verdict k.work (operand_held c.objects) nodes ≡ None) (object_held c.objects name) (nodes_in object) stays kept.allowed);
-      }
+      kept_from later name k (omega (arith, kept.below, next_stays.next)) kept.plan
+      (of_held (object_held later.objects name) (had_nodes name leaves kept.below)
+      (λ object there stays.
+      let nodes = nodes_in object in
+      let (ready, schedule, allowed) = kept_of c name k nodes kept stays in
+      let now = ap (option_map nodes_in) there in (
+        ready_after_one limits c later request name nodes k.verified h is e leaves kept.below stays (ap is_some there) ready,
+        schedule_after_one name k nodes ready kept.plan stays now schedule,
+        verdict_stays_held limits c later (request ∷ []) name nodes k.work (after_one limits c later request h is e) stays now ∙ allowed,
+      )))
 
   -- what is left of all that is kept, once the request is done
   pub left_are_kept : (kept left : List (ℕ × KeptGraph)) → AreKept c kept → left ≡ forgotten_by request kept → All (λ k. changes_nodes request k.0 ≡ false) left → AreKept later left

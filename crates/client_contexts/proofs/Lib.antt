@@ -3,7 +3,6 @@ mod LookupLemmas
 mod ScopeLemmas
 mod StandLemmas
 mod ReadyLemmas
-mod RegisterLemmas
 mod AddLemmas
 mod ForgetLemmas
 mod KeptGraphLemmas
@@ -17,5 +16,4 @@ mod OutcomeLemmas
 mod WriteLemmas
 mod IncomingLemmas
 mod AgainLemmas
-mod DelayLemmas
 mod KeptLemmas

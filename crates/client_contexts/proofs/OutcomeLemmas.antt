@@ -1,14 +1,11 @@
 -- Images that are found and changed; the context stays within its limits.
 use Rattle.std.proofs.Common.{◌≡◌, ℕ, Option, Some, None, IfOk, IfSome, subst, unwrap_or}
-use Rattle.client_contexts.proofs.Common.{option_map, option_and_then, U8, Kind, Reference, Rectangle, ImageValue, new_image, description_of, with_valid, ObjectValue, ImageObject, IsObject, object_kind, Context, with_objects, in_slot, object_held, with_object, object_under, HoldsImage, Empty, LimitsValue, reply_unless, valid_refusal, KeepsLimits, IsImageOf}
+use Rattle.client_contexts.proofs.Common.{option_map, option_and_then, U8, Kind, Reference, ImageValue, new_image, ObjectValue, ImageObject, IsObject, object_kind, Context, in_slot, object_held, object_under, HoldsImage, IsImageOf}
 use Rattle.vx_base.specs.declared.kind.Kind.TheVariants as kind
-use Rattle.vx_base.specs.Rectangle.{IsRectangle}
 use Rattle.vx_base.specs.Image.{IsImage}
 use Rattle.object_table.proofs.HeldLemmas.{object_held_has}
-use Rattle.client_model.specs.Images.{set_valid_of}
-use Rattle.client_model.proofs.OutcomeLaws.{Keeps}
 use Rattle.client_contexts.specs.Steps.{IsContext}
-use Rattle.client_model.proofs.ImageStepLaws.{image_of_is, set_valid_keeps}
+use Rattle.client_model.proofs.ImageStepLaws.{image_of_is}
 
 -- ---- lookup
 
@@ -27,11 +24,3 @@ holder_is c cell h there = under_is (object_held c.objects cell.name) cell.slot 
 
 -- what an image that is found is, and the object that has it
 pub ruleset image_steps = (image_is, holder_is)
-
--- ---- changes
-
--- a rectangle that isn't refused becomes the valid one
-pub set_keeps : (limits : LimitsValue) (c : Context) (cell : Reference) (image : ImageValue) (valid : Rectangle) → KeepsLimits limits c → IsImageOf c.objects cell image → IsRectangle valid → valid_refusal (description_of image) valid ≡ None → KeepsLimits limits (with_objects c (with_object c.objects cell (ImageObject (with_valid valid image))))
-set_keeps limits c cell image valid h found is allowed =
-    (subst (λ refusal. Keeps limits c (reply_unless refusal Empty (with_objects c (with_object c.objects cell (ImageObject (with_valid valid image)))))) allowed
-    (subst (λ i. Keeps limits c (set_valid_of i c cell valid)) found.image (set_valid_keeps limits c cell valid h is.bounds))).keeps

@@ -93,13 +93,6 @@ module _ (limits : LimitsValue) (c : Context) (name : ℕ) where
       → (graph : GraphValue) × (graph_named c.objects name ≡ Ok graph) × (graph_verdict limits c.objects graph ≡ None)
   passed done e = grind arith
 
-  -- its run leaves this
-  pub runs_to : (graph : GraphValue) (after : Context) → graph_named c.objects name ≡ Ok graph → graph_verdict limits c.objects graph ≡ None
-      → after ≡ with_objects c (aged_under graph.delays (run_of_graph (resolved_operand (operand_held c.objects) (nodes_of graph)) (nodes_of graph) c.objects))
-      → process_graph limits c name ≡ Ok (Empty, Some after)
-  runs_to graph after is allowed e =
-      rw (is, allowed, e)
-
   -- the graph is as it was as its run ends
   pub graph_left : KeepsLimits limits c → (graph : GraphValue) (ran : Context) → graph_named c.objects name ≡ Ok graph → graph_verdict limits c.objects graph ≡ None
       → ran ≡ with_objects c (run_of_graph (resolved_operand (operand_held c.objects) (nodes_of graph)) (nodes_of graph) c.objects) → object_held ran.objects name ≡ Some (GraphObject graph)
@@ -110,7 +103,7 @@ module _ (limits : LimitsValue) (c : Context) (name : ℕ) where
       → ran ≡ with_objects c (run_of_graph (resolved_operand (operand_held c.objects) (nodes_of graph)) (nodes_of graph) c.objects)
       → after ≡ with_objects ran (aged_under (graph_under ran.objects name).delays ran.objects) → process_graph limits c name ≡ Ok (Empty, Some after)
   aged_to h graph ran after is allowed e aged =
-      runs_to graph after is allowed (rw (aged, graph_left h graph ran is allowed e, e))
+      rw (is, allowed, aged, graph_left h graph ran is allowed e, e)
 
   -- what is kept of a graph that is verified runs its nodes, as it is scheduled
   pub kept_runs : KeepsLimits limits c → (done : Reply × Option Context) → verify_graph limits c name ≡ Ok done → (k : KeptGraph) (entries : List (ℕ × KeptGraph)) → AreKept c entries

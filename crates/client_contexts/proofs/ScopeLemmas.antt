@@ -1,5 +1,5 @@
 -- The lookup of operands, with or without the scope of a graph.
-use Rattle.std.proofs.Common.{◌≡◌, ℕ, IsTrue, List, [], Option, Some, None, IfSome, sym, ap, subst, ◌∙◌, All, Result, Ok, OnOk}
+use Rattle.std.proofs.Common.{◌≡◌, ℕ, IsTrue, List, Option, Some, IfSome, sym, ap, subst, ◌∙◌, All, Result, Ok, OnOk, arith}
 use Rattle.client_contexts.proofs.Common.{All-nil, All-cons, All-append, Kind, Parameters, Node, Reference, parameters, operands, second_kind, with_kind, ObjectValue, object_kind, NamedObject, Operands, OfOperands, Refusal, operands_refusal, holds_operand, OperandsStand, IsFound}
 use Rattle.vx_base.specs.declared.kind.Kind.TheVariants as kind
 use Rattle.client_model.specs.Operands.{is_kind}
@@ -11,15 +11,7 @@ use Rattle.client_contexts.specs.Steps.{refusal_in}
 
 -- a property of each operand of a node holds for the list of all
 pub to_operands : (P : Reference × Kind → Type 0) (n : Node) → OfOperands P n → All P (operands n)
-to_operands P n h =
-    let output = (parameters n.function).output in
-    All-cons P (n.in1, kind.Image) _ h.in1
-    (All-append P (with_kind (second_kind n) n.in2) _ (each (second_kind n) n.in2 h.in2)
-    (All-append P (with_kind output n.out1) (with_kind output n.out2) (each output n.out1 h.out1) (each output n.out2 h.out2)))
-  where
-    each : (k : Kind) (cell : Option Reference) → IfSome cell (λ c. P (c, k)) → All P (with_kind k cell)
-    each k None is = All-nil P
-    each k (Some c) is = All-cons P (c, k) [] is (All-nil P)
+to_operands P n h = grind (arith, All-cons, All-append, All-nil)
 
 -- the lookup of all operands, from that of each
 pub operands_found : (objects : List NamedObject) (n : Node) (p : Parameters) (second : Kind) → p ≡ parameters n.function → second ≡ second_kind n → IsFound objects (n.in1, kind.Image)

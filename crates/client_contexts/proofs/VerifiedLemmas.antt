@@ -1,10 +1,9 @@
 -- The graphs that are kept as verified, through a client's requests.
-use Rattle.std.proofs.Common.{◌≡◌, ◌≢◌, ◌∙◌, ℕ, true, false, cond, List, Some, Result, Ok, Err, ◌⊎◌, inl, inr, sym, ap, subst, IfErr, OnOk, OnErr, arith}
+use Rattle.std.proofs.Common.{◌≡◌, ◌≢◌, ◌∙◌, ℕ, false, cond, List, Some, Result, Ok, ◌⊎◌, inl, inr, sym, subst, IfErr, OnOk, OnErr, arith}
 use Rattle.client_contexts.proofs.Common.{cases_Bool, is_at, lookup, nat_cmp, Reply, Request, VerifyGraph, ProcessGraph, RequestFault, KeptGraph, verified_in, IsKeptWithin, KeepsVerified, ends_verification, client_result}
 use Rattle.std.proofs.lemmas.Map.Made.{lookup-map_values}
 use Rattle.vx_base.specs.declared.code.Code.{Code}
 use Rattle.client_model.specs.declared.reply.Reply.TheVariants as reply
-use Rattle.client_contexts.specs.declared.fault.RequestFault.TheVariants as fault
 use Rattle.client_contexts.specs.declared.memory.NoMemory.{NoMemory}
 use Rattle.client_contexts.specs.Kept.{kept_within, runs_graph, StayKept}
 use Rattle.client_contexts.specs.Steps.{WantsMemory}
@@ -16,13 +15,9 @@ pub shown : (graph : ℕ) (kept : List (ℕ × KeptGraph)) → lookup (is_at (na
 shown graph kept = lookup-map_values (λ (k : KeptGraph). k.work) (is_at (nat_cmp graph)) kept
 
 -- a graph that is still kept is still listed
-shown_still : (work graph : ℕ) (old new : List (ℕ × KeptGraph)) → (kept_within graph old ≡ Some work → kept_within graph new ≡ Some work)
+pub shown_still : (work graph : ℕ) (old new : List (ℕ × KeptGraph)) → (kept_within graph old ≡ Some work → kept_within graph new ≡ Some work)
     → IsKeptWithin work graph (verified_in old) → IsKeptWithin work graph (verified_in new)
 shown_still work graph old new still is = shown graph new ∙ still (sym (shown graph old) ∙ is)
-
-pub shown_same : (work graph : ℕ) (old new : List (ℕ × KeptGraph)) → kept_within graph new ≡ kept_within graph old
-    → IsKeptWithin work graph (verified_in old) → IsKeptWithin work graph (verified_in new)
-shown_same work graph old new same = shown_still work graph old new (λ is. same ∙ is)
 
 -- after a graph is kept with the work bytes, all others that were still are
 pub stay_with_one : (work graph : ℕ) (k : KeptGraph) → k.work ≡ work → (old new : List (ℕ × KeptGraph))
@@ -35,29 +30,21 @@ stay_with_one work graph k same old new updates = λ q.
 
 -- a fact that holds in any case also holds in the case of an error
 on_err : {A E P : Type 0} (result : Result A E) → P → OnErr result P
-on_err (Ok value) said = tt
-on_err (Err error) said = said
+on_err result said = grind arith
 
 -- VerifyGraph takes no memory while its graph is kept, so it lacks memory only if the graph wasn't kept
-pub lost_unkept : (work graph : ℕ) (request : Request) (kept : List (ℕ × KeptGraph)) (result : Result Reply RequestFault) → request ≡ VerifyGraph graph
-    → IfErr result (λ f. WantsMemory f (kept_within graph kept ≢ Some work))
+lost_unkept : (work graph : ℕ) (request : Request) (kept : List (ℕ × KeptGraph)) (result : Result Reply RequestFault) → (request ≡ VerifyGraph graph) ⊎ (request ≡ ProcessGraph graph)
+    → (request ≡ VerifyGraph graph → IfErr result (λ f. WantsMemory f (kept_within graph kept ≢ Some work)))
     → OnErr (client_result result) ((name : ℕ) → request ≡ VerifyGraph name → IsKeptWithin work name (verified_in kept) → ⊥)
-lost_unkept work graph request kept (Err fault.NoMemory) is takes = λ name asks verified.
-    let same : name ≡ graph = cc in
-    takes (sym (shown graph kept) ∙ subst (λ (n : ℕ). IsKeptWithin work n (verified_in kept)) same verified)
-lost_unkept work graph request kept other is takes = tt
-
--- a statement about VerifyGraph without memory says nothing about ProcessGraph
-pub lost_none : (P : ℕ → Type 0) (graph : ℕ) (request : Request) (result : Result Reply NoMemory) → request ≡ ProcessGraph graph → OnErr result ((name : ℕ) → request ≡ VerifyGraph name → P name)
-lost_none P graph request result is = on_err result (λ name asks. let other : ProcessGraph graph ≡ VerifyGraph name = sym is ∙ asks in absurd (cc))
+lost_unkept work graph request kept result is takes = grind (arith, shown, takes)
 
 -- a request to verify or to run a graph
 pub ran_keeps : (work graph : ℕ) (request : Request) (old new : List (ℕ × KeptGraph)) (result : Result Reply RequestFault) → (request ≡ VerifyGraph graph) ⊎ (request ≡ ProcessGraph graph)
-    → OnErr (client_result result) ((name : ℕ) → request ≡ VerifyGraph name → IsKeptWithin work name (verified_in old) → ⊥) → OnOk result (kept_within graph new ≡ Some work)
+    → (request ≡ VerifyGraph graph → IfErr result (λ f. WantsMemory f (kept_within graph old ≢ Some work))) → OnOk result (kept_within graph new ≡ Some work)
     → StayKept work (verified_in old) (verified_in new) → KeepsVerified work request (verified_in old) (verified_in new) (client_result result)
-ran_keeps work graph request old new result is lost found stay =
+ran_keeps work graph request old new result is takes found stay =
     record {
-      lost = lost;
+      lost = lost_unkept work graph request old result is takes;
       found = λ told name asks. subst (λ (n : ℕ). IsKeptWithin work n (verified_in new)) (same_graph name is asks) (of_result result told found);
       stays = λ name _. stay name;
       refused = λ code _. stay;
@@ -68,15 +55,12 @@ ran_keeps work graph request old new result is lost found stay =
     same_graph name first second = grind arith
 
     of_result : (r : Result Reply RequestFault) → client_result r ≡ Ok reply.Empty → OnOk r (kept_within graph new ≡ Some work) → IsKeptWithin work graph (verified_in new)
-    of_result (Ok made) told said = shown graph new ∙ said
-    of_result (Err (fault.Refused refusal)) told said = absurd (cc)
-    of_result (Err fault.NoMemory) told said = absurd (cc)
+    of_result r told said = grind (arith, shown)
 
 -- another request
 module _ (work : ℕ) (request : Request) (others : runs_graph request ≡ false) (old new : List (ℕ × ℕ)) where
   asks_none : (name : ℕ) → (request ≡ VerifyGraph name) ⊎ (request ≡ ProcessGraph name) → ⊥
-  asks_none name (inl asks) = let runs : true ≡ false = sym (ap runs_graph asks) ∙ others in cc
-  asks_none name (inr asks) = let runs : true ≡ false = sym (ap runs_graph asks) ∙ others in cc
+  asks_none name asks = grind (arith, others)
 
   -- it is done, and forgets only the graphs that it ends
   pub done_keeps : (made : Reply) → ((code : Code) → made ≢ reply.Refused code)

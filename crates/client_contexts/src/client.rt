@@ -80,6 +80,7 @@ impl Client {
 
     /// Returns the cache entry of a graph, or `None`. The entry has the verification, the slots of
     /// the virtual images and the schedule of a run, all for the graph's current nodes.
+    #[tactic(auto, using(crate::proofs::KeptLemmas::lent_shows))]
     pub fn kept(&self, graph: u32) -> Option<&KeptGraph>
         ensures holds { IfSome result (λ kept. IsKept self.now.context graph kept.now) }
         ensures work { option_map (λ kept. kept.now.work) result
@@ -190,6 +191,7 @@ impl Client {
 
     /// Returns the image that a reference names. Refused if the reference names no image with
     /// samples.
+    #[tactic(auto, using(crate::proofs::OutcomeLemmas::image_steps))]
     pub fn image(&self, reference: ObjRef) -> Result<&Stored, Refusal>
         requires { IsContext self.now.context }
         ensures ok { IfOk result (λ image. read_image self.now.context reference

@@ -36,6 +36,7 @@ pub fn create_delay(
 }
 
 /// Ages a delay: each image moves to the next slot, and the last image to slot 0.
+#[tactic(auto, using(crate::proofs::BlockLemmas::age_keeps_blocks))]
 pub fn age_delay(table: &mut Table, name: u32) -> Result<Reply, Refusal>
     requires { IsContext table.old }
     ensures comes { ComesTo (age_delay table.old name) table.old table.new result }
@@ -48,6 +49,7 @@ pub fn age_delay(table: &mut Table, name: u32) -> Result<Reply, Refusal>
 }
 
 /// Registers a delay with a graph. From then on the delay ages after each run of the graph.
+#[tactic(auto, using(crate::proofs::BlockLemmas::register_keeps_blocks))]
 pub fn register_auto_aging(table: &mut Table, graph: u32, delay: u32) -> Result<Reply, RequestFault>
     requires { IsContext table.old }
     ensures comes { MayComeTo (register_auto_aging table.old graph delay)

@@ -58,6 +58,7 @@ pub fn create_virtual_image(
 }
 
 /// Adds a node to a graph. The reply has the node's number.
+#[tactic(auto, using(crate::proofs::BlockLemmas::graph_keeps_blocks))]
 pub fn add_node(table: &mut Table, graph: u32, node: NodeSpec) -> Result<Reply, RequestFault>
     requires { IsContext table.old }
     ensures comes { MayComeTo (add_node table.old graph node) table.old table.new result }

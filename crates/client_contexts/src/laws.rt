@@ -11,6 +11,7 @@ ghost use Rattle.client_contexts.specs.World.{World};
 /// After VerifyGraph of a graph has succeeded, VerifyGraph of the same graph never fails for lack
 /// of memory. Whatever other clients request, this holds until the client changes the graph's
 /// nodes, or releases the graph or the context.
+#[tactic(auto, using(crate::proofs::CallLemmas::finds_memory))]
 pub fn verified_once()
     ensures { (client graph : ℕ) (first verified later last : World) (calls : List Call)
         (result : Result Reply NoMemory) →

@@ -146,23 +146,25 @@ fn find_operand(
     }
 }
 
-/// Returns the operand that a reference of a node names, as `find_operand` does, or `None` without
-/// a reference.
+/// Returns the operand that a reference of a node names, or `None` without a reference. The operand
+/// is `known` if given, otherwise the one that `find_operand` returns.
 fn find_if_given(
     table: &Table,
     cell: Option<ObjRef>,
     kind: Kind,
     scope: Option<u32>,
+    known: Option<Operand>,
 ) -> Result<Option<Operand>, Refusal>
+    requires { IsKnown table.now.objects scope kind cell known }
     ensures ok { IfOk result (λ operand. operand
         ≡ option_map (operand_held table.now.objects) cell) }
     ensures found { OnOk result (All (IsFound table.now.objects) (with_kind kind cell)) }
     ensures err { refusal_in result ≡ operands_refusal scope table.now.objects
         (with_kind kind cell) }
 {
-    match cell {
-        None => Ok(None),
-        Some(cell) => Ok(Some(find_operand(table, cell, kind, scope)?)),
+    match (known, cell) {
+        (Some(_), _) | (_, None) => Ok(known),
+        (None, Some(cell)) => Ok(Some(find_operand(table, cell, kind, scope)?)),
     }
 }
 
@@ -197,28 +199,6 @@ fn both<A: Drop, B: Drop>(
     }
 }
 
-/// Returns the operand of a node's output: `known` if given, otherwise the operand that
-/// `find_if_given` returns.
-fn find_output(
-    table: &Table,
-    cell: Option<ObjRef>,
-    kind: Kind,
-    scope: Option<u32>,
-    known: Option<Operand>,
-) -> Result<Option<Operand>, Refusal>
-    requires { IsKnown table.now.objects scope kind cell known }
-    ensures ok { IfOk result (λ operand. operand
-        ≡ option_map (operand_held table.now.objects) cell) }
-    ensures found { OnOk result (All (IsFound table.now.objects) (with_kind kind cell)) }
-    ensures err { refusal_in result ≡ operands_refusal scope table.now.objects
-        (with_kind kind cell) }
-{
-    match known {
-        Some(operand) => Ok(Some(operand)),
-        None => find_if_given(table, cell, kind, scope),
-    }
-}
-
 /// Returns a node's operands, each of the kind that the node's function expects. `scope` is the
 /// node's graph, or `None` for an immediate node.
 pub fn find_operands(table: &Table, node: &Node, scope: Option<u32>) -> Result<Operands, Refusal>
@@ -247,9 +227,9 @@ pub fn find_unknown_operands(
     let parameters = node.function.parameters();
     let second = parameters.second_input.unwrap_or(Kind::Image);
     let in1 = find_operand(table, node.in1, Kind::Image, scope);
-    let in2 = find_if_given(table, node.in2, second, scope);
-    let out1 = find_output(table, node.out1, parameters.output, scope, known.0);
-    let out2 = find_output(table, node.out2, parameters.output, scope, known.1);
+    let in2 = find_if_given(table, node.in2, second, scope, None);
+    let out1 = find_if_given(table, node.out1, parameters.output, scope, known.0);
+    let out2 = find_if_given(table, node.out2, parameters.output, scope, known.1);
     let ((in1, in2), (out1, out2)) = both(both(in1, in2), both(out1, out2))?;
     Ok(Operands {
         in1,

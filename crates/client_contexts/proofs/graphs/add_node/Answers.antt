@@ -1,8 +1,7 @@
-use Rattle.std.proofs.Common.{rules, sym, subst, ◌==◌, ap, ◌∙◌, Some, ◌∷◌}
-use Rattle.client_contexts.proofs.Common.{with_node, KeepsBlocks, Context, graph_under, OperandsStand, Node, operands, reference_to, operands_refusal, KeepsBut}
+use Rattle.std.proofs.Common.{rules, subst, ◌==◌, ap, ◌∙◌, Some, ◌∷◌}
+use Rattle.client_contexts.proofs.Common.{OperandsStand, Node, operands, reference_to, operands_refusal, KeepsBut}
 use Rattle.vx_base.specs.declared.kind.Kind.TheVariants as kind
 use Rattle.client_model.proofs.GraphStepLaws.{add_node_keeps}
-use Rattle.client_contexts.proofs.BlockLemmas.{graph_keeps_blocks}
 use Rattle.client_contexts.proofs.AddLemmas.{names_held, node_added, node_refused}
 use Rattle.client_contexts.proofs.graphs.add_node.Goals as goal
 
@@ -27,9 +26,3 @@ returns-clause-comes c =
 pub returns-clause-within_limits : goal.returns-clause-within_limits
 returns-clause-within_limits c = λ limits h.
     (subst (KeepsBut (λ other. c.args.graph == other) limits c.args.table.now) (returns-clause-comes c).done (add_node_keeps limits c.args.table.now c.args.graph c.args.node h c.node.ensures.node)).keeps
-
-pub returns-clause-blocks : goal.returns-clause-blocks
-returns-clause-blocks c =
-    let t = c.args.table.now in
-    subst (λ (k : Context). KeepsBlocks t.objects k.objects) (sym c.in_ok-add_node.ensures.ok)
-    (graph_keeps_blocks t.objects c.requires.1.names c.args.graph (with_node (graph_under t.objects c.args.graph) c.args.node) c.in_ok-find_graph_for.ensures.ok.1)

@@ -1,8 +1,7 @@
 use Rattle.std.proofs.Common.{subst, sym, ◌∙◌}
 use Rattle.client_model.proofs.NodeStepLaws.{immediate_keeps}
 use Rattle.client_model.proofs.OutcomeLaws.{Keeps}
-use Rattle.graph_run.proofs.LendLemmas.{last_lent, names_lent, objects_lent, runs_lent}
-use Rattle.client_contexts.proofs.BlockLemmas.{lasting_blocks}
+use Rattle.graph_run.proofs.LendLemmas.{names_lent, objects_lent, runs_lent}
 use Rattle.client_contexts.proofs.ImmediateLemmas.{done_lent, outputs_known, planes_lent, refused_lent, runs_back}
 use Rattle.client_contexts.proofs.immediate.run_at_once.Goals as goal
 
@@ -33,13 +32,8 @@ returns-in-Ok-clause-comes c =
     }
 
 pub returns-in-Ok-clause-within_limits : goal.returns-in-Ok-clause-within_limits
-returns-in-Ok-clause-within_limits c = λ limits. λ h.
-    let lent = c.lend_outputs-planes.ensures in
-    let done = done_lent lent.lent lent.planes c.args.node c.node-node.ensures.value c.run_lent.new.table c.in-Ok.ensures.refusal c.run_lent.ensures.value in
-    (subst (Keeps limits c.args.table.now) done (immediate_keeps limits c.args.table.now c.args.node h c.node-node.ensures.node)).keeps
-
-pub returns-in-Ok-clause-blocks : goal.returns-in-Ok-clause-blocks
-returns-in-Ok-clause-blocks c = lasting_blocks c.args.table.now.objects c.run_lent.new.table.objects (last_lent c.lend_outputs-planes.ensures.lent c.run_lent.new.table.objects c.run_lent.ensures.lasts)
+returns-in-Ok-clause-within_limits c = λ limits h.
+    (subst (Keeps limits c.args.table.now) (returns-in-Ok-clause-comes c).done (immediate_keeps limits c.args.table.now c.args.node h c.node-node.ensures.node)).keeps
 
 pub returns-in-Err-clause-comes : goal.returns-in-Err-clause-comes
 returns-in-Err-clause-comes c =

@@ -1,5 +1,5 @@
-use Rattle.std.proofs.Common.{◌+◌, ap, ◌∙◌}
-use Rattle.std.proofs.lemmas.Result.{on_ok_weaker, on_err_weaker}
+use Rattle.std.proofs.Common.{◌+◌, ap, ◌∙◌, arith}
+use Rattle.std.proofs.lemmas.Result.{on_ok_weaker}
 use Rattle.pixel_pool.specs.Pool.{lent_of, one_of}
 use Rattle.client_contexts.proofs.incoming.take_block.Goals as goal
 
@@ -10,7 +10,4 @@ returns-in-Err-clause-lends c =
     c.take-in-Err.ensures.lends
 
 pub returns-in-Err-clause-err : goal.returns-in-Err-clause-err
-returns-in-Err-clause-err c =
-    on_err_weaker c.take-in-Err.result (λ same format.
-    ap (λ p. lent_of p format) same ∙ c.drop_free.ensures.lent format ∙ ap (λ p. lent_of p format) c.in-Err.ensures.err)
-    c.take-in-Err.ensures.err
+returns-in-Err-clause-err c = grind (arith, c.take-in-Err.ensures.err, c.drop_free.ensures.lent, c.in-Err.ensures.err)

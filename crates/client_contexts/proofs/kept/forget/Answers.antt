@@ -1,5 +1,5 @@
-use Rattle.std.proofs.Common.{◌≡◌, ℕ, false, List, inl, inr, refl, ap, ◌==◌}
-use Rattle.client_contexts.proofs.Common.{option_map, KeptGraph}
+use Rattle.std.proofs.Common.{ℕ, List, inl, inr, refl, arith}
+use Rattle.client_contexts.proofs.Common.{KeptGraph}
 use Rattle.client_contexts.proofs.ForgetLemmas.{apart, others_left}
 use Rattle.client_contexts.proofs.kept.forget.Goals as goal
 
@@ -10,8 +10,4 @@ returns-in-AddNode-clause-left c =
     elim c.in-AddNode.is [ inl added ↦ rw added.1 left | inr other ↦ elim other [ inl removed ↦ rw removed.1 left | inr released ↦ rw released (λ k d below. refl) ] ]
 
 pub returns-in-AddNode-clause-stay : goal.returns-in-AddNode-clause-stay
-returns-in-AddNode-clause-stay c = λ name stays.
-    let graph : ℕ = c.in-AddNode.graph in
-    let differs : (graph == name) ≡ false =
-    elim c.in-AddNode.is [ inl added ↦ rw added.1 at stays | inr other ↦ elim other [ inl removed ↦ rw removed.1 at stays | inr released ↦ rw released at stays ] ] in
-    ap (option_map (λ (k : KeptGraph). k.work)) (c.remove-forgotten.ensures.updates.2 name (apart graph name differs))
+returns-in-AddNode-clause-stay c = grind (arith, apart, c.remove-forgotten.ensures.updates.2)

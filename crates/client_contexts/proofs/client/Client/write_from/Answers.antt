@@ -1,6 +1,5 @@
 use Rattle.std.proofs.Common.{subst, sym}
 use Rattle.client_contexts.proofs.Common.{ClientContext, KeepsLimits}
-use Rattle.client_contexts.specs.Steps.{Keeps}
 use Rattle.client_contexts.proofs.IncomingLemmas.{incoming_keeps}
 use Rattle.client_contexts.proofs.client.Client.write_from.Goals as goal
 
@@ -11,4 +10,4 @@ invariant_of-self g c =
     (subst (λ (o : ClientContext). KeepsLimits c.requires.context.0 o.context) (sym c.self.view_is) c.requires.context.1) c.prove_reference.ensures c.write_from.ensures.done c.write_from.ensures.same c.self.invariant
 
 pub returns-clause-within_limits : goal.returns-clause-within_limits
-returns-clause-within_limits g c = subst (λ (o : ClientContext). Keeps o.context c.write_from.new.table) c.self.view_is c.write_from.ensures.within_limits
+returns-clause-within_limits g c = rw (← c.self.view_is) c.write_from.ensures.within_limits

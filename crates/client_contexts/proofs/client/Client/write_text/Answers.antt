@@ -1,7 +1,6 @@
 use Rattle.std.proofs.Common.{◌<◌, ◌^◌, refl, sym, subst, arith}
 use Rattle.client_contexts.proofs.Common.{ClientContext, KeepsLimits}
 use Rattle.std.proofs.lemmas.List.{get_or_default}
-use Rattle.client_contexts.specs.Steps.{Keeps}
 use Rattle.client_model.specs.declared.request.Request.TheVariants.{WriteImagePgm}
 use Rattle.client_model.specs.Images.{write_text}
 use Rattle.client_contexts.proofs.KeptGraphLemmas.{kept_written}
@@ -16,4 +15,4 @@ invariant_of-self c =
     refl (λ name. refl) refl c.write_text.ensures.comes.done c.write_text.ensures.comes.unchanged c.self.invariant
 
 pub returns-clause-within_limits : goal.returns-clause-within_limits
-returns-clause-within_limits c = subst (λ (o : ClientContext). Keeps o.context c.write_text.new.table) c.self.view_is c.write_text.ensures.within_limits
+returns-clause-within_limits c = rw (← c.self.view_is) c.write_text.ensures.within_limits
