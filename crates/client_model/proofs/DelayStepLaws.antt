@@ -1,5 +1,5 @@
 -- A new delay, a delay that ages, and one that is registered with a graph keep the limits and the objects held.
-use Rattle.std.proofs.Common.{◌≡◌, ℕ, false, IfOk, IsTrue, List, [], ◌∷◌, length, map, get_or, replicate, refl, sym, ap, ◌∙◌, arith, Option, Some, None, IfSome, Result, Ok, Err, rules, All, length-take, length-drop, length-append}
+use Rattle.std.proofs.Common.{◌≡◌, ℕ, false, IfOk, IsTrue, List, [], ◌∷◌, length, map, get_or, replicate, refl, ap, arith, Option, Some, None, IfSome, Result, Ok, Err, rules, All, length-take, length-drop, length-append}
 use Rattle.client_model.proofs.Common.{option_map, option_and_then, length-map, All-tail, All-cons, All-append, Reference, reference_to, Description, ImageValue, IsImage, description_of, ObjectValue, GraphObject, IsObject, in_slot, NamedObject, object_held, Context, object_named, with_objects, with_graph, Refusal, LimitsValue, image_of, KeepsLimits, lasting_part, lasting_named, Lasts, object_held_has, cond_both, GraphValue, IsGraph}
 use Rattle.vx_base.specs.declared.format.Format.TheVariants.{U8}
 use Rattle.vx_base.specs.Object.{DelayObject, IsDelay}
@@ -87,10 +87,7 @@ age_delay_keeps limits c name h =
         → Keeps limits c (age_named c name object)
     of_found (Some (DelayObject images)) is found =
         with_object_leaves limits (λ name. false) c h (reference_to name, DelayObject (aged_images images))
-        (record {
-          is_object = aged_is images is;
-          lasts = ap (λ o. option_map lasting_part (option_and_then (in_slot None) o)) found ∙ ap Some (sym (aged_lasts images is));
-        })
+        (record { is_object = aged_is images is; lasts = cc (aged_lasts images is) })
     of_found object is found = grind arith
 
 -- ---- delays that age with a graph
@@ -109,10 +106,7 @@ aged_under_last names [] is = record { objects = is; lasting = refl }
 aged_under_last names (o ∷ objects) is =
     let first = aged_if_lasts names o (is 0 o (omega arith)) in
     let rest = aged_under_last names objects (All-tail (λ p. IsObject p.object) o objects is) in
-    record {
-      objects = All-cons (λ p. IsObject p.object) (aged_if names o) (aged_under names objects) first.0 rest.objects;
-      lasting = cc (first.1, rest.lasting);
-    }
+    grind (arith, All-cons)
 
 -- a delay that is registered keeps the limits, and what is held
 registered_leaves : (limits : LimitsValue) (c : Context) (graph delay : ℕ) (found : GraphValue) → KeepsLimits limits c → IsGraph found

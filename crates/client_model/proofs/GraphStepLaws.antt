@@ -9,7 +9,7 @@ use Rattle.object_table.specs.Delay.{with_slot}
 use Rattle.object_table.specs.Holds.{without_name}
 use Rattle.graph_verify.proofs.GraphLemmas.{IsGraph-with_node, IsGraph-without_node}
 use Rattle.client_model.specs.declared.reply.Reply.TheVariants as reply
-use Rattle.client_model.specs.Graphs.{as_graph, graph_named, create_virtual_in, create_virtual_image, add_to, add_node, remove_from, remove_node}
+use Rattle.client_model.specs.Graphs.{as_graph, graph_named, create_virtual_image, add_to, add_node, remove_from, remove_node}
 use Rattle.client_model.specs.Objects.{release}
 use Rattle.object_table.proofs.HeldLemmas.{HasObject, All-with_object, map-with_object}
 use Rattle.graph_run.proofs.HeldLaws.{object_held-with_object}
@@ -177,5 +177,4 @@ remove_node_keeps limits c name number h =
 -- a new virtual image keeps the limits
 pub create_virtual_image_keeps : (limits : LimitsValue) (c : Context) (name : ℕ) (declared : PartialDescription) → KeepsLimits limits c → name < 2 ^ 32 → IsPartialDescription declared → Keeps limits c (create_virtual_image limits c name declared)
 create_virtual_image_keeps limits c name declared h small is =
-    of_graph limits c name h (λ graph. Keeps limits c (create_virtual_in graph limits c name declared)) (λ refusal. tt)
-    (λ graph found one stood. grind (arith, create_keeps))
+    grind (arith, create_keeps)

@@ -1,13 +1,12 @@
 -- The objects that are held: those that nodes of graphs use, and that nodes still find once others are dropped.
-use Rattle.std.proofs.Common.{◌≡◌, ◌⊎◌, inl, inr, ℕ, arith, Bool, true, false, IsTrue, List, [], ◌∷◌, ◌++◌, get_or, Option, Some, refl, sym, ap, subst, ◌∙◌, rules, All, is_none, ◌==◌, ◌&&◌, not, find, filter, unwrap_or, eq-eqb, eqb-true}
-use Rattle.client_model.proofs.Common.{IsStrictlyIncreasing, option_map, option_and_then, and_parts, or_cases, All-nil, All-cons, All-append, All-filter, All-map, All-tail, All-weaker, find-append, Function, Kind, Node, Numbered, Reference, parameters, operands, ObjectValue, GraphObject, object_kind, in_slot, NamedObject, object_held, object_at, skeleton, names_it, uses, is_used, is_held, still_held, nodes_in, is_kind, holds_nothing, kind_held, holds_operand, NodesStand, names_of, All-from_map, held_by_name}
+use Rattle.std.proofs.Common.{◌≡◌, ◌⊎◌, inl, inr, ℕ, arith, Bool, true, false, IsTrue, List, [], ◌∷◌, ◌++◌, get_or, Option, Some, refl, sym, ap, subst, ◌∙◌, rules, All, is_none, ◌==◌, ◌&&◌, not, find, filter, eq-eqb, eqb-true}
+use Rattle.client_model.proofs.Common.{IsStrictlyIncreasing, option_map, option_and_then, and_parts, or_cases, All-nil, All-cons, All-append, All-filter, All-map, All-tail, All-weaker, find-append, Kind, Node, Numbered, Reference, operands, ObjectValue, GraphObject, object_kind, in_slot, NamedObject, object_held, object_at, skeleton, names_it, uses, is_used, is_held, still_held, nodes_in, is_kind, holds_nothing, kind_held, holds_operand, NodesStand, names_of, All-from_map, held_by_name}
 use Rattle.std.specs.List.{list_any}
 use Rattle.std.proofs.lemmas.Bool.{or_right, and_from, and_right, both_ways, not_from_false, or_left, or_parts}
 use Rattle.object_table.specs.Delay.{slot_kind}
 use Rattle.std.proofs.lemmas.List.Elements.{filter_passes}
 use Rattle.std.proofs.lemmas.List.Folds.{list_any_at, list_any_none}
 use Rattle.std.proofs.lemmas.Map.Views.{any-filter_same}
-use Rattle.vx_base.specs.declared.function.Function.TheVariants.{AndBits}
 use Rattle.vx_base.specs.declared.kind.Kind.TheVariants as kind
 use Rattle.client_model.specs.Operands.{is_of_other_graph}
 use Rattle.object_table.proofs.SkeletonLaws.{slot_kind-skeleton, in_slot-skeleton}
@@ -36,13 +35,9 @@ is_taken kind.Graph = false
 is_taken kind.VirtualImage = false
 is_taken other = true
 
-parameters_taken : (function : Function) → (is_taken (unwrap_or (parameters function).second_input kind.Image) ≡ true) × (is_taken (parameters function).output ≡ true)
-parameters_taken AndBits = (refl, refl)
-parameters_taken other = (refl, refl)
-
 -- the kinds that a node's function has for its operands are such
 pub kinds_taken : (n : Node) → All (λ operand. is_taken operand.1 ≡ true) (operands n)
-kinds_taken n = grind (arith, All-cons, All-append, parameters_taken n.function, All-nil)
+kinds_taken n = grind (arith, All-cons, All-append, All-nil)
 
 -- ---- operands that are valid
 

@@ -1,6 +1,6 @@
 -- Objects under their names, of which one is added or some are no longer held, and what cells of live names hold.
-use Rattle.std.proofs.Common.{◌≡◌, ℕ, ◌+◌, ◌<◌, Bool, true, List, [], ◌∷◌, ◌++◌, subst, arith, Option, Some, IfSome, All, filter, eqb-true}
-use Rattle.client_model.proofs.Common.{IsStrictlyIncreasing, length-map, IfSome_then, Reference, Kind, ObjectValue, ExtremesObject, object_kind, NamedObject, object_held, object_at, object_named, is_kind, kind_of, kind_held, names_of, named_has}
+use Rattle.std.proofs.Common.{◌≡◌, ℕ, ◌+◌, ◌<◌, Bool, true, List, [], ◌∷◌, ◌++◌, arith, Some, IfSome, All, filter, eqb-true}
+use Rattle.client_model.proofs.Common.{IsStrictlyIncreasing, length-map, Reference, Kind, ObjectValue, ExtremesObject, object_kind, NamedObject, object_held, object_at, object_named, is_kind, kind_of, kind_held, names_of, named_has}
 use Rattle.std.specs.List.{AllPairs}
 use Rattle.std.proofs.Math.ListN.{get_or-map as get_or-map_default}
 use Rattle.std.proofs.lemmas.List.Kept.{AllPairs-filter}
@@ -36,7 +36,7 @@ held_if_live (o ∷ objects) name h =
 -- what holds of the object that is held under a name holds of the object whose live name it is
 pub live_has : (objects : List NamedObject) (name : ℕ) (P : ObjectValue → Type 0) → IsStrictlyIncreasing (names_of objects) → IfSome (object_held objects name) P → IfSome (object_named objects name) P
 live_has objects name P names h =
-    IfSome_then (object_named objects name) (held_if_live objects name names) (λ object found. subst (λ (o : Option ObjectValue). IfSome o P) found h)
+    grind (arith, held_if_live objects name names)
 
 -- ---- what a cell holds
 
