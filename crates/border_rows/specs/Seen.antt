@@ -12,8 +12,8 @@ border_value Undefined edge = pos 0
 border_value (Constant value) edge = pos value
 border_value Replicate edge = edge
 
--- the valid row that a window reads instead of row y, which is outside the valid rectangle; None
--- unless the border is Replicate
+-- the valid row that a window reads instead of a row y outside the valid rectangle; None unless the
+-- border is Replicate
 abbrev pub border_row : Rectangle → Border → ℤ → Option ℕ
 border_row valid Undefined y = None
 border_row valid (Constant value) y = None

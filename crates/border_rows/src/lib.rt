@@ -1,7 +1,7 @@
 //! Rows of U8 images as window functions read them, border included.
 //!
 //! - `row_in_place` borrows a row's samples at valid columns without a copy; `border_value` gives
-//!   the border's sample next to either end of the row.
+//!   the border's sample next to a valid edge sample.
 //! - `seen_around` returns the sample at a valid column with its left and right neighbours.
 //! - `load_row` writes part of a row, border included, as U8 or S16 numbers; a `RowWindow` holds
 //!   one whole row, border included, as U8. Both copy the valid samples and fill in the border's

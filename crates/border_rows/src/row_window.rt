@@ -53,7 +53,7 @@ impl RowWindow {
         })
     }
 
-    /// Loads row `y` of a U8 image, border included. Allocates nothing. The caller has to pass an
+    /// Loads row `y` of a U8 image, border included. Allocates nothing. The caller must pass an
     /// image of this `RowWindow`'s width, with at least one valid pixel.
     pub fn load(&mut self, image: &Image<'_>, y: i32, border: Border)
         requires format { image.now.format ≡ U8 }

@@ -82,7 +82,7 @@ fn load_between<T: Loaded>(left: u8, before: usize, samples: &[u8], right: u8, o
     set_all(back, T::loaded(right));
 }
 
-/// Fills `out` with the samples that a window reads along row `line`, which is valid, from column
+/// Fills `out` with the samples that a window reads along the valid row `line`, from column
 /// `start - radius` on.
 fn load_line<T: Loaded>(
     image: &Image<'_>,
@@ -115,7 +115,7 @@ fn load_line<T: Loaded>(
 }
 
 /// Fills `out` with the samples that a window reads in row `y` of a U8 image, from column
-/// `start - radius` on. The caller has to pass an image with at least one valid pixel.
+/// `start - radius` on. The caller must pass an image with at least one valid pixel.
 pub fn load_row<T: Loaded>(
     image: &Image<'_>,
     start: u16,
@@ -136,10 +136,10 @@ pub fn load_row<T: Loaded>(
     }
 }
 
-/// Returns the samples that a window reads in row `y` of a U8 image, at `count` valid columns from
-/// column `x` on. The result borrows the image's samples, without a copy. If the window reads no
-/// valid row for row `y`, the result borrows part of `off_rows`. The caller has to pass at least
-/// `count` samples in `off_rows`, all with the border's value.
+/// Returns the samples that a window reads in row `y` of a U8 image, at `count` columns from column
+/// `x` on. The result borrows the image's samples, or `off_rows` if the window reads no valid row
+/// for row `y`. The caller must pass valid columns, and an image with at least one valid row.
+/// `off_rows` must have at least `count` samples, each equal to `border_value(border, 0)`.
 pub fn row_in_place<'a>(
     image: &'a Image<'_>,
     x: u16,
@@ -183,8 +183,7 @@ fn sample_before(image: &Image<'_>, x: u16, line: u16, border: Border) -> u8
 }
 
 /// Returns three samples that a window reads in row `y` of a U8 image: at the columns `x - 1`, `x`
-/// and `x + 1`. The caller has to pass a valid column `x`, and an image with at least one valid
-/// row.
+/// and `x + 1`. The caller must pass a valid column `x`, and an image with at least one valid row.
 pub fn seen_around(image: &Image<'_>, x: u16, y: i32, border: Border) -> (u8, u8, u8)
     requires format { image.now.format ≡ U8 }
     requires rows { image.now.valid.y0 < image.now.valid.y1 }

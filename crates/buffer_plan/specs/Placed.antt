@@ -30,8 +30,8 @@ abbrev pub slot_capacity : List Placed → ℕ → ℕ
 slot_capacity placed k =
     maximum_of (map (λ p. sample_count p.life.image.desc) (filter (λ p. p.slot == k) placed))
 
--- an image takes a slot that is free again, or a new slot if none is free. `ends` has the last live
--- step of each slot before the image takes its slot; `ends'` has these steps afterwards.
+-- an image takes a slot that is free again, or a new slot if none is free. For each slot, `ends`
+-- has the last step at which the slot is in use. `ends'` is `ends` after the image takes its slot.
 abbrev pub TakesSlot : Life → List ℕ → List ℕ → ℕ → Type 0
 TakesSlot l ends ends' slot =
     ((slot < length ends) × (slice_index_or ends slot 0 < l.first)

@@ -8,7 +8,7 @@
 //! step that needs all slots of a format.
 //!
 //! - `lives`: the first and the last step at which each image is live
-//! - `slots`: the assignment of the images of one format
+//! - `slots`: the assignment of the images of one format to slots
 //! - `plan`: the plan of a verified graph
 //! - `laws`: facts about plans
 #![tactic(auto)]

@@ -62,7 +62,8 @@ fn take_slot(ends: &mut Vec<usize>, life: &Life) -> Result<usize, AllocError>
     Ok(ends.len() - 1)
 }
 
-/// Returns for each slot the greatest sample count of its images.
+/// Returns for each of `count` slots the greatest sample count of its images. Each image's slot
+/// must be below `count`.
 fn greatest_samples(
     alloc: Global,
     placed: &[Placed],
@@ -92,8 +93,9 @@ fn peak_after(before: Option<usize>, life: &Life, is_new: bool) -> Option<usize>
     if is_new { Some(life.first) } else { before }
 }
 
-/// Gives each image the first slot that is free. If the lives are in the order of their first
-/// steps, no assignment has fewer slots. An error means that there is no memory for the result.
+/// Gives each image the first free slot, or a new slot if none is free. If the lives are in the
+/// order of their first steps, no valid assignment has fewer slots. An error means that there is no
+/// memory for the result.
 pub fn place(alloc: Global, lives: &[Life]) -> Result<Places, AllocError>
     ensures { IfOk result (λ places. ArePlaced lives.now places) }
 {

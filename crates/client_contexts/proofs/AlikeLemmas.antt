@@ -5,7 +5,7 @@ use Rattle.std.proofs.Math.Path.{fun_ext}
 use Rattle.vx_base.specs.declared.kind.Kind.TheVariants as kind
 use Rattle.object_table.specs.Skeleton.{skeleton}
 use Rattle.object_table.proofs.GraphLemmas.{any_alike}
-use Rattle.object_table.proofs.SkeletonLaws.{kind-skeleton, option_map-told, slot_kind-skeleton}
+use Rattle.object_table.proofs.SkeletonLaws.{kind-skeleton, option_map-determined, slot_kind-skeleton}
 use Rattle.graph_verify.specs.declared.operand.Operand.{Operand}
 use Rattle.graph_verify.specs.declared.operand.Operand.TheVariants.{Image, Missing}
 use Rattle.graph_verify.specs.Operand.{operands_of}
@@ -69,7 +69,7 @@ module _ (one other : List NamedObject) (same : map lasting_named one ≡ map la
   runs_alike n can =
       record {
         node = can.node;
-        kinds = λ k d below. sym (option_map-told skeleton object_kind object_kind kind-skeleton _ _ (at_alike _)) ∙ can.kinds k d below;
+        kinds = λ k d below. sym (option_map-determined skeleton object_kind object_kind kind-skeleton _ _ (at_alike _)) ∙ can.kinds k d below;
         verdict =
             ap (λ (look : Reference → Option Operand). verdict_on n (operands_of (λ cell. unwrap_or (look cell) Missing) n)) (sym operand_alike)
             ∙ can.verdict;

@@ -11,7 +11,7 @@ use Rattle.object_table.specs.Delay.{with_slot}
 use Rattle.object_table.specs.Skeleton.{skeleton}
 use Rattle.object_table.proofs.BlockLaws.{blocks-with_new, same_blocks, keeps_blocks}
 use Rattle.object_table.proofs.HeldLemmas.{HasObject, map-with_object}
-use Rattle.object_table.proofs.SkeletonLaws.{map-told, skeleton-with_slot}
+use Rattle.object_table.proofs.SkeletonLaws.{map-determined, skeleton-with_slot}
 use Rattle.graph_run.specs.Lasting.{lasting_named, Lasts}
 use Rattle.graph_run.proofs.CellLemmas.{held_once}
 
@@ -31,7 +31,7 @@ pub ruleset insert_steps = (blocks_more, with_new_keeps)
 -- objects with the same lasting parts have as many blocks
 pub lasting_blocks : (objects new : List NamedObject) → Lasts objects new → KeepsBlocks objects new
 lasting_blocks objects new h =
-    keeps_blocks new objects (map-told lasting_named (λ o. skeleton o.object) (λ left. left.0.object) (λ _. refl) new objects h.lasting)
+    keeps_blocks new objects (map-determined lasting_named (λ o. skeleton o.object) (λ left. left.0.object) (λ _. refl) new objects h.lasting)
 
 -- a delay that ages has as many blocks
 aged_blocks : (object : ObjectValue) (format : Format) → object_blocks (aged_object object) format ≡ object_blocks object format

@@ -9,7 +9,7 @@ use Rattle.client_contexts.specs.Kept.{KeepsVerified}
 use Rattle.client_contexts.specs.World.{World, state_of, verified_of}
 
 -- the effect of a call of apply. If the result is Ok, the reply and the client's new state are
--- those of the model. If there is no memory, nothing changes. The states of other clients never
+-- those of the model. If there is no memory, no state changes. The states of other clients never
 -- change.
 pub record Applies (client : ℕ) (request : Request) (old new : World) (result : Result Reply NoMemory) : Type 0 where
   pub limits : new.limits ≡ old.limits

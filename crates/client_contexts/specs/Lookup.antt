@@ -18,8 +18,8 @@ use Rattle.client_model.specs.declared.refusal.Refusal.{Refusal}
 use Rattle.client_model.specs.Images.{picture_refusal}
 use Rattle.client_model.specs.Operands.{stands_for, operands_refusal, image_of}
 
--- the reference names this object, and the reference's cell exists and is of the wanted kind; a
--- virtual image counts as an image
+-- this object has the reference's name, and the reference's cell exists and is of the wanted kind;
+-- a virtual image counts as an image
 pub record Found (objects : List NamedObject) (cell : Reference) (wanted : Kind) (object : ObjectValue) : Type 0 where
   pub live : object_named objects cell.name ≡ Some object
   pub held : object_held objects cell.name ≡ Some object

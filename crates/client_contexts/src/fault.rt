@@ -6,7 +6,7 @@ use object_table::TableFault;
 use pgm_images::PgmFault;
 use std::alloc::AllocError;
 
-/// The reason why a request wasn't done. The request has changed nothing.
+/// The reason why a request wasn't done. The client's context is unchanged.
 #[derive(Clone, Copy, PartialEq, Eq, Debug)]
 pub enum RequestFault {
     /// The request is refused.

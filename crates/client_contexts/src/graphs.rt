@@ -92,8 +92,8 @@ pub fn remove_node(
 /// Verifies a graph. OpenVX 1.3, "Object: Graph", vxVerifyGraph. A graph that can't run is refused
 /// with its verdict.
 ///
-/// The result stays in the cache until the graph's nodes change or its name is released. Until
-/// then, the same request with the same limit on work bytes verifies nothing and allocates nothing.
+/// A verified graph stays in the cache until its nodes change or its name is released. Until then,
+/// the same request with the same limit on work bytes verifies nothing and allocates nothing.
 pub fn verify_graph(
     table: &Table,
     kept: &mut BTreeMap<u32, KeptGraph>,
@@ -109,7 +109,7 @@ pub fn verify_graph(
     ensures stay { StayKept limits.work (verified_in kept.old.entries)
         (verified_in kept.new.entries) }
 
-    // The request takes no memory while the graph is in the cache.
+    // The request takes no memory if the graph is in the cache with this limit on work bytes.
     ensures takes { IfErr result (λ fault. WantsMemory fault
         (kept_within graph kept.old.entries ≢ Some limits.work)) }
 {

@@ -1,17 +1,17 @@
 //! The clients of the server: their contexts, and the replies to their requests.
 //!
 //! `Runtime::apply` answers a request. The reply and the client's new state are those of the model
-//! (`client_model`). A request that finds no memory changes nothing. The states of other clients
-//! don't change, so no client can see or change another client's objects.
+//! (`client_model`). A request that finds no memory changes no state. No request changes another
+//! client's state, so no client can see or change another client's objects.
 //!
 //! Each client has a cache of verified graphs. A graph enters the cache when it is verified or
 //! runs. The graph stays there until its nodes change, or its name or context is released. While a
 //! graph is in the cache, VerifyGraph of this graph takes no memory.
 //!
-//! More methods move samples without a copy: `write_from` reads a picture from a source,
-//! `write_text` reads one from a PGM text, and `image` and `text_image` lend an image to the
-//! caller. These methods answer WriteImage, WriteImagePgm, ReadImage and ReadImagePgm as `apply`
-//! does.
+//! Four other methods of `Runtime` move samples without a copy: `write_from` reads a picture from a
+//! source, `write_text` reads one from a PGM text, and `image` and `text_image` lend an image to
+//! the caller. In this order, they answer WriteImage, WriteImagePgm, ReadImage and ReadImagePgm as
+//! `apply` does.
 //!
 //! A client's objects are named 1, 2, .. in the order of their creation. A client holds at most
 //! 1,024 objects, and its images are charged against its quota. Nodes read their input images

@@ -77,9 +77,9 @@ fn slot_refusal(
     }
 }
 
-/// Returns the object that a reference names. The reference's cell, which is this object or one of
-/// its slots, must exist and be of the wanted kind. In the scope of a graph, a virtual image must
-/// belong to that graph.
+/// Returns the object with a reference's name (the delay, if the reference has a slot). Refused if
+/// the name isn't live, the slot doesn't exist, or the cell isn't of the wanted kind. If `scope` is
+/// a graph's name, a virtual image of another graph is also refused.
 pub fn find(
     table: &Table,
     reference: ObjRef,
@@ -127,8 +127,7 @@ pub fn find_image(table: &Table, reference: ObjRef) -> Result<&Stored, Refusal>
     }
 }
 
-/// Returns the operand that a reference of a node names. `kind` is the kind that the node's
-/// function expects.
+/// Returns the operand that a reference names. Refused as in `find`.
 fn find_operand(
     table: &Table,
     cell: ObjRef,
@@ -239,9 +238,8 @@ pub fn find_unknown_operands(
     })
 }
 
-/// Checks that a node can be added to a graph: the graph exists, and each operand of the node is
-/// found in the graph's scope. Of several refusals, returns the one that comes first in the order
-/// of `first_class`.
+/// Checks that a graph exists, and that each operand of a node is found in the graph's scope. Of
+/// several refusals, returns the one that comes first in the order of `first_class`.
 pub fn find_graph_for(table: &Table, graph: u32, node: &Node) -> Result<(), Refusal>
     ensures ok { OnOk result (IsTrue (is_some (object_named table.now.objects graph)) ×
         IsUnder table.now.objects kind.Graph graph) }

@@ -1,7 +1,7 @@
 //! The fault of a request whose memory allocation fails.
 use std::alloc::{AllocError, AllocFailed};
 
-/// A memory allocation failed. Nothing is changed.
+/// A memory allocation failed. No client's state is changed.
 #[derive(Clone, Copy, Debug, PartialEq, Eq)]
 pub struct NoMemory;
 

@@ -20,9 +20,9 @@ use client_model::{Limits, Refusal, Reply};
 use object_table::{InsertFault, Object, Table};
 use pixel_pool::Pool;
 
-/// Checks that a client can hold one more object that is charged `bytes`. Refused with
-/// `NoResources` if all names are used, 1,024 objects are held, or the quota would be exceeded. The
-/// caller has to pass at most the byte count of 16 images of the greatest size.
+/// Checks that a client can hold one more object with `bytes` bytes of samples. Refused with
+/// `NoResources` if all names are used, 1,024 objects are held, or the quota would be exceeded.
+/// `bytes` must be at most the byte count of 16 images of the greatest size.
 pub fn require_capacity(table: &Table, limits: Limits, bytes: usize) -> Result<(), Refusal>
     requires { bytes ≤ GREATEST_SLOTS * GREATEST_BYTES }
     ensures { result ≡ (if has_capacity limits table.now bytes then Ok tt else Err NoResources) }
@@ -35,8 +35,8 @@ pub fn require_capacity(table: &Table, limits: Limits, bytes: usize) -> Result<(
     }
 }
 
-/// Adds a new object that has no images and, if it is a graph, no nodes. The reply has the object's
-/// name. The caller has to check the limits first.
+/// Adds a new object. The reply has the object's name. The object must have no blocks and no nodes.
+/// The caller must first check the limits with `require_capacity`.
 pub fn hold(table: &mut Table, limits: Limits, object: Object) -> Result<Reply, RequestFault>
     requires capacity { IsTrue (has_capacity limits table.old (object_bytes object)) }
     requires object { IsObject object }
@@ -52,8 +52,9 @@ pub fn hold(table: &mut Table, limits: Limits, object: Object) -> Result<Reply, 
     }
 }
 
-/// Adds a new image or delay. The reply has the object's name. If there is no memory for the
-/// object, its blocks go back to the pool. The caller has to check the limits first.
+/// Adds a new image or delay. The reply has the object's name. If there is no memory for the new
+/// entry of the table, the object's blocks go back to the pool. The caller must first check the
+/// limits with `require_capacity`.
 pub fn hold_images(
     table: &mut Table,
     pool: &mut Pool,

@@ -7,8 +7,8 @@ use client_model::{Refusal, Reply};
 use object_table::Table;
 use pixel_pool::Pool;
 
-/// Releases an object's name. Unless a node uses the object, the object is dropped and its blocks
-/// are given back to the pool. A graph's nodes are dropped with the graph.
+/// Releases an object's name. If the object is a graph, its nodes are dropped with it. Objects that
+/// are then no longer held are dropped, and their blocks are given back to the pool.
 pub fn release(table: &mut Table, pool: &mut Pool, name: u32) -> Result<Reply, Refusal>
     requires context { IsContext table.old }
     requires owns { LendsAtLeast pool.old (blocks_in table.old.objects) }

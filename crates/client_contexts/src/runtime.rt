@@ -86,9 +86,9 @@ impl Runtime {
     }
 
     /// Returns the cache entry of a client's graph, or `None`. The entry has the verification, the
-    /// slots of the virtual images and the schedule of a run, all for the graph's current nodes. A
-    /// VerifyGraph or ProcessGraph that succeeds makes the entry. The entry is dropped when the
-    /// graph's nodes change, or its name or context is released.
+    /// slots of the virtual images and the schedule of a run, all for the graph's current nodes.
+    /// Once VerifyGraph or ProcessGraph has succeeded, the graph has an entry until its nodes
+    /// change, or its name or context is released.
     pub fn kept(&self, client: u16, graph: u32) -> Option<&KeptGraph>
         ensures holds { IfSome result (λ kept. (context : Context) ×
             (state_of client self.now ≡ Some context) × IsKept context graph kept.now) }

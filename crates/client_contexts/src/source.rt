@@ -32,7 +32,8 @@ pub trait FillsSamples {
 /// The reason why a picture wasn't written. The image is unchanged.
 #[derive(Drop)]
 pub enum WriteFault<E> {
-    /// The picture is refused with this code, or there is no memory for it. Nothing was read.
+    /// The picture is refused with this code, or there is no memory for it (`NoMemory`). Nothing
+    /// was read.
     Refused(Code),
     /// The source failed.
     Source(E),

@@ -15,7 +15,7 @@ use object_table::{Content, Distribution, Object, Table};
 use std::alloc::Global;
 use vx_base::{Bins, Extremes, Kind};
 
-/// Creates a distribution with these bins and counts of 0.
+/// Creates a distribution with these bins. Each count is 0.
 pub fn create_distribution(
     table: &mut Table,
     limits: Limits,

@@ -23,10 +23,10 @@ use Rattle.client_model.proofs.NodeStepLaws.{CanGive, CanGiveTo, neither, second
 use Rattle.client_model.proofs.DelayStepLaws.{aged_under_last}
 use Rattle.client_model.proofs.GraphStepLaws.{of_graph}
 use Rattle.client_laws.proofs.RoundLaws.{rounds_last}
-use Rattle.client_model.proofs.BegunLaws.{object_outline_is, rounds_are, begun_is_object, slot_as_begun, image_as_begun, Taken, taken_as_begun, kind_as_begun, SecondTaken, give_as_taken}
+use Rattle.client_model.proofs.BegunLaws.{object_partial_desc_is, rounds_are, begun_is_object, slot_as_begun, image_as_begun, Taken, taken_as_begun, kind_as_begun, SecondTaken, give_as_taken}
 use Rattle.graph_run.proofs.BegunLaws.{begun_if, virtual_as_operand}
 use Rattle.graph_run.proofs.SolutionStepsReturns.{forgotten_lasting}
-use Rattle.object_table.proofs.SkeletonLaws.{map-told}
+use Rattle.object_table.proofs.SkeletonLaws.{map-determined}
 
 -- ---- the cells of a node
 
@@ -73,7 +73,7 @@ module _ (objects : List NamedObject) (nodes : List Node) (are : All (λ o. IsOb
   whole name = record { name = name; slot = None }
 
   known_are : (cell : Reference) → IsPartialDescription (partial_descs is nodes cell)
-  known_are = rounds_are is (λ cell. object_outline_is (object_at objects cell) (held_is objects cell are)) nodes (length nodes)
+  known_are = rounds_are is (λ cell. object_partial_desc_is (object_at objects cell) (held_is objects cell are)) nodes (length nodes)
 
   -- each object becomes what the cell of its name does
   begun_object : (o : NamedObject) → (named_at_start found_to_be nodes o).object ≡ begun_in (whole o.name) o.object
@@ -84,7 +84,7 @@ module _ (objects : List NamedObject) (nodes : List Node) (are : All (λ o. IsOb
 
   begin_increases : IsStrictlyIncreasing (names_of begin)
   begin_increases =
-      let same = map-told label_of (λ o. o.name) (λ label. label.0) (λ o. refl) begin objects (labels-begun found_to_be nodes objects) in
+      let same = map-determined label_of (λ o. o.name) (λ label. label.0) (λ o. refl) begin objects (labels-begun found_to_be nodes objects) in
       subst IsStrictlyIncreasing (sym same) names
 
   -- they are objects

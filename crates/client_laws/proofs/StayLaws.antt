@@ -2,7 +2,7 @@
 use Rattle.std.proofs.Common.{◌≡◌, ◌≢◌, ℕ, ◌<◌, false, List, [], ◌∷◌, Option, Some, None, IfSome, sym, ap, subst, ◌∙◌, arith, All, IsSome, MatchOption, Ok}
 use Rattle.client_laws.proofs.Common.{option_map, All-head, All-tail, Node, Reference, GraphValue, nodes_of, ObjectValue, GraphObject, Context, NamedObject, object_held, object_at, nodes_in, named_has, Verified, operand_of, verdict, operand_held, IsReady, Request, ReleaseContext, LimitsValue, State, IsRequest, answer_to, graph_named, graph_verdict, KeepsLimits, state_after, changes_nodes, Leaves, OperandsStand}
 use Rattle.object_table.specs.Skeleton.{skeleton}
-use Rattle.object_table.proofs.SkeletonLaws.{option_map-told, slots_alike}
+use Rattle.object_table.proofs.SkeletonLaws.{option_map-determined, slots_alike}
 use Rattle.graph_run.proofs.OperandLaws.{operand-skeleton}
 use Rattle.client_model.specs.States.{IsLater, Stays}
 use Rattle.client_model.proofs.NamedLaws.{held_if_live}
@@ -64,13 +64,13 @@ cell_stays : (before after : List NamedObject) (cell : Reference) → Stays skel
 cell_stays before after cell stays there = slots_alike cell.slot (object_held after cell.name) (object_held before cell.name) (grind (arith, stays, there))
 
 -- an operand is the same as long as the skeleton is
-operand_told : (before after : List NamedObject) (cell : Reference) → option_map skeleton (object_at after cell) ≡ option_map skeleton (object_at before cell)
+operand_determined : (before after : List NamedObject) (cell : Reference) → option_map skeleton (object_at after cell) ≡ option_map skeleton (object_at before cell)
     → option_map operand_of (object_at after cell) ≡ option_map operand_of (object_at before cell)
-operand_told before after cell same = option_map-told skeleton operand_of operand_of operand-skeleton (object_at after cell) (object_at before cell) same
+operand_determined before after cell same = option_map-determined skeleton operand_of operand_of operand-skeleton (object_at after cell) (object_at before cell) same
 
 pub operand_stays : (before after : List NamedObject) (cell : Reference) → Stays skeleton before after cell.name → IsSome (object_held after cell.name)
     → option_map operand_of (object_at after cell) ≡ option_map operand_of (object_at before cell)
-operand_stays before after cell stays there = operand_told before after cell (cell_stays before after cell stays there)
+operand_stays before after cell stays there = operand_determined before after cell (cell_stays before after cell stays there)
 
 -- the limits are kept later too
 pub later_keeps : (limits : LimitsValue) (c later : Context) (requests : List Request) → IsLater limits c requests later → KeepsLimits limits later
@@ -106,7 +106,7 @@ module _ (limits : LimitsValue) (c later : Context) (requests : List Request) (n
       cell_stays c.objects later.objects cell (skeletons_stay limits c later requests cell.name is given.1) there.0
 
   named_stay : (cell : Reference) → IsNamed nodes cell → option_map operand_of (object_at later.objects cell) ≡ option_map operand_of (object_at c.objects cell)
-  named_stay cell named = operand_told c.objects later.objects cell (named_skeletons_stay cell named)
+  named_stay cell named = operand_determined c.objects later.objects cell (named_skeletons_stay cell named)
 
 -- the verdict on its nodes stays, within any work bytes
 pub verdict_stays_held : (limits : LimitsValue) (c later : Context) (requests : List Request) (name : ℕ) (nodes : List Node) (work : ℕ) → IsLater limits c requests later

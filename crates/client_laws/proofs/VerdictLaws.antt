@@ -77,7 +77,7 @@ module _ (nodes : List Node) where
         (any_alike (λ cell. is_virtual (one cell)) (λ cell. is_virtual (other cell)) (outputs n)
         (All-from_In _ (outputs n) (λ cell j. ap is_virtual (same cell (n, i, named_by_output n cell j)))))
 
-    -- the same nodes have loose ends
+    -- the same nodes read unwritten virtual images
     unwritten_alike : has_unwritten_input one nodes ≡ has_unwritten_input other nodes
     unwritten_alike =
         any_alike (λ n. reads_unwritten one nodes n || adds_to_virtual one n) (λ n. reads_unwritten other nodes n || adds_to_virtual other n) nodes

@@ -79,8 +79,8 @@ pub fn what_a_run_leaves()
 {}
 
 /// If a graph runs, it would also run with its nodes added in another order, and leave the same
-/// result. Two graphs with the same registered delays, and with the same nodes in any order, also
-/// leave the same result.
+/// result. Any other graph with the same nodes, in any order, and the same registered delays would
+/// also run and leave this result.
 #[tactic(auto, using(crate::proofs::OrderLaws::any_order))]
 pub fn nodes_in_any_order()
     ensures had { (limits : LimitsValue) (c later : Context) (name : ℕ) (graph other : GraphValue) →

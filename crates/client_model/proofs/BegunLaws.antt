@@ -15,15 +15,15 @@ use Rattle.client_model.proofs.HoldLaws.{is_taken}
 use Rattle.client_model.proofs.NodeStepLaws.{CanGive}
 use Rattle.graph_run.proofs.BegunLaws.{begun_if}
 
--- ---- outlines of virtual images
+-- ---- partial descriptions of virtual images
 
--- an outline that is filled from another is one
+-- a partial description that is filled from another is one
 filled_is : (a b : PartialDescription) → IsPartialDescription a → IsPartialDescription b → IsPartialDescription (with_defaults a b)
 filled_is a b h k = grind arith
 
 -- what is declared of an object is one
-pub object_outline_is : (object : Option ObjectValue) → IfSome object IsObject → IsPartialDescription (operand_partial_desc (unwrap_or (option_map operand_of object) Missing))
-object_outline_is object is = grind arith
+pub object_partial_desc_is : (object : Option ObjectValue) → IfSome object IsObject → IsPartialDescription (operand_partial_desc (unwrap_or (option_map operand_of object) Missing))
+object_partial_desc_is object is = grind arith
 
 -- so is what is known after rounds
 module _ (is : Reference → Operand) (are : (cell : Reference) → IsPartialDescription (operand_partial_desc (is cell))) where

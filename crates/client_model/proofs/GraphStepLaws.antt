@@ -15,7 +15,7 @@ use Rattle.object_table.proofs.HeldLemmas.{HasObject, All-with_object, map-with_
 use Rattle.graph_run.proofs.HeldLaws.{object_held-with_object}
 use Rattle.client_model.proofs.NamedLaws.{held_if_live, live_has, kind_if_live}
 use Rattle.client_model.proofs.HoldLaws.{OperandsStand, stands_from}
-use Rattle.client_model.proofs.StateLaws.{Leaves, told, All-alike, still_leaves, all_leaves}
+use Rattle.client_model.proofs.StateLaws.{Leaves, live_skeleton, All-alike, still_leaves, all_leaves}
 use Rattle.client_model.proofs.NodeStepLaws.{Passes, operands_pass}
 use Rattle.client_model.proofs.OutcomeLaws.{KeepsBut, Keeps, refused_or_keeps, create_keeps}
 use Rattle.graph_run.proofs.CellLemmas.{held_once}
@@ -39,12 +39,12 @@ object_held-unnamed (o ∷ objects) name other = grind (arith, object_held-unnam
 pub release_keeps : (limits : LimitsValue) (c : Context) (name : ℕ) → KeepsLimits limits c → Keeps limits c (release c name)
 release_keeps limits c name h =
     let after : List NamedObject = without_name c.objects name in
-    let told_again = map-unnamed told (λ o. refl) c.objects name in
+    let skeletons_again = map-unnamed live_skeleton (λ o. refl) c.objects name in
     let named_object : NamedObject → ℕ × ObjectValue = λ o. (o.name, o.object) in
     let again = map-unnamed named_object (λ o. refl) c.objects name in
     cond_both (is_none (object_named c.objects name)) (Err InvalidReference) (Ok (Empty, Some (with_objects c (still_held after)))) (Keeps limits c)
     (λ unknown. tt)
-    (λ known. still_leaves limits c after h told_again (λ name. false)
+    (λ known. still_leaves limits c after h skeletons_again (λ name. false)
     (All-alike named_object (λ o. IsObject o.1) c.objects after again h.objects)
     (All-alike named_object (λ o. All (OperandsStand c.objects o.0) (nodes_in o.1)) c.objects after again h.nodes)
     (λ other kept. ap (option_map nodes_in) (object_held-unnamed c.objects name other)))
@@ -83,8 +83,8 @@ module _ (limits : LimitsValue) (c : Context) (name : ℕ) (graph new : GraphVal
   alone = held_once c.objects name (GraphObject graph) h.names found
 
   -- its name and skeleton stay
-  graph_told : map told after ≡ map told c.objects
-  graph_told = map-with_object told c.objects (reference_to name) (GraphObject new) (λ k d below e. grind (arith, alone k d below e))
+  graph_skeletons : map live_skeleton after ≡ map live_skeleton c.objects
+  graph_skeletons = map-with_object live_skeleton c.objects (reference_to name) (GraphObject new) (λ k d below e. grind (arith, alone k d below e))
 
   -- the nodes under another name don't change
   elsewhere : (other : ℕ) → (name == other) ≡ false → option_map nodes_in (object_held after other) ≡ option_map nodes_in (object_held c.objects other)
@@ -114,7 +114,7 @@ with_node_leaves : (limits : LimitsValue) (c : Context) (name : ℕ) (n : Node) 
     → object_held c.objects name ≡ Some (GraphObject graph) → IsGraph graph → All (OperandsStand c.objects name) (nodes_of graph) → IsTrue (can_add graph)
     → Leaves limits (λ other. name == other) c (with_objects c (with_graph c.objects name (with_node graph n)))
 with_node_leaves limits c name n graph h node stand found is stood capacity =
-    all_leaves limits c more h (graph_told limits c name graph new h found) (λ other. name == other)
+    all_leaves limits c more h (graph_skeletons limits c name graph new h found) (λ other. name == other)
     (graph_are limits c name graph new h found (IsGraph-with_node graph n is capacity node))
     (all_stand limits c name graph new h found
     (All-map (OperandsStand c.objects name) (λ (k : Numbered). k.node) new.nodes
@@ -163,7 +163,7 @@ remove_node_keeps limits c name number h =
     let new : GraphValue = without_node graph number in
     let less = with_objects c (still_held (with_graph c.objects name new)) in
     cond_both (has_node graph number) (Ok (Empty, Some less)) (Err InvalidReference) (KeepsBut (λ other. name == other) limits c)
-    (λ there. still_leaves limits c (with_graph c.objects name new) h (graph_told limits c name graph new h found) (λ other. name == other)
+    (λ there. still_leaves limits c (with_graph c.objects name new) h (graph_skeletons limits c name graph new h found) (λ other. name == other)
     (graph_are limits c name graph new h found (IsGraph-without_node graph number is))
     (all_stand limits c name graph new h found
     (All-map (OperandsStand c.objects name) (λ (k : Numbered). k.node) new.nodes

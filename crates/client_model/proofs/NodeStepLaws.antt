@@ -17,7 +17,7 @@ use Rattle.vx_base.specs.declared.output.Output.TheVariants.{First, Second}
 use Rattle.vx_base.specs.Outputs.{node_image, second_or_output, node_output, written_to, written_in, written_from, written_by}
 use Rattle.vx_base.proofs.NodeLaws.{node_image_is, accumulated_image_is, same_kind_equal}
 use Rattle.object_table.specs.NamedObject.{with_written}
-use Rattle.object_table.proofs.SkeletonLaws.{option_map-told}
+use Rattle.object_table.proofs.SkeletonLaws.{option_map-determined}
 use Rattle.graph_verify.specs.declared.verdict.Verdict.{Verdict}
 use Rattle.graph_verify.specs.Verdict.{verdict_on}
 use Rattle.client_model.specs.Immediate.{operand_in, operand_if, operands_in, is_some_virtual, away_refusal, node_refusal, immediate}
@@ -102,7 +102,7 @@ module _ (objects : List NamedObject) (n : Node) (node : IsNode n) (second : Opt
 -- among objects of which as much lasts, a cell holds the same as an operand
 pub operand_alike : (objects others : List NamedObject) → map lasting_named others ≡ map lasting_named objects → (cell : Reference) → operand_in others cell ≡ operand_in objects cell
 operand_alike objects others same cell =
-    option_map-told skeleton operand_of operand_of operand-skeleton (object_at others cell) (object_at objects cell)
+    option_map-determined skeleton operand_of operand_of operand-skeleton (object_at others cell) (object_at objects cell)
     (skeletons-last (object_at others cell) (object_at objects cell) (cell-lasts objects others cell same))
 
 -- what a node writes to its outputs may be written there, where as much lasts of the objects at the start

@@ -11,7 +11,7 @@ use Rattle.std.proofs.lemmas.List.Folds.{flat_map-map}
 use Rattle.std.proofs.lemmas.List.Sums.{sum-map, sum_by_push}
 use Rattle.object_table.specs.Uses.{used_names, name_count}
 use Rattle.object_table.proofs.GraphLemmas.{is_used_there}
-use Rattle.object_table.proofs.SkeletonLaws.{map-told, bytes-skeleton}
+use Rattle.object_table.proofs.SkeletonLaws.{map-determined, bytes-skeleton}
 use Rattle.graph_run.proofs.CellLemmas.{Lasts-with_object}
 use Rattle.graph_run.proofs.LastingLemmas.{Lasting, nodes-last, held-lasts}
 use Rattle.client_model.specs.States.{Stays}
@@ -111,31 +111,31 @@ filter_all p [] h = refl
 filter_all p (x ∷ xs) h = grind (arith, filter_all p xs (All-tail (λ y. p y ≡ true) x xs h), h 0 x (omega arith))
 
 -- an object's name and skeleton
-abbrev pub told : NamedObject → NamedObject
-told o = record { name = o.name; live = true; object = skeleton o.object }
+abbrev pub live_skeleton : NamedObject → NamedObject
+live_skeleton o = record { name = o.name; live = true; object = skeleton o.object }
 
 -- objects of the same names and skeletons
-module _ (limits : LimitsValue) (c : Context) (others : List NamedObject) (h : KeepsLimits limits c) (same : map told others ≡ map told c.objects) where
+module _ (limits : LimitsValue) (c : Context) (others : List NamedObject) (h : KeepsLimits limits c) (same : map live_skeleton others ≡ map live_skeleton c.objects) where
   pub skeletons_told : (name : ℕ) → option_map skeleton (object_held others name) ≡ option_map skeleton (object_held c.objects name)
   skeletons_told name =
-      sym (object_held-map told skeleton others name (λ o. refl) (λ o e. refl))
+      sym (object_held-map live_skeleton skeleton others name (λ o. refl) (λ o e. refl))
       ∙ ap (λ l. object_held l name) same
-      ∙ object_held-map told skeleton c.objects name (λ o. refl) (λ o e. refl)
+      ∙ object_held-map live_skeleton skeleton c.objects name (λ o. refl) (λ o e. refl)
 
   rest_told : All (λ o. IsObject o.object) others → All (NodesStand c.objects) others → KeepsRest limits (with_objects c others)
   rest_told are stand =
       let bytes : NamedObject → ℕ = λ o. object_bytes o.object in
-      let charge = map-told told bytes (λ o. object_bytes o.object) (λ o. bytes-skeleton o.object) others c.objects same in
+      let charge = map-determined live_skeleton bytes (λ o. object_bytes o.object) (λ o. bytes-skeleton o.object) others c.objects same in
       record {
         objects = are;
-        names = subst IsStrictlyIncreasing (sym (map-told told (λ o. o.name) (λ o. o.name) (λ o. refl) others c.objects same)) h.names;
-        below = All-alike told (λ o. o.name < c.next) c.objects others same h.below;
+        names = subst IsStrictlyIncreasing (sym (map-determined live_skeleton (λ o. o.name) (λ o. o.name) (λ o. refl) others c.objects same)) h.names;
+        below = All-alike live_skeleton (λ o. o.name < c.next) c.objects others same h.below;
         left = h.left;
         nodes =
             All-weaker (NodesStand c.objects) (NodesStand others)
             (λ o. nodes_stand c.objects others o.name (nodes_in o.object)
             (λ operand stood. stands-alike others c.objects o.name operand (skeletons_told operand.0.name) ∙ stood)) others stand;
-        count = omega (arith, h.count, ap length same, length-map others told, length-map c.objects told);
+        count = omega (arith, h.count, ap length same, length-map others live_skeleton, length-map c.objects live_skeleton);
         quota = omega (arith, h.quota, ap sum charge, sum-map bytes others, sum-map bytes c.objects);
       }
 
@@ -170,7 +170,7 @@ module _ (limits : LimitsValue) (changes : ℕ → Bool) (c : Context) (h : Keep
   pub alike_leaves : (others : List NamedObject) → Lasts c.objects others → Leaves limits changes c (with_objects c others)
   alike_leaves others alike =
       let lasts = alike.lasting in
-      let same = map-told lasting_named told (λ left. record left.0 { live = true }) (λ o. refl) others c.objects lasts in
+      let same = map-determined lasting_named live_skeleton (λ left. record left.0 { live = true }) (λ o. refl) others c.objects lasts in
       all_leaves limits c others h same changes alike.objects
       (All-alike lasting_named (λ left. All (OperandsStand c.objects left.0.name) left.1) c.objects others lasts h.nodes)
       (λ name kept. nodes-last (object_held others name) (object_held c.objects name) (held-lasts c.objects others name lasts))

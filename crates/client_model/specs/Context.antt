@@ -7,7 +7,7 @@ use Rattle.client_model.specs.Limits.{LimitsValue}
 abbrev pub State : Type 0
 State = Option Context
 
--- whether an object that is charged `bytes` can be created: one more object can be held, and the
--- total charge stays within the quota
+-- whether an object with `bytes` bytes of samples can be created: one more object can be held, and
+-- the total charge stays within the quota
 abbrev pub has_capacity : LimitsValue → Context → ℕ → Bool
 has_capacity limits c bytes = can_insert c && nat_le (charge_of c.objects + bytes) limits.quota

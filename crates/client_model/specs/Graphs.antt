@@ -8,7 +8,7 @@ use Rattle.vx_base.specs.Graph.{GraphValue, nodes_of, can_add, with_node, has_no
 use Rattle.vx_base.specs.Node.{operands}
 use Rattle.vx_base.specs.Object.{ObjectValue, GraphObject, VirtualObject}
 use Rattle.vx_base.specs.PartialDescription.{PartialDescription}
-use Rattle.object_table.specs.Ageing.{aged_under, aged_under}
+use Rattle.object_table.specs.Ageing.{aged_under}
 use Rattle.object_table.specs.NamedObject.{NamedObject}
 use Rattle.vx_base.specs.Reference.{reference_to}
 use Rattle.object_table.specs.Context.{Context, object_named, with_objects, with_graph}
@@ -68,7 +68,7 @@ remove_from (Ok graph) c name number =
 abbrev pub remove_node : Context → ℕ → ℕ → Outcome
 remove_node c name number = remove_from (graph_named c.objects name) c name number
 
--- the verdict on a graph, within the limit on work bytes
+-- the verdict on a graph, given the limit on work bytes; None if the graph can run
 abbrev pub graph_verdict : LimitsValue → List NamedObject → GraphValue → Option Verdict
 graph_verdict limits objects graph = verdict limits.work (operand_held objects) (nodes_of graph)
 
@@ -90,6 +90,7 @@ process_found (Ok graph) limits c =
     reply_unless (option_map Rejected (graph_verdict limits c.objects graph)) Empty
     (with_objects c (aged_under graph.delays (run_of_graph (resolved_operand (operand_held c.objects) nodes) nodes c.objects)))
 
--- ProcessGraph: the verdict on the graph; a valid graph runs, and then its registered delays age
+-- ProcessGraph: the verdict on the graph; if it is SUCCESS, the graph runs, and then its registered
+-- delays age
 abbrev pub process_graph : LimitsValue → Context → ℕ → Outcome
 process_graph limits c name = process_found (graph_named c.objects name) limits c

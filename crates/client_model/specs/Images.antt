@@ -1,5 +1,5 @@
--- Requests that create objects, and requests on the samples of images. OpenVX 1.3, "Object: Image",
--- vxCreateImage, vxQueryImage, vxCopyImagePatch and vxSetImageValidRectangle.
+-- The creation of objects, and requests on images. OpenVX 1.3, "Object: Image", vxCreateImage,
+-- vxQueryImage, vxCopyImagePatch and vxSetImageValidRectangle.
 use Rattle.std.specs.Prelude.{ℕ, List, not, nat_le, ◌&&◌, unwrap_or, Option, Some, None, Result, Ok, Err, if◌then◌else◌}
 use Rattle.vx_base.specs.declared.format.Format.TheVariants.{U8}
 use Rattle.vx_base.specs.Reference.{Reference}
@@ -39,23 +39,24 @@ create_image limits c d = create limits c (ImageObject (new_image d.width d.heig
 abbrev pub described_image : ImageValue → Described
 described_image image = record { format = Some image.format; width = image.width; height = image.height; valid = image.valid }
 
--- the declared description of a virtual image: an open side is 0, and the valid rectangle is empty
+-- the result of QueryImage for a virtual image: its declared format, its declared sides (0 if
+-- open), and an empty valid rectangle
 abbrev pub described_virtual : PartialDescription → Described
 described_virtual declared = record { format = declared.format; width = unwrap_or declared.width 0; height = unwrap_or declared.height 0; valid = empty_rectangle }
 
--- the description that QueryImage returns for an object; a refusal if the object isn't an image
+-- the result of QueryImage for an object; a refusal if the object isn't an image
 abbrev pub as_described : Option ObjectValue → Result Described Refusal
 as_described (Some (ImageObject image)) = Ok (described_image image)
 as_described (Some (VirtualObject image)) = Ok (described_virtual image.declared)
 as_described other = Err InvalidValue
 
--- the description that QueryImage returns for a reference, or the refusal
+-- the result of QueryImage for a reference, or the refusal
 abbrev pub described_in : List NamedObject → Reference → Result Described Refusal
 described_in objects cell =
     if is_unknown objects cell then Err InvalidReference
     else (if is_of_other_kind objects (cell, kind.Image) then Err InvalidType else as_described (object_at objects cell))
 
--- the reply with this description, or the refusal
+-- the reply with this result of QueryImage, or the refusal
 abbrev pub query_of : Result Described Refusal → Context → Outcome
 query_of (Err refusal) c = Err refusal
 query_of (Ok found) c = Ok (reply.Described found, Some c)

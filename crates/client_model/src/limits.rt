@@ -32,7 +32,7 @@ impl Model for Limits {
 }
 
 impl Limits {
-    /// Returns limits of `quota` and `work` bytes, or `None` unless both are from 1 to 2^40.
+    /// Returns limits of `quota` and `work` bytes, or `None` if either isn't 1 to 2^40.
     pub fn new(quota: u64, work: u64) -> Option<Limits>
         ensures { result ≡ limits_from quota work }
     {

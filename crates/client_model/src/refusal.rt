@@ -14,7 +14,7 @@ pub enum Refusal {
     InvalidType,
     /// One of these cases:
     ///
-    /// - the client has a context already
+    /// - the request opens a context, but the client has one already
     /// - a reference names a slot that its delay doesn't have
     /// - a rectangle goes beyond the image
     /// - a PGM text has a sample above its maxval
@@ -23,7 +23,9 @@ pub enum Refusal {
     ///
     /// - the format of a picture isn't the image's format
     /// - an image that is read as a PGM text isn't U8
-    /// - a text that is written isn't a PGM text
+    /// - a text that is written has no PGM header
+    /// - the maxval of a PGM text isn't 1 to 32767
+    /// - a PGM header isn't followed by exactly the number of samples that it states
     InvalidFormat,
     /// The size of a picture isn't the image's size, or a PGM text states a side that isn't 1 to
     /// 8192.

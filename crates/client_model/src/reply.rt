@@ -3,7 +3,7 @@ use crate::counts::Counts;
 use crate::text::Text;
 use vx_base::{Code, Extremes, Format, Picture, Rect};
 
-/// The description of an image: its format, its width and height in pixels, and its valid
+/// The result of QueryImage: an image's format, its width and height in pixels, and its valid
 /// rectangle.
 #[derive(Clone, Copy, PartialEq, Eq, Debug)]
 pub struct Described {

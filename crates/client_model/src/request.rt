@@ -56,8 +56,8 @@ pub enum Request {
     RemoveNode(u32, u32),
     /// Asks for the verdict on the graph with this name.
     VerifyGraph(u32),
-    /// Runs the graph with this name, if the graph is valid. Delays that are registered with the
-    /// graph then age.
+    /// Runs the graph with this name, and then ages its registered delays. Does neither if the
+    /// graph's verdict isn't SUCCESS.
     ProcessGraph(u32),
     /// Runs one node by itself (immediate mode).
     Immediate(NodeSpec),
@@ -72,9 +72,8 @@ pub enum Request {
 }
 
 impl Request {
-    /// Ensures for the prover that the request's fields are in the ranges of their types. The
-    /// function has no effect: the prover learns a type's invariant when a field of that type is
-    /// read.
+    /// Proves that the request's fields are in the ranges of their types. The prover learns a
+    /// field's range only where the field is read. At run time this function does nothing.
     pub fn prove_request(&self)
         ensures { IsRequest self.now }
     {

@@ -30,7 +30,7 @@ pub use Rattle.graph_verify.specs.declared.verified.Verified.{Verified}
 pub use Rattle.image_core.specs.Fits.{HaveSameSize, SecondHasSize}
 pub use Rattle.image_core.specs.Second.{second_object}
 pub use Rattle.object_table.proofs.HeldLemmas.{All-from_map, HasObject, held_by_name, held_is, map-with_object, names_of, object_held-map}
-pub use Rattle.object_table.proofs.SkeletonLaws.{map-told}
+pub use Rattle.object_table.proofs.SkeletonLaws.{map-determined}
 pub use Rattle.object_table.proofs.SlotLemmas.{with_slot_elsewhere, with_slot_there}
 pub use Rattle.object_table.specs.Context.{Context, with_objects}
 pub use Rattle.object_table.specs.Delay.{in_slot, with_slot}

@@ -18,6 +18,8 @@ pub operand_there : (objects : List NamedObject) (cell : Reference) (object : Ob
     → operand ≡ operand_held objects cell
 operand_there objects cell object found operand is in_it as_it = grind arith
 
+pub ruleset operand_steps = (operand_nowhere, operand_there)
+
 -- ---- nodes with their operands
 
 -- one node more

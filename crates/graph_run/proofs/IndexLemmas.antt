@@ -22,6 +22,8 @@ none_before (d ∷ cells) c none = grind (arith, none d (inl refl), none_before 
 pub index_none : (cells : List Reference) (c : Reference) → position (λ d. same_reference d c) cells ≡ None → index_of cells c ≡ length cells
 index_none cells c none = sym (none_before cells c (position-None (λ d. same_reference d c) cells none))
 
+pub ruleset index_steps = (index_found, index_none)
+
 pub index_below : (cells : List Reference) (c : Reference) → In c cells → index_of cells c < length cells
 index_below [] c i = elim i [ ]
 index_below (d ∷ cells) c i = grind (arith, cases_Bool (same_reference d c), same_cell-refl c, index_below cells c)

@@ -1,19 +1,19 @@
 -- What lasts of objects as others are written in their places.
 use Rattle.std.proofs.Common.{◌≡◌, ℕ, List, [], ◌∷◌, Option, Some, None, map, drop, refl, sym, ap, subst, ◌∙◌, arith, option_map, option_and_then}
-use Rattle.graph_run.proofs.Common.{IsStrictlyIncreasing, Node, Reference, Description, ImageValue, image_over, description_of, ObjectValue, ImageObject, empty_rectangle, in_slot, with_slot, NamedObject, object_held, object_at, skeleton, names_of, map-told, lasting_part, lasting_named, Lasts}
+use Rattle.graph_run.proofs.Common.{IsStrictlyIncreasing, Node, Reference, Description, ImageValue, image_over, description_of, ObjectValue, ImageObject, empty_rectangle, in_slot, with_slot, NamedObject, object_held, object_at, skeleton, names_of, map-determined, lasting_part, lasting_named, Lasts}
 use Rattle.object_table.specs.Context.{object_named}
 use Rattle.object_table.specs.Uses.{nodes_in}
-use Rattle.object_table.proofs.SkeletonLaws.{option_map-told, in_slot-skeleton, skeleton-with_slot}
+use Rattle.object_table.proofs.SkeletonLaws.{option_map-determined, in_slot-skeleton, skeleton-with_slot}
 
 -- ---- of an object
 
 -- its skeleton
 pub skeletons-last : (one other : Option ObjectValue) → option_map lasting_part one ≡ option_map lasting_part other → option_map skeleton one ≡ option_map skeleton other
-skeletons-last = option_map-told lasting_part skeleton (λ left. left.0) (λ _. refl)
+skeletons-last = option_map-determined lasting_part skeleton (λ left. left.0) (λ _. refl)
 
 -- and its nodes
 pub nodes-last : (one other : Option ObjectValue) → option_map lasting_part one ≡ option_map lasting_part other → option_map nodes_in one ≡ option_map nodes_in other
-nodes-last = option_map-told lasting_part nodes_in (λ left. left.1) (λ _. refl)
+nodes-last = option_map-determined lasting_part nodes_in (λ left. left.1) (λ _. refl)
 
 -- so as much lasts of what stands in a slot, where only images do
 abbrev in_left : Option ℕ → ObjectValue × List Node → Option (ObjectValue × List Node)
@@ -40,7 +40,7 @@ Lasting = NamedObject × List Node
 
 -- names last
 pub names-last : (old new : List NamedObject) → map lasting_named new ≡ map lasting_named old → names_of new ≡ names_of old
-names-last old new same = map-told lasting_named (λ o. o.name) (λ left. left.0.name) (λ _. refl) new old same
+names-last old new same = map-determined lasting_named (λ o. o.name) (λ left. left.0.name) (λ _. refl) new old same
 
 -- as much lasts of what is held under each name
 pub held-lasts : (old new : List NamedObject) (name : ℕ) → map lasting_named new ≡ map lasting_named old → option_map lasting_part (object_held new name) ≡ option_map lasting_part (object_held old name)

@@ -5,7 +5,7 @@ use Rattle.std.proofs.lemmas.Option.{get_or_from_slice_get}
 use Rattle.graph_run.proofs.Common.{IsStrictlyIncreasing, U8, First, Kind, parameters, object_kind, Node, Reference, Description, ImageValue, new_image, description_of, ObjectValue, ImageObject, DelayObject, in_slot, with_slot, Context, with_objects, NamedObject, object_at, with_object, image_held, image_value, HoldsImage, names_of, map-with_object, skeleton, Image, operand_of, HoldsOperand, lasting_part, lasting_named, AreApart, IsObject, RunsTo, Lasts, CanRunNow, HoldsKind, operands, with_output_object, with_written, written_by}
 use Rattle.object_table.specs.Context.{object_named}
 use Rattle.object_table.specs.Table.{HoldsLiveImage}
-use Rattle.object_table.proofs.SkeletonLaws.{option_map-told}
+use Rattle.object_table.proofs.SkeletonLaws.{option_map-determined}
 pub use Rattle.graph_steps.specs.Planes.{PlaneValue}
 use Rattle.graph_steps.specs.Planes.{block_image}
 use Rattle.graph_run.specs.declared.output_planes.OutputPlanes.{OutputPlanes}
@@ -72,7 +72,7 @@ image_lent old new cell p names holds is left =
 
 -- operands last
 pub operand-lasts : (old new : List NamedObject) (cell : Reference) → map lasting_named new ≡ map lasting_named old → option_map operand_of (object_at new cell) ≡ option_map operand_of (object_at old cell)
-operand-lasts old new cell same = option_map-told skeleton operand_of operand_of operand-skeleton (object_at new cell) (object_at old cell) (skeletons-last (object_at new cell) (object_at old cell) (cell-lasts old new cell same))
+operand-lasts old new cell same = option_map-determined skeleton operand_of operand_of operand-skeleton (object_at new cell) (object_at old cell) (skeletons-last (object_at new cell) (object_at old cell) (cell-lasts old new cell same))
 
 pub image_from_operand : (objects : List NamedObject) (cell : Reference) (d : Description) → HoldsOperand objects cell (Image d) → HoldsImage objects cell
 image_from_operand objects cell d operand = grind (arith, operand)

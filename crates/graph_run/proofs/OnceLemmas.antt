@@ -60,6 +60,8 @@ module _ (t : Context) (n : Node) (planes : OutputPlanes) (taken : AreInPlanes t
       pub both_last : Lasts whole after.objects
       both_last = grind (arith, names-with_plane first, names_first, both, Lasts-outputs n whole are can)
 
+pub ruleset lent_planes = (runs_first_taken, taken_then, runs_then_taken)
+
 -- ---- inputs
 
 pub reads : (objects : List NamedObject) (n : Node) (output : Reference) → RunsTo objects n output → HasInputs objects n
@@ -84,11 +86,11 @@ module _ (t : Context) (n : Node) (which : Output) (output : Reference) (p : Pla
   second_same : option_map (cell_object l) n.in2 ≡ option_map (cell_object t.objects) n.in2
   second_same = object_if_elsewhere t.objects output n.in2 (ImageObject image) h.in2_apart
 
-  pub reads_beside : HasInputs t.objects n
-  reads_beside = grind (arith, reads, elsewhere, first_same, second_same)
+  pub inputs_there : HasInputs t.objects n
+  inputs_there = grind (arith, reads, elsewhere, first_same, second_same)
 
-  pub can_make_beside : CanMake (lent_step n which) (image_held t.objects n.in1) (option_map (cell_object t.objects) n.in2) p.desc
-  can_make_beside = grind (arith, second_same, first_same, own)
+  pub output_can : CanMake (lent_step n which) (image_held t.objects n.in1) (option_map (cell_object t.objects) n.in2) p.desc
+  output_can = grind (arith, second_same, first_same, own)
 
   pub plane_whole : IsWhole p
   plane_whole = grind (arith, own, format_there)
@@ -98,7 +100,7 @@ module _ (t : Context) (n : Node) (which : Output) (output : Reference) (p : Pla
       → (back : Context) → back ≡ with_objects t (with_object t.objects output (ImageObject (block_image q))) → back ≡ with_objects t (with_output_object l n which (Some output))
   image_back q made back put = grind (arith, first_same, second_same, own, with_object_twice)
 
-pub ruleset beside = (reads_beside, plane_whole, whole_takes, image_there, desc_there, format_there)
+pub ruleset lent_output = (inputs_there, plane_whole, whole_takes, image_there, desc_there, format_there)
 
 -- ---- an output that is a tally
 

@@ -25,8 +25,8 @@ pub virtual_there : (slot : Option ℕ) (x : ObjectValue) (declared : PartialDes
     → ◌≡◌ {A = Option ℕ} slot None × (v : VirtualImage) × (x ≡ VirtualObject v)
 virtual_there x y declared e = grind arith
 
-pub outline_of_virtual : (operand : Operand) → is_virtual operand ≡ true → (declared : PartialDescription) × (operand ≡ Virtual declared)
-outline_of_virtual operand h = grind arith
+pub declared_of_virtual : (operand : Operand) → is_virtual operand ≡ true → (declared : PartialDescription) × (operand ≡ Virtual declared)
+declared_of_virtual operand h = grind arith
 
 -- an object that isn't virtual is as it was resolved
 pub known_kept : (operand : Operand) (known : PartialDescription) → is_virtual operand ≡ false → as_known operand known ≡ operand
@@ -96,7 +96,7 @@ module _ (work : ℕ) (is : Reference → Operand) (nodes : List Node) (can : Ca
         each None e = absurd (cc e)
         each (Some x) e = elim (cases_Bool (is_virtual (is c))) [
           | inl v ↦
-              (let partial_desc = outline_of_virtual (is c) v in
+              (let partial_desc = declared_of_virtual (is c) v in
               let there = virtual_there c.slot x partial_desc.0 (e ∙ ap Some partial_desc.1) in
               let w = virtual_written n c i named v in
               let writer = In-from_any (λ m. writes m c) nodes w in
@@ -109,7 +109,7 @@ module _ (work : ℕ) (is : Reference → Operand) (nodes : List Node) (can : Ca
     begun_stands = record {
       found = holds_known;
       kinds = (λ n c i w. elim (cases_Bool (is_virtual (is c))) [
-        | inl v ↦ grind (arith, outline_of_virtual, image_written, written_virtual)
+        | inl v ↦ grind (arith, declared_of_virtual, image_written, written_virtual)
         | inr real ↦ subst (λ o. StandsFor o (parameters n.function).output) (sym (known_kept (is c) (partial_descs is nodes c) real)) (stand.kinds n c i w)
       ]);
     }

@@ -15,7 +15,7 @@ use Rattle.graph_verify.proofs.VerdictLemmas.{can_run}
 use Rattle.graph_run.specs.Operands.{StandsFor}
 use Rattle.graph_run.specs.Program.{client_cells}
 use Rattle.graph_run.specs.Tasks.{HaveTasks}
-use Rattle.graph_run.proofs.OperandLaws.{adds_to_none, outline_of_virtual, virtual_written}
+use Rattle.graph_run.proofs.OperandLaws.{adds_to_none, declared_of_virtual, virtual_written}
 
 -- each cell behind those of the virtual images is another, which a node names as an image
 module _ (steps : List Node) (outs : List VirtualOutput) (once : has_twice (map (λ (o : VirtualOutput). o.cell) outs) ≡ false) where
@@ -71,7 +71,7 @@ module _ (objects : List NamedObject) (nodes : List Node) (v : Verified) (ready 
   -- a cell that a node writes, of which it writes something else than an image, is no virtual image
   plain : (n : Node) → In n v.steps → (parameters n.function).output ≢ kind.Image → (c : Reference) → In c (outputs n) → virtual c ≡ false
   plain n i other c j = false_from_ne_true (virtual c) (λ yes_virtual.
-      let partial_desc = outline_of_virtual (operand_held objects c) yes_virtual in
+      let partial_desc = declared_of_virtual (operand_held objects c) yes_virtual in
       let stands : StandsFor (operand_held objects c) (parameters n.function).output = ready.cells.kinds n c (own n i) (same-from_In c (outputs n) j) in
       other (subst (λ (o : Operand). StandsFor o (parameters n.function).output) partial_desc.1 stands))
 

@@ -1,6 +1,6 @@
 -- The objects of a graph that is ready to run, at the start of a run and at its end.
 use Rattle.std.proofs.Common.{◌≡◌, ℕ, Bool, true, false, List, [], ◌∷◌, ◌++◌, map, refl, sym, ap, subst, ◌∙◌, inl, arith, All, Option, Some, option_map, option_and_then, if◌then◌else◌}
-use Rattle.graph_run.proofs.Common.{AllIn, AllIn-permutation, AllIn-permutation_back, CanRun, CanRunNow, Reference, CellsStand, Description, HoldsKind, Image, In, In-from_map, In-left, In-right, IsDescription, IsNode, IsObject, IsStrictlyIncreasing, Kind, Lasts, NamedObject, Node, ObjectValue, Operand, Solves, Verified, VirtualImage, VirtualObject, VirtualOutput, WritesNo, named_at_start, object_at_start, reference_to, object_at, held_by_name, in_slot, is_virtual, is_virtual_object, is_written, label_of, map-told, names_cell, names_of, object_held, one_by_one, operand_held, operand_of, operands, resolved_operand, with_written, written_by}
+use Rattle.graph_run.proofs.Common.{AllIn, AllIn-permutation, AllIn-permutation_back, CanRun, CanRunNow, Reference, CellsStand, Description, HoldsKind, Image, In, In-from_map, In-left, In-right, IsDescription, IsNode, IsObject, IsStrictlyIncreasing, Kind, Lasts, NamedObject, Node, ObjectValue, Operand, Solves, Verified, VirtualImage, VirtualObject, VirtualOutput, WritesNo, named_at_start, object_at_start, reference_to, object_at, held_by_name, in_slot, is_virtual, is_virtual_object, is_written, label_of, map-determined, names_cell, names_of, object_held, one_by_one, operand_held, operand_of, operands, resolved_operand, with_written, written_by}
 use Rattle.vx_base.specs.declared.kind.Kind.TheVariants as kind
 use Rattle.vx_base.proofs.ImageLaws.{new_image_is}
 use Rattle.graph_verify.proofs.VerdictLemmas.{can_run}
@@ -111,7 +111,7 @@ module _ {objects : List NamedObject} {v : Verified} {s : Schedule} (g : CanRunB
   -- ---- names, objects
 
   names_by_labels : (l : List NamedObject) → map label_of l ≡ map label_of objects → IsStrictlyIncreasing (names_of l)
-  names_by_labels l labels = subst IsStrictlyIncreasing (sym (map-told label_of (λ (o : NamedObject). o.name) (λ label. label.0) (λ _. refl) l objects labels)) g.names
+  names_by_labels l labels = subst IsStrictlyIncreasing (sym (map-determined label_of (λ (o : NamedObject). o.name) (λ label. label.0) (λ _. refl) l objects labels)) g.names
 
   in_order : last ≡ one_by_one v.steps first
   in_order = order_gives_rounds g.nodes v.steps first g.ready.verified.order graph_can.one_writer (pairs_of first (names_by_labels first first_labels)) writes_no_delay

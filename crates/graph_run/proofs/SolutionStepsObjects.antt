@@ -21,7 +21,7 @@ use Rattle.graph_run.proofs.HeldLaws.{AreWrites, labels-with_written, last_to, s
 use Rattle.graph_run.proofs.IndexLemmas.{cells_parts, index_at}
 use Rattle.graph_run.proofs.NameLaws.{Rising, rising, same_objects}
 use Rattle.graph_run.proofs.ObjectLaws.{is_delay, shown}
-use Rattle.graph_run.proofs.OperandLaws.{outline_of_virtual, virtual_there}
+use Rattle.graph_run.proofs.OperandLaws.{declared_of_virtual, virtual_there}
 use Rattle.graph_run.proofs.ProgramLemmas.{image_named}
 use Rattle.graph_run.proofs.SolutionStepsEnds.{first_real, in_nodes, in_steps, is, is_node_of, last_labels, last_lasts, solves, unwritten_seen}
 use Rattle.graph_run.proofs.SolutionStepsImages.{ShowImages, cell_there, cells, cells_once, client_image, client_there, clients, ends, ends_held, have, holds_output, image_real, show_images, solution, starts, tally_kept, virtual, virtual_by, virtual_is, virtual_or, whole_at}
@@ -218,7 +218,7 @@ module _ {objects : List NamedObject} {v : Verified} {s : Schedule} (g : CanRunB
     virtual_object c i real =
         let n = virtual_by g c i in
         let found = g.ready.cells.found n.0 c (in_nodes g n.0 n.1) (named_by_output n.0 c n.2) in
-        let partial_desc = outline_of_virtual (is g c) (virtual_is g c i) in
+        let partial_desc = declared_of_virtual (is g c) (virtual_is g c i) in
         no_virtual (object_held objects c.name) partial_desc.0 found partial_desc.1 real
       where
         no_virtual : (o : Option ObjectValue) (declared : PartialDescription) → option_map operand_of (option_and_then (in_slot c.slot) o) ≡ Some (operand_held objects c) → operand_held objects c ≡ Virtual declared

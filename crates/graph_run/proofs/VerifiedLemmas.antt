@@ -7,7 +7,7 @@ use Rattle.graph_run.specs.Operands.{StandsFor}
 use Rattle.std.proofs.lemmas.List.Kept.{AllPairs-from_increasing}
 use Rattle.graph_verify.specs.Operand.{is_virtual as is_virtual_operand}
 use Rattle.graph_run.proofs.LinkLaws.{All-from_In, In-from_All}
-use Rattle.graph_run.proofs.OperandLaws.{outline_of_virtual, known_kept, virtual_written}
+use Rattle.graph_run.proofs.OperandLaws.{declared_of_virtual, known_kept, virtual_written}
 use Rattle.graph_run.proofs.TurnLaws.{each_alone}
 
 -- ---- cells that a node names
@@ -71,7 +71,7 @@ module _ (objects : List NamedObject) (nodes : List Node) (v : Verified) (work :
     known_kind n cell wanted i named_there stands = elim (cases_Bool (is_virtual_operand (is cell))) [
       | inl virtual ↦
           (let output = in_outputs is nodes v how cell (virtual_written work is nodes can n cell i named_there virtual) virtual in
-          let partial_desc = outline_of_virtual (is cell) virtual in
+          let partial_desc = declared_of_virtual (is cell) virtual in
           ap operand_kind (ap known output.2 ∙ output_known is nodes v how output.0 output.1) ∙ ap Some (sym (subst (λ o. StandsFor o wanted) partial_desc.1 stands)))
       | inr real ↦ ap operand_kind (known_kept (is cell) (partial_descs is nodes cell) real) ∙ real_kind (is cell) wanted real stands
     ]

@@ -34,15 +34,15 @@ LendTables objects nodes = All (λ n. IfSome (node_table objects n) (λ object. 
 
 -- ---- tallies
 
--- an output of this kind can take a tally: the reference names an object of this kind, which is a
--- distribution or extremes. Nothing is required of an image, which takes no tally.
+-- the kind is Image, which takes no tally; or it is Distribution or Extremes, and the reference
+-- names an object of this kind
 abbrev pub KeepsTally : List NamedObject → Kind → Reference → Type 0
 KeepsTally objects kind.Image cell = ⊤
 KeepsTally objects kind.Distribution cell = HoldsKind objects (cell, kind.Distribution)
 KeepsTally objects kind.Extremes cell = HoldsKind objects (cell, kind.Extremes)
 KeepsTally objects other cell = ⊥
 
--- the outputs of all nodes can take their tallies
+-- each node's output is an image, or can take the node's tally
 abbrev pub KeepTallies : List NamedObject → List Node → Type 0
 KeepTallies objects nodes = All (λ n. KeepsTally objects (parameters n.function).output (unwrap_or n.out1 n.in1)) nodes
 

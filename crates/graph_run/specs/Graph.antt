@@ -33,7 +33,7 @@ named_at_start is nodes o =
     let cell : Reference = record { name = o.name; slot = None } in
     if is_written nodes cell then record o { object = object_at_start o.object (is cell) } else o
 
--- whether an object is a virtual image, which is restored at the end of a run
+-- whether an object is a virtual image; after a run it is as it was before the run
 abbrev pub is_virtual_object : ObjectValue → Bool
 is_virtual_object (VirtualObject image) = true
 is_virtual_object other = false

@@ -17,7 +17,7 @@ use Rattle.graph_verify.specs.declared.verified.Verified.{Verified}
 use Rattle.graph_verify.specs.Verdict.{verdict}
 use Rattle.graph_verify.specs.Verified.{IsVerified}
 
--- the reference names an object with this operand
+-- the reference names an object, and `operand` is this object as an operand
 abbrev pub HoldsOperand : List NamedObject → Reference → Operand → Type 0
 HoldsOperand objects cell operand = option_map operand_of (object_at objects cell) ≡ Some operand
 
@@ -30,8 +30,8 @@ abbrev pub StandsFor : Operand → Kind → Type 0
 StandsFor (Virtual declared) wanted = wanted ≡ kind.Image
 StandsFor operand wanted = operand_kind operand ≡ Some wanted
 
--- each reference in the nodes names an object with the operand that `is` gives for the reference.
--- Each output has the kind that its node's function writes.
+-- each reference in the nodes names an object, and `is` gives this object as an operand. Each
+-- output has the kind that its node's function writes.
 pub record CellsStand (is : Reference → Operand) (nodes : List Node) (objects : List NamedObject) : Type 0 where
   pub found : (n : Node) (cell : Reference) → In n nodes → names_cell n cell ≡ true → HoldsOperand objects cell (is cell)
   pub kinds : (n : Node) (cell : Reference) → In n nodes → writes n cell ≡ true → StandsFor (is cell) (parameters n.function).output
@@ -40,8 +40,8 @@ pub record CellsStand (is : Reference → Operand) (nodes : List Node) (objects 
 abbrev pub operand_held : List NamedObject → Reference → Operand
 operand_held objects cell = unwrap_or (option_map operand_of (object_at objects cell)) Missing
 
--- the graph is verified and can run: its verdict is None, and each reference names an object of the
--- kind that the node's function expects there
+-- the graph is verified and can run: its verdict is None, and each operand's reference names an
+-- object of the kind that the node's function expects
 pub record IsReady (objects : List NamedObject) (nodes : List Node) (v : Verified) : Type 0 where
   pub verified : IsVerified (operand_held objects) nodes v
   pub runs : (work : ℕ) × (verdict work (operand_held objects) nodes ≡ None)

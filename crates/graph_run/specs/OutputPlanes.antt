@@ -61,8 +61,8 @@ IsLiveImage objects cell d = IsTrue (is_some (object_named objects cell.name)) �
 abbrev pub IsLiveOutput : List NamedObject → Kind → Option Reference → Description → Type 0
 IsLiveOutput objects wanted output d = (wanted ≡ kind.Image) × IsSomeAnd output (λ cell. IsLiveImage objects cell d)
 
--- if there is a plane, the output is a live image with the plane's description; if there is none,
--- the output isn't a live image
+-- if there is a plane, `wanted` is Image and the output is a live image with the plane's
+-- description; if there is none, `wanted` isn't Image or the output isn't a live image
 abbrev pub IsPlaneOf : List NamedObject → Kind → Option Reference → Option PlaneValue → Type 0
 IsPlaneOf objects wanted output plane =
     MatchOption plane ((d : Description) → ¬ IsLiveOutput objects wanted output d) (λ p. IsLiveOutput objects wanted output p.desc)
@@ -72,15 +72,15 @@ pub record ArePlanesOf (objects : List NamedObject) (n : Node) (planes : OutputP
   pub first : IsPlaneOf objects (parameters n.function).output n.out1 planes.first
   pub second : IsPlaneOf objects (parameters n.function).output n.out2 planes.second
 
--- the samples of an output move to the plane, if there is one. Putting its image back in the table
--- would give the old objects.
+-- the samples of an output move to the plane, if there is one. Putting the plane's image back in
+-- the table would give the old objects.
 pub record LendsOutput (old new : Context) (output : Option Reference) (plane : Option PlaneValue) : Type 0 where
   pub taken : IsInPlaneIf new.objects output plane
   pub back : old ≡ with_objects new (with_plane new.objects output plane)
   pub lasting : map lasting_named new.objects ≡ map lasting_named old.objects
 
--- the samples of a node's outputs move to the planes, if there are any. Putting their images back
--- in the table would give the old objects.
+-- the samples of a node's outputs move to the planes, if there are any. Putting the planes' images
+-- back in the table would give the old objects.
 pub record LendsOutputs (old new : Context) (n : Node) (planes : OutputPlanes) : Type 0 where
   pub taken : AreInPlanes new.objects n planes
   pub back : old ≡ with_objects new (with_planes new.objects n planes)

@@ -51,11 +51,11 @@ tables_of objects nodes k = slice_index_or (map (node_table objects) nodes) k No
 -- ---- radii
 
 -- a node's radius: the number of input rows that it reads above an output row, and the same number
--- below; None if it reads all rows
+-- below; None if its function writes no image
 abbrev pub node_radius : List NamedObject → Node → Option ℕ
 node_radius objects n = step_radius n.function (matrix_in (option_and_then (object_at objects) n.in2))
 
--- a node's radius in images of at most this height; the height itself if the node reads all rows
+-- a node's radius in images of at most this height; the height if its function writes no image
 abbrev pub radius_of : List NamedObject → ℕ → Node → ℕ
 radius_of objects high n = unwrap_or (node_radius objects n) high
 
@@ -101,8 +101,8 @@ tallies_of objects nodes = flat_map (node_tallies objects) nodes
 
 -- ---- programs
 
--- a step that reads its output writes each row once, to a block of all rows. Either the output has
--- no halo and takes no block, or there is only one band.
+-- a step that reads its own output writes each row once, to a block of all rows: either the output
+-- has no halo and takes no block, or there is only one band
 abbrev pub AddOnce : ℕ → ℕ → List ℕ → List Task → Type 0
 AddOnce high size halos tasks =
     (s : Step) → IsStepOf s tasks → reads_output s.node.function ≡ true → ((halo halos s.output ≡ 0) × (s.takes ≡ None)) ⊎ (high ≤ size)

@@ -27,7 +27,8 @@ use Rattle.graph_run.specs.Operands.{operand_held}
 abbrev pub first_objects : List NamedObject → List Node → List NamedObject
 first_objects objects nodes = map (named_at_start (resolved_operand (operand_held objects) nodes) nodes) objects
 
--- the objects at the end of a run, before virtual images are restored
+-- the objects after the last round of a run: a virtual image that a node writes is still an image
+-- with samples
 abbrev pub last_objects : List NamedObject → List Node → List NamedObject
 last_objects objects nodes = rounds_of_nodes nodes (length nodes) (first_objects objects nodes)
 
@@ -62,8 +63,8 @@ tally_objects (c ∷ cells) (t ∷ tallies) = (c, tally_object t) ∷ tally_obje
 -- ---- runs
 
 -- the results of a run of tasks, compared with any solution. Each plane that keeps its block has
--- the solution's image. Each reduction's tally is that of the solution's image for the reduction's
--- input.
+-- the solution's image. If a reduction's tally was new, it becomes the tally of the reduction's
+-- input image in the solution.
 pub record Leaves (tables : ℕ → Option ObjectValue) (tasks : List Task) (planes : List PlaneValue) (tallies : List Tally) (after : List PlaneValue) (counted : List Tally) : Type 0 where
   pub images : (whole : ℕ → ImageValue) → SolvesSteps tables (length planes) tasks (block_images planes) whole
       → (c : ℕ) → KeepsBlock (length planes) tasks c → block_image (plane after c) ≡ whole c

@@ -135,7 +135,7 @@ WriteImages is_virtual nodes =
 
 -- ---- the order of tasks
 
--- no task has as input a plane that a later step writes, and no step's output is also its input
+-- no task's input is a plane that a later step writes, and no step's input is its own output
 abbrev pub AreReadAfter : List Task → Type 0
 AreReadAfter [] = ⊤
 AreReadAfter (Write s ∷ later) = ((c : ℕ) → ReadsPlane s c → IsUnwritten (Write s ∷ later) c) × AreReadAfter later
@@ -151,7 +151,7 @@ AreReadWithin count (Reduce r ∷ later) = (r.input < count) × AreReadWithin co
 abbrev pub AreNamed : List Reference → List Node → Type 0
 AreNamed cells nodes = (n : Node) → In n nodes → (c : Reference) → In c (node_images n) → In c cells
 
--- no step reads the plane whose block its output takes
+-- no step takes the block of one of its own inputs
 abbrev pub AreUntaken : List Task → Type 0
 AreUntaken [] = ⊤
 AreUntaken (Write s ∷ later) = ((k : ℕ) → ReadsPlane s k → s.takes ≡ Some k → ⊥) × AreUntaken later
@@ -170,8 +170,8 @@ pub record HaveTasks (steps : List Node) (outs : List VirtualOutput) (p : PlanVi
   -- a node that accumulates writes a client's image
   pub adds : (n : Node) → In n steps → accumulates n.function ≡ true → (c : Reference) → In c (outputs n) → is_virtual c ≡ false
 
--- references to the images of a graph: first these virtual images, then the other images that these
--- nodes read or write, each once
+-- references to the images of a graph, each image once: first these virtual images, then the other
+-- images that these nodes read or write
 abbrev pub graph_cells : List Node → List VirtualOutput → List Reference
 graph_cells steps outs = with_cells (map (λ o. o.cell) outs) (images_named steps)
 

@@ -78,7 +78,8 @@ pub fn capacities_of(
     Ok(capacities)
 }
 
-/// Adds the format and the number of samples of each slot of one format.
+/// Adds an entry for each slot of a format: the format and the slot's number of samples. The list
+/// must already have an entry for each slot of the earlier formats.
 fn add_capacities(
     capacities: &mut Vec<(Format, usize)>,
     plan: &Plan,
@@ -174,7 +175,7 @@ pub fn take_blocks(
     }
 }
 
-/// Adds a block of each of these formats and sizes to an empty list.
+/// Adds a block of each of these formats and sizes to the list, which must be empty.
 fn add_blocks(
     blocks: &mut Vec<Block>,
     pool: &mut Pool,

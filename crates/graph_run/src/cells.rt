@@ -10,7 +10,7 @@ use graph_verify::Verified;
 use std::alloc::{AllocError, Global};
 use vx_base::{Kind, Node, ObjRef};
 
-/// Returns references to the images that a graph reads and writes, each once.
+/// Returns one reference to each image that a graph reads or writes.
 pub fn cells_of(alloc: Global, verified: &Verified) -> Result<Vec<ObjRef>, AllocError>
     ensures { IfOk result (λ cells. cells.items ≡ cells_of verified.now) }
 {
@@ -46,7 +46,8 @@ fn add_images(cells: &mut Vec<ObjRef>, node: &Node) -> Result<(), AllocError>
     add_given(cells, parameters.output, node.out2)
 }
 
-/// Adds the reference of an operand of this kind, if the operand is given and is an image.
+/// Adds the reference of an operand of this kind, if the operand is given and is an image. A
+/// reference that is in the list isn't added again.
 fn add_given(cells: &mut Vec<ObjRef>, kind: Kind, cell: Option<ObjRef>) -> Result<(), AllocError>
     ensures { OnOk result (cells.new.items ≡ with_cells cells.old.items (image_given kind cell)) }
 {
@@ -81,7 +82,7 @@ fn position_of(cells: &[ObjRef], cell: ObjRef) -> Option<usize>
 }
 
 /// Returns the first index of a reference, or the length of the list if the reference isn't in it.
-#[tactic(auto, using(crate::proofs::IndexLemmas::index_found, crate::proofs::IndexLemmas::index_none))]
+#[tactic(auto, using(crate::proofs::IndexLemmas::index_steps))]
 pub fn index_of(cells: &[ObjRef], cell: ObjRef) -> usize
     ensures { result ≡ index_of cells.now cell }
 {

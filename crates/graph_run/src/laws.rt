@@ -21,7 +21,8 @@ ghost use Rattle.graph_run.specs.Graph.{run_of_graph};
 ghost use Rattle.graph_run.specs.Operands.{CellsStand};
 ghost use Rattle.graph_run.specs.Solution.{WritesNo, ReadImages, Solves};
 
-/// Running each node once, after the nodes that feed it, gives the result of the rounds.
+/// If no object has two writers, running each node once, after the nodes that feed it, gives the
+/// result of the rounds.
 #[tactic(auto, using(crate::proofs::OrderLaws::order_gives_rounds))]
 pub fn once_in_order()
     ensures { (nodes steps : List Node) (objects : List NamedObject) → IsOrder feeds nodes steps →
@@ -46,7 +47,8 @@ pub fn rounds_solve()
         Solves nodes before after → after ≡ rounds_of_nodes nodes (length nodes) before }
 {}
 
-/// A run of a graph with one node writes the same values as a run of the node alone.
+/// If a graph's only node writes no virtual image, a run of the graph writes the same values as a
+/// run of the node alone.
 #[tactic(auto, using(crate::proofs::BegunLaws::one_node))]
 pub fn run_of_one_node()
     ensures { (is : Reference → Operand) (n : Node) (objects : List NamedObject) →
@@ -55,7 +57,8 @@ pub fn run_of_one_node()
         run_of_graph is (n ∷ []) objects ≡ with_written objects (written_by n (object_at objects)) }
 {}
 
-/// The order in which nodes are added doesn't change the result of a run.
+/// If no object has two writers, the order in which nodes are added doesn't change the result of a
+/// run.
 #[tactic(auto, using(crate::proofs::AddingLaws::same_graph))]
 pub fn added_in_any_order()
     ensures { (is : Reference → Operand) (nodes others : List Node) (objects : List NamedObject) →
@@ -66,8 +69,8 @@ pub fn added_in_any_order()
 {}
 
 /// If a graph's verdict is `None`, each node can run when its turn comes. The verdict on each node
-/// alone, with its resolved operands, is `None`. After any of the nodes have run, all objects still
-/// match their resolved operands.
+/// alone, with its resolved operands, is `None`. After any of the nodes have run, the objects that
+/// the nodes name still match their resolved operands.
 #[tactic(auto, using(crate::proofs::TurnLaws::each_alone, crate::proofs::TurnLaws::at_its_turn))]
 pub fn each_at_its_turn()
     ensures alone { (work : ℕ) (is : Reference → Operand) (nodes : List Node) (n : Node) →
@@ -81,7 +84,7 @@ pub fn each_at_its_turn()
 {}
 
 /// If a graph's verdict is `None`, a run gives the same result as running each node once, in an
-/// order in which the nodes can run. Virtual images are restored at the end.
+/// order in which the nodes can run. After the run the virtual images are as they were before it.
 #[tactic(auto, using(crate::proofs::TurnLaws::run_in_order))]
 pub fn runs_in_order()
     ensures { (work : ℕ) (is : Reference → Operand) (nodes steps : List Node)

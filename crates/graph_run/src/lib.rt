@@ -23,7 +23,7 @@
 //! - `blocks`: pool blocks that virtual images share
 //! - `virtual_planes`: planes of virtual images, over these blocks
 //! - `bind`: moves the client's images to planes and back
-//! - `tables`: the tables, thresholds and matrices that nodes read
+//! - `tables`: the lookup tables, thresholds and matrices that nodes read
 //! - `tallies`: histograms and extremes
 //! - `laws`: laws of runs
 //! - `examples`: runs of small graphs

@@ -28,7 +28,7 @@ use vx_base::{Kind, Node, ObjRef, Output};
 
 /// Runs a node on the objects that it names, and moves its output images from planes back to the
 /// table. The node's verdict must be `None`. Allocates nothing.
-#[tactic(auto, using(crate::proofs::OnceLemmas::runs_first_taken, crate::proofs::OnceLemmas::taken_then, crate::proofs::OnceLemmas::runs_then_taken))]
+#[tactic(auto, using(crate::proofs::OnceLemmas::lent_planes))]
 pub fn run_lent(table: &mut Table, node: &Node, planes: OutputPlanes)
     requires taken { AreInPlanes table.old.objects node.now planes }
     requires planes { HavePlanes node.now planes }
@@ -70,7 +70,7 @@ fn run_to(
 
 /// Writes an output image, whose samples are in a plane, and moves the samples to the table. The
 /// node's inputs must be in the table.
-#[tactic(auto, using(crate::proofs::OnceLemmas::beside))]
+#[tactic(auto, using(crate::proofs::OnceLemmas::lent_output))]
 fn write_to(table: &mut Table, node: &Node, which: Output, output: ObjRef, mut plane: Plane)
     requires taken { IsInPlane table.old.objects output plane }
     requires runs { RunsTo (with_plane table.old.objects (Some output) (Some plane)) node.now

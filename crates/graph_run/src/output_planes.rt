@@ -41,8 +41,9 @@ impl OutputPlanes {
 }
 
 /// Moves the samples of a node's output images from the table to planes, if the node's function
-/// writes images. An output stays in the table unless it is a non-virtual image with a live name.
-/// If both outputs are one image, its samples move to the second plane. Allocates nothing.
+/// writes images. An output stays in the table if it isn't an image, if it is virtual, or if its
+/// name isn't live. If both outputs are one image, its samples move to the second plane. Allocates
+/// nothing.
 #[tactic(auto, using(crate::proofs::LendLemmas::lent_lasts))]
 pub fn lend_outputs(table: &mut Table, node: &Node) -> OutputPlanes
     requires { IsStrictlyIncreasing (map (λ o. o.name) table.old.objects) }
@@ -55,8 +56,8 @@ pub fn lend_outputs(table: &mut Table, node: &Node) -> OutputPlanes
     OutputPlanes { first, second }
 }
 
-/// Moves the samples of an output from the table to a plane. Nothing moves unless images are wanted
-/// and the output is a non-virtual image with a live name.
+/// Moves the samples of an output from the table to a plane, if `wanted` is `Image` and the output
+/// is an image that isn't virtual and has a live name. Otherwise changes nothing.
 fn lend(table: &mut Table, wanted: Kind, output: Option<ObjRef>) -> Option<Plane>
     requires { IsStrictlyIncreasing (map (λ o. o.name) table.old.objects) }
     ensures lent { LendsOutput table.old table.new output result }

@@ -86,10 +86,11 @@ pub fn run(
     run_scheduled(alloc, verified, &schedule, &mut lists, table, pool)
 }
 
-/// Runs a verified graph as `run` does, by a schedule that `schedule_of` made for this graph.
+/// Runs a verified graph as `run` does, by a schedule. `schedule_of` must have made this schedule
+/// for the graph.
 ///
-/// The lists may be from a run of any graph. If the lists are large enough and the pool has free
-/// blocks that fit, the run allocates nothing.
+/// `lists` may be left from an earlier run, of this graph or another. If the lists are large enough
+/// and the pool has free blocks that fit, the run needs no new memory.
 pub fn run_scheduled(
     alloc: Global,
     verified: &Verified,
@@ -149,7 +150,7 @@ pub fn run_scheduled(
     Ok(())
 }
 
-/// Proves that the width and height of each description are in range. The prover learns the range
+/// Proves that the width and height of each virtual image are in range. The prover learns the range
 /// of a number only where the number is read, so a loop reads every description. The compiler
 /// removes the loop.
 fn prove_descriptions(verified: &Verified)
@@ -160,9 +161,9 @@ fn prove_descriptions(verified: &Verified)
     }
 }
 
-/// Fills the empty list of planes. First come the planes of the virtual images, over the blocks of
-/// their slots, and then the planes of the client's images. The samples of the client's images are
-/// taken from the table. The tasks can then run.
+/// Fills the list of planes, which must be empty. First come the planes of the virtual images, over
+/// the blocks of their slots, and then the planes of the client's images. The samples of the
+/// client's images are taken from the table. The tasks can then run.
 fn fill_planes(
     alloc: Global,
     verified: &Verified,

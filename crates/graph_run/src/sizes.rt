@@ -174,7 +174,8 @@ fn wanted_rows(desc: Desc, halo: u16) -> u16
     for_cache.max(for_halo).min(greatest).max(LEAST_ROWS) as u16
 }
 
-/// Returns whether each step that reads its output writes each row once, to a block of all rows.
+/// Returns whether the steps that read their own output (accumulations and integral images) write
+/// each row once, to a block of all rows.
 fn add_once(tasks: &[Task], halos: &[u16]) -> bool
     ensures { result ≡ true → (s : StepValue) → IsStepOf s tasks.now →
         reads_output s.node.function ≡ true →
@@ -190,7 +191,8 @@ fn add_once(tasks: &[Task], halos: &[u16]) -> bool
     true
 }
 
-/// Returns whether a task doesn't read its output, or writes each row once to a block of all rows.
+/// Returns whether a task doesn't read its own output, or writes each row once, to a block of all
+/// rows.
 fn adds_once(task: &Task, halos: &[u16]) -> bool
     ensures { result ≡ true → (s : StepValue) → task.now ≡ Write s →
         reads_output s.node.function ≡ true →

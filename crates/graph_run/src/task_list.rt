@@ -149,7 +149,7 @@ fn source(cells: &[ObjRef], at: usize, node: &Node) -> SecondSource
 // ---- radii
 
 /// Returns a node's radius: the number of input rows that it reads above an output row. It reads
-/// the same number of rows below. The radius is `high` if the node reads all rows.
+/// the same number of rows below. Returns `high` if the node's function writes no image.
 pub fn radius_of(table: &Table, high: u16, node: &Node) -> u16
     ensures { result ≡ radius_of table.now.objects high node.now }
 {

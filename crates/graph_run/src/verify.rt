@@ -92,7 +92,7 @@ fn operand_held_if(table: &Table, cell: Option<ObjRef>) -> Option<Operand>
 
 /// Returns the operand that a reference in a node names, even if the object's name has been
 /// released. Returns `Missing` if the table holds no object for the reference.
-#[tactic(auto, using(crate::proofs::FoundLemmas::operand_nowhere, crate::proofs::FoundLemmas::operand_there))]
+#[tactic(auto, using(crate::proofs::FoundLemmas::operand_steps))]
 pub fn operand_held(table: &Table, cell: ObjRef) -> Operand
     ensures { result ≡ operand_held table.now.objects cell }
 {

@@ -14,8 +14,8 @@ use pixel_pool::Block;
 use std::alloc::Global;
 use vx_base::{Format, Samples};
 
-/// Adds planes for virtual images. The last image in a slot gets the slot's block. Every other
-/// image gets an empty block.
+/// Adds planes for virtual images to the list, which must be empty. The last image in a slot gets
+/// the slot's block. Every other image gets an empty block.
 pub fn add_virtual(
     alloc: Global,
     images: &[VirtualOutput],
@@ -42,8 +42,9 @@ pub fn add_virtual(
     }
 }
 
-/// Returns the block that the virtual image at index `k` has before a run. The last image in a slot
-/// has the slot's block. Every other image has an empty block.
+/// Returns the block that the virtual image at index `k` has before a run. For the last image in a
+/// slot, this is the slot's block, which is taken out of `blocks`. Every other image has an empty
+/// block.
 #[tactic(auto, using(crate::proofs::VirtualLemmas::first_taken))]
 fn first_block(alloc: Global, slots: &[usize], k: usize, blocks: &mut [Block]) -> Samples
     requires there { k < length slots.now }

@@ -36,7 +36,7 @@ HaveOneWriter [] = Unit {0}
 HaveOneWriter (Write s ∷ later) = IsUnwritten later s.output × HaveOneWriter later
 HaveOneWriter (Reduce r ∷ later) = HaveOneWriter later
 
--- no step reads a plane that it or a later step writes
+-- no step's input is a plane that this step or a later step writes
 abbrev pub AreInOrder : List Task → Type 0
 AreInOrder [] = Unit {0}
 AreInOrder (Write s ∷ later) = ((c : ℕ) → ReadsPlane s c → IsUnwritten (Write s ∷ later) c) × AreInOrder later
@@ -54,7 +54,7 @@ abbrev pub Suffice : ℕ → List ℕ → List Task → Type 0
 Suffice high halos tasks =
     (s : Step) → IsStepOf s tasks → (c : ℕ) → ReadsPlane s c → min high (halo halos s.output + s.radius) ≤ halo halos c
 
--- no step reads the plane
+-- the plane isn't an input of any step
 abbrev pub IsUnread : List Task → ℕ → Type 0
 IsUnread tasks c = (s : Step) → IsStepOf s tasks → ReadsPlane s c → ⊥
 
@@ -99,8 +99,8 @@ AreFree kept (Write s ∷ later) = ((t : ℕ) → s.takes ≡ Some t → t ≢ s
 abbrev pub HoldsRows : ℕ → ℕ → Description → Format × ℕ → Type 0
 HoldsRows size more d block = (block.0 ≡ d.format) × (min d.height (size + more + more) * d.width ≤ block.1)
 
--- each block that a step takes is large enough for a band of the step's output, with the output's
--- halo
+-- each block that a step takes has the output's format, and is large enough for a band of the
+-- output with its halo
 abbrev pub HaveCapacity : ℕ → List ℕ → (ℕ → Description) → List Task → List (Format × ℕ) → Type 0
 HaveCapacity size halos descs [] blocks = Unit {0}
 HaveCapacity size halos descs (Reduce r ∷ later) blocks = HaveCapacity size halos descs later blocks
@@ -116,8 +116,8 @@ blocks_after_tasks (Reduce r ∷ later) blocks = blocks_after_tasks later blocks
 
 -- ---- programs
 
--- a step's indices are indices of planes; its inputs are neither its output nor the plane whose
--- block it takes
+-- a step's planes have indices below `count`. Its inputs are neither its output nor the plane whose
+-- block it takes. A step that accumulates takes no block.
 pub record NamesPlanes (count : ℕ) (s : Step) : Type 0 where
   pub output : s.output < count
   pub reads : (c : ℕ) → ReadsPlane s c → (c < count) × (c ≢ s.output) × (s.takes ≢ Some c)
@@ -144,8 +144,8 @@ pub record IsProgram (tables : ℕ → Option ObjectValue) (high size : ℕ) (ha
   pub begins : (c : ℕ) → IsLive (KeepsBlock (length planes) tasks) tasks c → IsUnwritten tasks c × KeepsBlock (length planes) tasks c
   pub clients : (c : ℕ) → KeepsBlock (length planes) tasks c → IsClient (plane planes c)
   pub written : (s : Step) → IsStepOf s tasks → s.takes ≡ None → KeepsBlock (length planes) tasks s.output
-  -- a step that reads its output writes each row once, to a block of all rows, unless there is only
-  -- one band
+  -- a step that reads its own output writes each row once, to a block of all rows: either the
+  -- output has no halo and takes no block, or there is only one band
   pub once : (s : Step) → IsStepOf s tasks → reads_output s.node.function ≡ true → ((halo halos s.output ≡ 0) × (s.takes ≡ None)) ⊎ (high ≤ size)
   -- blocks are free and large enough when they are taken, and back in their planes after a band
   pub free : AreFree (KeepsBlock (length planes) tasks) tasks
@@ -162,7 +162,7 @@ pub record SolvesSteps (tables : ℕ → Option ObjectValue) (count : ℕ) (task
 
 -- ---- whole images
 
--- the images with another image at this index
+-- the images, with this image in place of the one at index `c`
 abbrev pub with_image : ℕ → ImageValue → (ℕ → ImageValue) → ℕ → ImageValue
 with_image c image images k = if k == c then image else images k
 

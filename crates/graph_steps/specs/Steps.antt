@@ -32,7 +32,7 @@ use Rattle.graph_steps.specs.Planes.{PlaneValue, plane, read_images, plane_image
 
 -- ---- images of steps
 
--- the step reads the plane at this index
+-- the plane at this index is an input of the step
 abbrev pub ReadsPlane : Step → ℕ → Type 0
 ReadsPlane s c = (s.first ≡ c) ⊎ (s.second ≡ Plane c)
 
@@ -70,8 +70,8 @@ abbrev pub is_integral : Function → Bool
 is_integral Integral = true
 is_integral other = false
 
--- whether a step with this function reads its output: whether it accumulates or writes an integral
--- image
+-- whether a step with this function reads its own output: Integral does, and so does a function
+-- that accumulates
 abbrev pub reads_output : Function → Bool
 reads_output function = accumulates function || is_integral function
 
@@ -90,8 +90,9 @@ abbrev pub rows_image : (ℕ → Option ObjectValue) → Step → Band → (ℕ 
 rows_image tables s rows images out =
     if is_integral s.node.function then scan_image rows.start (images s.first) out else step_image tables s images (plane_image (with_read_rows rows out))
 
--- a step's radius: the number of input rows that it reads above an output row, and as many below;
--- None if it reads all rows
+-- a step's radius: the number of input rows that it reads above an output row, and as many below.
+-- It is 0 for Integral, which continues from the output row above. It is None if the function
+-- writes no image.
 abbrev pub step_radius : Function → Option ConvolutionValue → Option ℕ
 step_radius function matrix = if is_integral function then Some 0 else window_radius function matrix
 
@@ -115,7 +116,7 @@ Covers None radius high = high ≤ radius
 abbrev pub blank_image : Description → ImageValue
 blank_image d = image_over d empty_rectangle []
 
--- the plane of the second input, or index 0 if the second input isn't a plane
+-- the index of the second input's plane, or 0 if the second input isn't a plane
 abbrev pub second_plane : SecondSource → ℕ
 second_plane (Plane c) = c
 second_plane other = 0

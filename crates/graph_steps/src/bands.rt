@@ -79,8 +79,7 @@ fn run_band<T: Tables>(
 ///
 /// The results don't depend on `size`: they are those of any solution of the steps' equations over
 /// whole images. Afterwards the plane of a client's image holds the solution's image. If a
-/// reduction's tally was new, it becomes the tally of the solution's image for the reduction's
-/// input.
+/// reduction's tally was new, it becomes the tally of the reduction's input image in the solution.
 pub fn run<T: Tables>(
     tables: &T,
     tasks: &[Task],

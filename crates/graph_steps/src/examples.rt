@@ -11,8 +11,8 @@ pub fn two_boxes()
     ensures reduces { CanReduceBand 0 boxes box_planes box_tallies }
 {}
 
-/// An integral image of four rows can run in bands of two rows. The second band continues from the
-/// last row of the first.
+/// An integral image of four rows can be computed in bands of two rows. The second band continues
+/// from the last row of the first.
 pub fn integral_image()
     ensures { IsProgram no_tables 4 2 sums_halos sums sums_planes }
 {}

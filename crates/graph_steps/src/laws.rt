@@ -7,7 +7,7 @@ ghost use Rattle.graph_steps.specs.Program.{AreFilled, AreInOrder, IsProgram, So
 ghost use Rattle.graph_steps.specs.Program.{steps_in_turn};
 
 /// Running the steps of a program in order, each on whole images, gives a solution of the steps'
-/// equations.
+/// equations. Each plane must belong to a client's image or be written by a step.
 pub fn solution()
     ensures { (tables : ℕ → Option ObjectValue) (high size : ℕ) (halos : List ℕ)
         (tasks : List TaskValue) (planes : List PlaneValue) →

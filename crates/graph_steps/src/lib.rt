@@ -19,7 +19,7 @@
 //!
 //! - `step`: steps and reductions
 //! - `plane`: planes
-//! - `tables`: the tables, thresholds and matrices that steps read
+//! - `tables`: the lookup tables, thresholds and matrices that steps read
 //! - `kernel`: runs the kernel of a step's function
 //! - `rows`: reads and writes rows in a block of samples
 //! - `one_step`: runs one step on some rows

@@ -179,7 +179,8 @@ impl Plane {
     }
 
     /// Writes these rows of the integral image of `image`, and sets the plane's valid rectangle to
-    /// that of `image`. The first row continues from the row above it, if the block has that row.
+    /// that of `image`. The first row continues from the row above it, or from zeros if the block
+    /// doesn't have that row.
     pub fn write_sums(&mut self, image: &Image<'_>, band: Band)
         requires input { image.now.format ≡ U8 }
         requires format { self.old.format ≡ U32 }

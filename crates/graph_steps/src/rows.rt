@@ -110,7 +110,7 @@ impl RowSample for u32 {
 }
 
 /// Writes these rows of an image's integral image to a block that begins with row `top`. The first
-/// row continues from the row above it, if the block has that row.
+/// row continues from the row above it, or from zeros if the block doesn't have that row.
 pub fn write_sums(width: u16, top: u16, rows: Band, image: &Image<'_>, samples: &mut [u32])
     requires input { image.now.format ≡ U8 }
     requires width { image.now.width ≡ width }

@@ -36,8 +36,8 @@ pub struct Step {
 }
 
 /// Returns the radius of a step: the number of input rows that it reads above an output row, and as
-/// many below. `None` means all rows. An integral image has radius 0, since each row is computed
-/// from one input row and from the output row above.
+/// many below. Integral has radius 0, since it computes each row from one input row and from the
+/// output row above. Returns `None` if the function writes no image.
 pub fn step_radius(function: Function, matrix: Option<&Convolution>) -> Option<u16>
     ensures { result ≡ step_radius function (option_copied matrix.entry) }
 {
@@ -78,8 +78,8 @@ impl Step {
         is_integral(self.node.function)
     }
 
-    /// Returns whether the step reads its output: whether it accumulates or writes an integral
-    /// image. Such a step must write each row once.
+    /// Returns whether the step reads its own output: Integral does, and so does a function that
+    /// accumulates. Such a step must write each row once.
     pub fn reads_output(&self) -> bool
         ensures { result ≡ reads_output self.now.node.function }
     {

@@ -1,17 +1,17 @@
-//! The tables, thresholds and matrices that steps read.
+//! The lookup tables, thresholds and matrices that steps read.
 ghost use Rattle.std.specs.Prelude.{◌≡◌, ℕ, Option};
 ghost use Rattle.vx_base.specs.Object.{ObjectValue};
 ghost use Rattle.image_core.specs.Second.{second_object};
 
 use image_core::SecondInput;
 
-/// Gives the table, threshold or matrix at an index. The steps of a program refer to these objects
-/// by their indices.
+/// Gives the lookup table, threshold or matrix at an index. The steps of a program refer to these
+/// objects by their indices.
 pub trait Tables {
-    /// The table, threshold or matrix at each index. `None` if there is none.
+    /// The lookup table, threshold or matrix at each index. `None` if there is none.
     ghost tables: { Self → ℕ → Option ObjectValue };
 
-    /// Returns the table, threshold or matrix at an index.
+    /// Returns the lookup table, threshold or matrix at an index.
     fn table(&self, at: usize) -> SecondInput<'_>
         ensures { second_object result ≡ tables self.now at };
 }

@@ -87,7 +87,7 @@ impl Tally {
         }
     }
 
-    /// Adds all rows of an image to a new tally.
+    /// Adds all rows of an image to the tally, which must be new.
     pub fn add_all(&mut self, image: &Image<'_>)
         requires new { IsNew self.old }
         requires image { IsImage image.now }

@@ -19,7 +19,7 @@ use Rattle.object_table.specs.Object.{graph_value}
 use Rattle.object_table.specs.Skeleton.{skeleton}
 use Rattle.object_table.specs.Table.{IsUnder, graph_under}
 use Rattle.object_table.specs.Uses.{nodes_in}
-use Rattle.object_table.proofs.SkeletonLaws.{kind-skeleton, option_map-told}
+use Rattle.object_table.proofs.SkeletonLaws.{kind-skeleton, option_map-determined}
 use Rattle.graph_verify.specs.declared.operand.Operand.{Operand}
 use Rattle.graph_verify.specs.Operand.{is_image, operand_of}
 use Rattle.graph_verify.proofs.GraphLemmas.{IsGraph-with_node}
@@ -112,7 +112,7 @@ module _ (objects : List NamedObject) (a b : ImageValue) (d : PartialDesc) (last
 
   -- each cell is to a node what it was at first
   stays : (cell : Reference) → is cell ≡ operands_in (chain a b d) cell
-  stays cell = option_map-told skeleton operand_of operand_of operand-skeleton (object_at objects cell) (object_at (chain a b d) cell)
+  stays cell = option_map-determined skeleton operand_of operand_of operand-skeleton (object_at objects cell) (object_at (chain a b d) cell)
       (skeletons-last (object_at objects cell) (object_at (chain a b d) cell) (cell-lasts (chain a b d) objects cell lasts.lasting))
 
   there : (name : ℕ) → IsThere (operands_in (chain a b d) (reference_to name)) → IsThere (is (reference_to name))
@@ -146,7 +146,7 @@ module _ (objects : List NamedObject) (a b : ImageValue) (d : PartialDesc) (last
   graph_there = held-lasts (chain a b d) objects 3 lasts.lasting
 
   pub is_graph : IsUnder objects kind.Graph 3
-  is_graph = option_map-told skeleton object_kind object_kind kind-skeleton (object_held objects 3) (Some (GraphObject six_boxes)) (skeletons-last (object_held objects 3) (Some (GraphObject six_boxes)) graph_there)
+  is_graph = option_map-determined skeleton object_kind object_kind kind-skeleton (object_held objects 3) (Some (GraphObject six_boxes)) (skeletons-last (object_held objects 3) (Some (GraphObject six_boxes)) graph_there)
 
   pub nodes_under : nodes_of (graph_under objects 3) ≡ chain_nodes
   nodes_under = nodes_there (object_held objects 3) _ chain_nodes (nodes-last (object_held objects 3) (Some (GraphObject six_boxes)) graph_there)

@@ -75,7 +75,8 @@ fn a_delay_has_its_slots(rt: HostRuntime) -> Result<(), Fail> {
     Ok(())
 }
 
-/// Inserts an object that isn't a graph with nodes. Returns the object's name.
+/// Inserts an object, and returns the object's name. If the object is a graph, it must have no
+/// nodes.
 pub fn hold(table: &mut Table, content: Content) -> Result<u32, Fail>
     requires { nodes_in (value_of content) ≡ [] }
     ensures { OnOk result (table.new ≡ with_new table.old (value_of content)) }

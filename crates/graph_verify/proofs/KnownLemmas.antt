@@ -5,7 +5,7 @@ use Rattle.std.proofs.lemmas.List.{drop_more, take_more}
 use Rattle.graph_verify.specs.ResolvedOutputs.{known_of, known_partial_desc, resolved_output, resolved_by, known_operand}
 use Rattle.graph_verify.proofs.LinkLemmas.{same_cell-true, same_cell-is, In-outputs, feeds_is, same-from_In}
 use Rattle.graph_verify.proofs.MemberLemmas.{In-left, In-right, In-append, In-from_map, In-filter, In-at, Contains-from_In}
-use Rattle.graph_verify.proofs.PartialDescriptionLemmas.{outlines_solve, no_cycle_in_steps, image_outline}
+use Rattle.graph_verify.proofs.PartialDescriptionLemmas.{partial_descs_solve, no_cycle_in_steps, image_partial_desc}
 
 -- what `find` finds, and where it finds none
 pub find_cases : {X : Type 0} (p : X → Bool) (xs : List X) → ((x : X) × (find p xs ≡ Some x) × In x xs × (p x ≡ true)) ⊎ ((find p xs ≡ None) × ((x : X) → In x xs → p x ≡ false))
@@ -40,11 +40,11 @@ module _ (is : Reference → Operand) where
         ap (λ (o : Option ResolvedOutput). unwrap_or (option_map (λ (k : ResolvedOutput). k.partial_desc) o) declared) none.0 ∙ sym (ap operand_partial_desc virtual) ∙ sym (solves.others c unwritten))
   ]
 
-  outline_known : (all done : List Node) (known : List ResolvedOutput) → Solves all → AreLearnt all done known → (c : Reference) (o : Operand) → is c ≡ o → IsTrue (is_image o)
+  partial_desc_known : (all done : List Node) (known : List ResolvedOutput) → Solves all → AreLearnt all done known → (c : Reference) (o : Operand) → is c ≡ o → IsTrue (is_image o)
       → ((n : Node) → In n all → writes n c ≡ true → In n done) → known_partial_desc known c o ≡ partial_descs is all c
-  outline_known all done known solves h c (Image d) e image writers_done = sym (image_outline is all c d e)
-  outline_known all done known solves h c (Virtual declared) e image writers_done = virtual_known all done known solves h c declared e writers_done
-  outline_known all done known solves h c other e image writers_done = absurd (cc image)
+  partial_desc_known all done known solves h c (Image d) e image writers_done = sym (image_partial_desc is all c d e)
+  partial_desc_known all done known solves h c (Virtual declared) e image writers_done = virtual_known all done known solves h c declared e writers_done
+  partial_desc_known all done known solves h c other e image writers_done = absurd (cc image)
 
   -- ---- one more node
 
@@ -67,13 +67,13 @@ module _ (is : Reference → Operand) where
   learn_more done rest l known known' one turn operands image h is_known' =
       let n = l.node in
       let all = done ++ n ∷ rest in
-      let solves = outlines_solve is all one (no_cycle_in_steps is all turn) in
+      let solves = partial_descs_solve is all one (no_cycle_in_steps is all turn) in
       let writers_done : (m : Node) → In m all → writes m n.in1 ≡ true → In m done = λ m i w. elim (In-append m done (n ∷ rest) i) [
         | inl j ↦ j
         | inr j ↦ (let fed = feeds_is m n n.in1 w (same-from_In n.in1 (inputs n) (inl refl)) in let unfed = InTurn-at done n rest turn m j in absurd (cc))
       ] in
       let first : known_partial_desc known n.in1 (is n.in1) ≡ partial_descs is all n.in1 =
-      outline_known all done known solves h n.in1 (is n.in1) refl (rw operands at image) writers_done in
+      partial_desc_known all done known solves h n.in1 (is n.in1) refl (rw operands at image) writers_done in
       let gives = given_partial_desc n.function (known_partial_desc known n.in1 (is n.in1)) in
       let is_new : known' ≡ known ++ (resolved_output n.out1 (option_map is n.out1) gives ++ resolved_output n.out2 (option_map is n.out2) gives) =
       rw operands at is_known' in
@@ -123,7 +123,7 @@ module _ (is : Reference → Operand) where
   -- ---- all nodes are done
 
   pub operand_known : (all : List Node) (known : List ResolvedOutput) → Solves all → AreLearnt all all known → (c : Reference) → known_operand known c (is c) ≡ resolved_operand is all c
-  operand_known all known solves h c = grind (arith, outline_known)
+  operand_known all known solves h c = grind (arith, partial_desc_known)
 
   pub all_known : (steps : List Linked) (i : ℕ) (known : List ResolvedOutput) → length steps ≤ i → AreLearnt (linked_nodes steps) (linked_nodes (take i steps)) known → AreResolved is (linked_nodes steps) known
   all_known steps i known over h =

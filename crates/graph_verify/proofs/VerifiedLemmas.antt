@@ -13,7 +13,7 @@ use Rattle.graph_verify.proofs.KnownLemmas.{find_cases}
 use Rattle.graph_verify.proofs.LinkLemmas.{two_writers-permutation, same-from_In, same_cell-true, same_cell-is}
 use Rattle.graph_verify.proofs.MemberLemmas.{In-at, In-map, In-from_map, In-from_flat_map, AllIn-permutation_back}
 use Rattle.graph_verify.proofs.OrderLemmas.{no_cycle_from_order}
-use Rattle.graph_verify.proofs.PartialDescriptionLemmas.{outlines_solve}
+use Rattle.graph_verify.proofs.PartialDescriptionLemmas.{partial_descs_solve}
 use Rattle.graph_verify.proofs.SublistLemmas.{In-sublist, not_again, once-sublist, filter-sublist, described_sublist}
 use Rattle.graph_verify.proofs.VerifyLemmas.{links, nodes_order}
 
@@ -59,7 +59,7 @@ module _ (nodes steps : List Node) (outs : List VirtualOutput) (one : two_writer
   description o i =
       let writer = In-from_flat_map outputs o.cell steps (In-sublist o.cell (map cell_of outs) (flat_map outputs steps) within (In-map cell_of o outs i)) in
       let n = writer.0 in
-      let solves = outlines_solve is nodes one (no_cycle_from_order feeds nodes steps order) in
+      let solves = partial_descs_solve is nodes one (no_cycle_from_order feeds nodes steps order) in
       let resolved : partial_descs is nodes o.cell ≡ partial_desc_of o.desc =
       solves.written n o.cell (AllIn-permutation_back nodes steps order.same_nodes n writer.1) (same-from_In o.cell (outputs n) writer.2)
       ∙ ap (λ x. with_defaults (operand_partial_desc x) (given_partial_desc n.function (partial_descs is nodes n.in1))) (is_own o i) in

@@ -16,7 +16,7 @@ use Rattle.graph_verify.proofs.LinkLemmas.{two_writers-permutation, same-from_In
 use Rattle.graph_verify.proofs.MemberLemmas.{In-at, In-from_any, any-from_In, In-filter, AllIn-permutation, Contains-from_In, In-map, In-from_map, In-from_filter, In-from_flat_map, AllIn-permutation_back}
 use Rattle.graph_verify.proofs.OrderLemmas.{IsOrder-map, no_cycle_from_order}
 use Rattle.graph_verify.proofs.VerdictLemmas.{size_fault, unwritten_input, by_fault}
-use Rattle.graph_verify.proofs.PartialDescriptionLemmas.{outlines_solve, no_cycle_in_steps, resolved-order, image_outline}
+use Rattle.graph_verify.proofs.PartialDescriptionLemmas.{partial_descs_solve, no_cycle_in_steps, resolved-order, image_partial_desc}
 
 -- ---- the bytes of the virtual images
 
@@ -100,7 +100,7 @@ filled_closed declared function d =
 module _ (is : Reference → Operand) where
   -- an image with a format is known
   image_closed : (all : List Node) (c : Reference) (o : Operand) (f : Format) → is c ≡ o → IsTrue (is_image o) → operand_format (as_known o (partial_descs is all c)) ≡ Some f → (d : Description) × (partial_descs is all c ≡ partial_desc_of d)
-  image_closed all c (Image d) f e image has = (d, image_outline is all c d e)
+  image_closed all c (Image d) f e image has = (d, image_partial_desc is all c d e)
   image_closed all c (Virtual declared) f e image has = by (full_description (partial_descs is all c)) refl
     where
       by : (d : Option Description) → full_description (partial_descs is all c) ≡ d → (d : Description) × (partial_descs is all c ≡ partial_desc_of d)
@@ -152,7 +152,7 @@ module _ (nodes steps : List Linked) (one : two_writers (linked_nodes nodes) ≡
   steps_one_writer = two_writers-permutation (linked_nodes nodes) (linked_nodes steps) nodes_order.same_nodes one
 
   steps_solve : (is : Reference → Operand) → IsSolution writes (written_partial_desc is) (linked_nodes steps) (λ c. operand_partial_desc (is c)) (partial_descs is (linked_nodes steps))
-  steps_solve is = outlines_solve is (linked_nodes steps) steps_one_writer (no_cycle_in_steps is (linked_nodes steps) nodes_order.in_turn)
+  steps_solve is = partial_descs_solve is (linked_nodes steps) steps_one_writer (no_cycle_in_steps is (linked_nodes steps) nodes_order.in_turn)
 
   same_resolved : (is : Reference → Operand) → resolved_operand is (linked_nodes nodes) ≡ resolved_operand is (linked_nodes steps)
   same_resolved is = fun_ext (resolved-order is (linked_nodes nodes) (linked_nodes steps) one nodes_order)

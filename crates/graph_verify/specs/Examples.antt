@@ -26,7 +26,7 @@ node_to function policy input second output =
       out2 = None;
     }
 
--- Bitwise Not of an image; in this and the next definitions the numbers are the names of the
+-- Bitwise Not of an image; in this and the next four definitions the numbers are the names of the
 -- operands
 abbrev pub not_to : ℕ → ℕ → Node
 not_to input output = node_to NotBits Wrap input None output

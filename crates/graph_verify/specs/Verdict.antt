@@ -37,7 +37,8 @@ writes_twice n = has_twice (outputs n)
 abbrev pub reads_own_output : Node → Bool
 reads_own_output n = list_any (λ a. list_any (same_reference a) (outputs n)) (inputs n)
 
--- whether the function takes these input formats together with each output's format
+-- whether the function takes these input formats together with each output's format; false if the
+-- first input has no format
 abbrev pub takes_first : Function → Option Format → Option Format → List Operand → Bool
 takes_first function None second written = false
 takes_first function (Some first) second written = list_all (λ out. takes_formats function first second (operand_format out)) written

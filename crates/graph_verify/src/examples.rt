@@ -113,9 +113,9 @@ pub fn operands()
         }) ≡ None }
 {}
 
-/// Graphs that are refused for their links, formats or sizes, at least one for each verdict. A
-/// graph with the nodes of all these graphs is refused because an object has two writers. A graph
-/// without nodes can run.
+/// Graphs that are refused, at least one for each verdict except `NoResources`. A graph with the
+/// nodes of all these graphs is refused because an object has two writers. A graph without nodes
+/// can run.
 pub fn graphs()
     ensures writers { verdict 9 example_operand (not_to 1 2 ∷ not_to 3 2 ∷ [])
         ≡ Some MultipleWriters }

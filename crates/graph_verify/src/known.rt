@@ -193,9 +193,9 @@ pub fn known_operands(known: &[ResolvedOutput], linked: &Linked) -> Operands
     }
 }
 
-/// Returns the virtual images that the nodes write, resolved along `steps`, an order of the nodes.
-/// The first input of each node must be an image, and no object may have two writers. An error
-/// means that there is no memory for the result.
+/// Returns the virtual images that the nodes write, resolved node by node along `steps`. Each node
+/// must come after all nodes that feed it, and its first input must be an image, virtual or not. No
+/// object may have two writers. An error means that there is no memory for the result.
 pub fn known_after(alloc: Global, steps: &[Linked]) -> Result<Vec<ResolvedOutput>, AllocError>
     requires one_writer { two_writers (linked_nodes steps.now) ≡ false }
     requires in_turn { InTurn feeds (linked_nodes steps.now) }
@@ -227,7 +227,7 @@ pub fn all_described(
         .collect(alloc)
 }
 
-/// Returns the total size of the images' samples in bytes.
+/// Returns the total size in bytes of the samples of at most 512 images.
 pub fn sample_bytes(outputs: &[VirtualOutput]) -> u64
     requires { length outputs.now ≤ 512 }
     ensures { result ≡ sum_by (λ o. byte_count o.desc) outputs.now }

@@ -101,8 +101,8 @@ fn take_ready(rest: &mut Vec<Waiting<'_>>, index: usize) -> Linked
     ordered
 }
 
-/// Returns the nodes, each after all nodes that feed it, or `None` if there is a cycle. An error
-/// means that there is no memory for the result.
+/// Returns the nodes, each after all nodes that feed it, or `None` if there is a cycle. No object
+/// may have two writers. An error means that there is no memory for the result.
 pub fn put_in_order(alloc: Global, nodes: &[Linked]) -> Result<Option<Vec<Linked>>, AllocError>
     requires { two_writers (linked_nodes nodes.now) ≡ false }
     ensures order { IfOk result (λ found.

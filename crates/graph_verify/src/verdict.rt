@@ -94,7 +94,8 @@ fn format_if_there(operand: Option<Operand>) -> Option<Format>
     operand?.format()
 }
 
-/// Returns whether the function takes the input formats together with each output's format.
+/// Returns whether the function takes the input formats together with each output's format; false
+/// if the first input has no format.
 fn takes_operands(function: Function, operands: &Operands) -> bool
     ensures { result ≡ takes_operands function operands.now }
 {
@@ -129,8 +130,8 @@ fn has_size_of(operand: Operand, size: Desc) -> bool
     }
 }
 
-/// Returns whether an operand has the size of the first input. An operand that is absent, virtual
-/// or not an image is accepted.
+/// Returns whether an operand has the size of the first input, in the sense of `are_of_one_size`.
+/// An absent operand is accepted.
 fn fits(first: Operand, other: Option<Operand>) -> bool
     ensures { result ≡ list_all (are_of_one_size first) (option_to_list other) }
 {

@@ -156,8 +156,8 @@ fn numbers_of(alloc: Global, linked: &[Linked]) -> Result<Vec<u32>, AllocError>
     Ok(numbers)
 }
 
-/// Verifies a graph in which no object has two writers. `steps` has the same nodes, each after all
-/// nodes that feed it.
+/// Verifies a graph as `verify` does. No object may have two writers. `steps` must be `nodes` in an
+/// order in which each node comes after all nodes that feed it.
 fn verify_ordered(
     alloc: Global,
     nodes: &[Linked],
@@ -194,9 +194,9 @@ fn verify_ordered(
 }
 
 /// Verifies a graph of at most 256 nodes. `nodes` has the nodes with their operands, in the order
-/// in which they were added. The first input of each node must be an image. `work` is the greatest
-/// number of bytes that the virtual images may take. `Refused` if the graph can't run, `NoMemory`
-/// if there is no memory for the result.
+/// in which they were added. The first input of each node must be an image, virtual or not. `work`
+/// is the greatest number of bytes that the virtual images may take. `Refused` if the graph can't
+/// run, `NoMemory` if there is no memory for the result.
 pub fn verify(alloc: Global, nodes: &[Linked], work: u64) -> Result<Verified, VerifyFault>
     requires count { length nodes.now ≤ GREATEST_NODES }
     requires images { All (λ l. IsTrue (is_image l.operands.in1)) nodes.now }

@@ -18,8 +18,8 @@ abbrev pub SecondHasSize : ImageValue → Option ObjectValue → Type 0
 SecondHasSize a (Some (ImageObject b)) = HaveSameSize b a
 SecondHasSize a other = ⊤
 
--- The function takes the operands' formats. The output has the first input's size, and so does a
--- second input that is an image.
+-- The function takes the formats of the inputs and of the output. The output has the first input's
+-- size, and so does a second input that is an image.
 pub record Fits (function : Function) (a : ImageValue) (second : Option ObjectValue) (out : ImageMut) : Type 0 where
   pub target : IsTarget out
   pub size : HaveSameSize (target_image out) a

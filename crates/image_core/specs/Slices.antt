@@ -1,4 +1,4 @@
--- The samples in a slice of an image.
+-- The format and the samples of a `Slice`.
 use Rattle.std.specs.Prelude.{ℕ, ℤ, pos, List, map}
 use Rattle.vx_base.specs.declared.format.Format.{Format}
 use Rattle.vx_base.specs.declared.format.Format.TheVariants as format

@@ -9,7 +9,7 @@ use Rattle.image_core.specs.Bands.{IsInRows, rows_in}
 abbrev pub target_image : ImageMut → ImageValue
 target_image image = image_over image.desc image.valid (slice_of image.desc.format image.bytes.now image.shorts.now image.words.now)
 
--- an output with one sample for each pixel of its band
+-- an output whose band lies within the image, with one sample for each pixel of the band
 pub record IsTarget (image : ImageMut) : Type 0 where
   pub size : length (target_image image).samples ≡ image.rows.count * image.desc.width
   pub rows : IsInRows image.desc.height image.rows
@@ -21,7 +21,7 @@ pub record SameSlices (old new : ImageMut) : Type 0 where
   pub shorts : new.shorts.ghost_name ≡ old.shorts.ghost_name
   pub words : new.words.ghost_name ≡ old.words.ghost_name
 
--- the output becomes this image, cut to the output's band; the band and the slices are as before
+-- the output becomes this image, cut to the output's band, and keeps its band and its slices
 pub record Writes (image : ImageValue) (old new : ImageMut) : Type 0 where
   pub value : target_image new ≡ rows_in old.rows image
   pub target : IsTarget new

@@ -50,8 +50,8 @@ impl<'a> Image<'a> {
     }
 
     /// Returns the image over the samples of a band, one for each of the band's pixels. The
-    /// description and the valid rectangle are those of the whole image. All samples outside the
-    /// band count as 0.
+    /// description and the valid rectangle are those of the whole image. The samples outside the
+    /// valid rectangle must be 0. All samples outside the band count as 0.
     pub fn of_rows<T: Sample>(desc: Desc, valid: Rect, rows: Band, samples: &'a [T]) -> Image<'a>
         requires format { desc.format ≡ T.format }
         requires rows { IsInRows desc.height rows }

@@ -30,8 +30,8 @@ impl<'a> ImageMut<'a> {
     ghost use Rattle.image_core.specs.Target.{target_image, IsTarget, SameSlices, Writes};
 
     /// Returns an output over these samples, one for each pixel, with an empty valid rectangle. The
-    /// clause `same_slice` ties the output's slice to the caller's. So the caller learns the
-    /// samples when the borrow ends.
+    /// clause `same_slice` tells the prover that the output's slice is `samples`. So the prover
+    /// knows the contents of `samples` when the borrow ends.
     pub fn new<T: Sample>(desc: Desc, samples: &'a mut [T]) -> ImageMut<'a>
         requires format { desc.format ≡ T.format }
         requires size { length samples.old ≡ sample_count desc }
@@ -81,7 +81,7 @@ impl<'a> ImageMut<'a> {
         self.rows
     }
 
-    /// Sets the valid rectangle, which has to lie within the image. The samples stay as they are.
+    /// Sets the valid rectangle, which must lie within the image. The samples stay as they are.
     pub fn set_valid(&mut self, valid: Rect)
         requires target { IsTarget self.old }
         requires room { IsWithin valid (target_image self.old).width
@@ -160,8 +160,9 @@ impl<'a> ImageMut<'a> {
         T::apply(self, &Written { formula }, scratch);
     }
 
-    /// Writes a U32 output, row after row. Only the rows of the output's band are written. The area
-    /// of `whole` becomes the valid rectangle.
+    /// Writes the samples of `whole` inside its area, and 0 elsewhere. The output must be U32, and
+    /// as wide and as high as `whole`. Only the rows of the output's band are written. The area
+    /// becomes the valid rectangle.
     pub fn write_whole<W: Whole>(&mut self, whole: &W)
         requires target { IsTarget self.old }
         requires format { (target_image self.old).format ≡ U32 }

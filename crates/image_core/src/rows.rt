@@ -43,8 +43,8 @@ fn change_row<T: Number, S, C: RowChange<T, S>>(
     }
 }
 
-/// Changes the samples of a band within the change's area, and sets the band's other samples to 0.
-/// `samples` has the band's rows alone, in row-major order.
+/// Changes a band's samples within the change's area, and sets the band's other samples to 0.
+/// `samples` must have exactly the band's rows, in row-major order.
 pub fn change_rows<T: Number, S, C: RowChange<T, S>>(
     change: &C,
     width: u16,
@@ -72,8 +72,8 @@ pub fn change_rows<T: Number, S, C: RowChange<T, S>>(
     }
 }
 
-/// Sets the samples of a band outside the valid rectangle to 0. `samples` has the band's rows
-/// alone, in row-major order.
+/// Sets a band's samples outside the valid rectangle to 0. `samples` must have exactly the band's
+/// rows, in row-major order.
 pub fn clear_rows<T: Number>(valid: Rect, width: u16, rows: Band, samples: &mut [T])
     requires rows { rows.start + rows.count < 2 ^ 16 }
     requires size { length samples.old ≡ rows.count * width }

@@ -25,23 +25,23 @@ pub trait Sample: Number {
     /// The format of images whose samples have this type.
     ghost format: { Format };
 
-    /// Wraps the samples of an image in the slice of their format.
+    /// Wraps samples of this type in a `Slice` of their format.
     fn lend(samples: &[Self]) -> Slice<'_>
         ensures format { slice_format result ≡ format }
         ensures value { slice_values result ≡ map Self.value samples.now };
 
-    /// Unwraps the samples from the slice of their format.
+    /// Unwraps the samples from a `Slice`, which must have this type's format.
     fn lent(samples: Slice<'_>) -> &[Self]
         requires { slice_format samples ≡ format }
         ensures { map Self.value result.now ≡ slice_values samples.entry };
 
-    /// Returns `count` samples that are 0; `count` is at most the greatest width of an image.
+    /// Returns `count` samples that are 0. `count` must be at most the greatest width of an image.
     fn zeros<'a>(count: usize) -> &'a [Self]
         requires { count ≤ GREATEST_SIDE }
         ensures { map Self.value result.now ≡ replicate count (pos 0) };
 
-    /// An output image has a slice for each sample type. This is the ghost name of the slice for
-    /// this type.
+    /// The ghost name of an output's slice for this sample type. An output has one slice for each
+    /// sample type.
     ghost slice_name: { ImageMut → ℕ };
 
     /// Returns the output over the samples of a band, as `ImageMut::of_rows` does.
@@ -55,8 +55,8 @@ pub trait Sample: Number {
             (map Self.value samples.old) }
         ensures same_slice { slice_name result ≡ samples.entry.ghost_name };
 
-    /// Applies the change to the samples of an output's band within the change's area, and sets the
-    /// band's other samples to 0.
+    /// Applies the change to an output's samples within the change's area, and sets the output's
+    /// other samples to 0.
     fn apply<S, C: RowChange<Self, S>>(output: &mut ImageMut<'_>, change: &C, scratch: &mut [S])
         requires target { IsTarget output.old }
         requires format { (target_image output.old).format ≡ format }

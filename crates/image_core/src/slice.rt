@@ -1,6 +1,7 @@
 //! Slices of samples.
 
-/// The samples of an image in row-major order, as a slice of its format's number type.
+/// The samples of an image or of a band of its rows, in row-major order and in the number type of
+/// the image's format.
 #[derive(Clone, Copy)]
 pub enum Slice<'a> {
     U8(&'a [u8]),

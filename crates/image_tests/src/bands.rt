@@ -1,5 +1,5 @@
-//! Bands of rows. Calls of a function on the bands of an image, in any order, give the same result
-//! as one call on the whole image.
+//! Bands of rows. For a band, a function writes the band's rows of the whole image's result. A
+//! band's histogram is added to given counts; its extremes are merged into those of the rows above.
 ghost use Rattle.std.specs.Prelude.{◌+◌, ◌^◌, ◌<◌, ◌≤◌};
 
 use crate::images::lend;

@@ -14,7 +14,7 @@ use pixel_kernels::{bit_and, bit_xor};
 use std::test::Fail;
 use vx_base::{Desc, Format, Rect};
 
-/// Sets the samples outside the rectangle to 0.
+/// Sets an image's samples outside the rectangle `valid` to 0.
 fn clear(desc: Desc, valid: Rect, samples: &mut [u8])
     requires format { desc.format ≡ U8 }
     requires size { length samples.old ≡ sample_count desc }
@@ -100,8 +100,8 @@ fn valid_where_both_are(rt: HostRuntime) -> Result<(), Fail> {
     Ok(())
 }
 
-/// Returns the And of two 4 by 1 images of 255, and its valid rectangle. One image is valid in its
-/// left half, the other in its right half.
+/// Returns the And of two 4 by 1 images, and its valid rectangle. One image is valid in its left
+/// half, the other in its right half. The valid samples of both images are 255.
 fn and_of_halves() -> Option<([u8; 4], Rect)> {
     let desc = Desc::new(4, 1, Format::U8)?;
     let (mut first, mut second, mut output) = ([255; 4], [255; 4], [77; 4]);

@@ -10,7 +10,7 @@
 //! - `kernels`: windows and statistics of whole images, and the text of an image
 //! - `texts`: PGM texts
 //! - `statistics`: extremes, counts and running sums of rows, at lengths around that of a block
-//! - `wide`: rows that are wider than the pieces in which convolution computes them
+//! - `wide`: rows of more than 1,024 columns, which convolution computes in pieces
 //! - `windows`: kernels of windows, at lengths and widths around the length of a block
 #![tactic(auto)]
 

@@ -20,7 +20,7 @@ const BYTES: [u8; 8] = [0, 255, 1, 254, 128, 127, 3, 77];
 /// The extremes of S16 and numbers between them.
 const SHORTS: [i16; 8] = [0, 32_767, -32_768, -1, 1, 255, -3, 100];
 
-/// The extremes of 32 bits and numbers between them.
+/// The extremes of `i32` and numbers between them.
 const NUMBERS: [i32; 8] = [0, -1, 7, -9, 2_040, -300_000, i32::MAX, i32::MIN];
 
 /// Returns 65 items: eight numbers over and over, in turn.
@@ -90,8 +90,8 @@ macro_rules! assert_pairs {
     };
 }
 
-/// Calls a kernel that adds a row of bytes to a row of sums, at each length. Compares each new sum
-/// with the formula of the byte and the old sum at its index.
+/// Calls a kernel that accumulates a row of bytes into a row of sums, at each length. Compares each
+/// new sum with the formula for the byte and the old sum at the same index.
 macro_rules! assert_sums {
     ($rt:expr;
         |$row:ident, $sums:ident| $call:expr;
@@ -115,8 +115,8 @@ macro_rules! assert_sums {
     };
 }
 
-/// Calls a kernel of two rows that narrows the formula's value, under each policy at each length.
-/// `wrapped` narrows the value under Wrap, and `nearest` under Saturate.
+/// Calls a kernel of two rows that narrows the formula's value, under each policy and at each
+/// length. `wrapped` narrows the value under Wrap, and `nearest` under Saturate.
 macro_rules! assert_narrowed {
     ($rt:expr, $numbers:expr, $blank:expr, $wrapped:ident, $nearest:ident;
         |$first:ident, $second:ident, $policy:ident, $out:ident| $call:expr;

@@ -1,4 +1,4 @@
-//! Rows that are wider than the pieces of 1,024 columns in which convolution computes them.
+//! Rows of more than 1,024 columns, which convolution computes in pieces of up to 1,024 columns.
 
 use crate::images::lend;
 use image_core::ImageMut;

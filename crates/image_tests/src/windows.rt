@@ -199,7 +199,8 @@ struct Case {
     border: Border,
 }
 
-/// Returns the sample that a window reads at a pixel of the case's image, under the case's border.
+/// Returns the sample that a window reads at a pixel in or around the case's image, under the
+/// case's border.
 fn seen(case: &Case, x: i32, y: i32) -> u8 {
     let (first, last) = (i32::from(case.first), i32::from(case.width) - 1);
     let (column, row) = (
@@ -251,7 +252,8 @@ fn write_to_s16(function: Function, image: &Image<'_>, output: &mut ImageMut<'_>
     }
 }
 
-/// Returns the samples of the largest image; a smaller image uses the first of these samples.
+/// Returns the samples of the largest image. A smaller image takes its samples from the start of
+/// this array.
 fn samples() -> [u8; SAMPLES] {
     let mut samples = [0; SAMPLES];
     for (i, sample) in samples.iter_mut().enumerate() {

@@ -23,12 +23,12 @@ fit_as_bits w xs ps = subst (Each1 (FitsSigned w)) (sym (of_bits w xs ps)) ps
 pub ruleset read_bits = (of_bits, fit_as_bits)
 
 -- lanes equal to numbers that fit can be read back from their bits
-pub told : (w : Width) (xs ys : List ℤ) → xs ≡ ys → Each1 (FitsSigned w) ys → map (to_z w) (map (of_z w) xs) ≡ ys
-told w xs ys is fits = ap (λ l. map (to_z w) (map (of_z w) l)) is ∙ of_bits w ys fits
+pub bits_back : (w : Width) (xs ys : List ℤ) → xs ≡ ys → Each1 (FitsSigned w) ys → map (to_z w) (map (of_z w) xs) ≡ ys
+bits_back w xs ys is fits = ap (λ l. map (to_z w) (map (of_z w) l)) is ∙ of_bits w ys fits
 
 -- all items of a row, read back from their bits
 pub read_whole : (w : Width) (n : ℕ) (xs : List ℤ) → length xs ≡ n → Each1 (FitsSigned w) xs → (map (to_z w) (map (of_z w) (take n xs)) ≡ xs) × Each1 (FitsSigned w) (map (to_z w) (map (of_z w) (take n xs)))
-read_whole w n xs long fits = let is = told w (take n xs) xs (take_all n xs (omega (arith, long))) fits in (is, subst (Each1 (FitsSigned w)) (sym is) fits)
+read_whole w n xs long fits = let is = bits_back w (take n xs) xs (take_all n xs (omega (arith, long))) fits in (is, subst (Each1 (FitsSigned w)) (sym is) fits)
 
 -- ---- two lists, an item of each in turn
 

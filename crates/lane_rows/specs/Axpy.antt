@@ -1,4 +1,4 @@
--- Sums to which bytes times a coefficient are added.
+-- Sums to which products of a coefficient and a byte are added.
 use Rattle.std.specs.Prelude.{ℤ, ◌≤◌, ◌+ℤ◌, ◌*ℤ◌, unsigned_abs}
 
 -- a sum that stays within 32 bits when any byte times any S16 number is added. Each such product is

@@ -1,4 +1,4 @@
--- The choice from nine items, which compares two at a time. The median of nine items.
+-- The choice from nine items, compared two at a time. The median of nine items.
 
 -- the item chosen from three; `op` chooses one of two items, such as the smaller
 abbrev pub chosen_of_three : {A : Type 0} → (A → A → A) → A → A → A → A

@@ -6,11 +6,11 @@ use Rattle.lane_rows.specs.declared.nine_rows.Three.{Three}
 abbrev pub IsUpTo : ℕ → ℤ → Type 0
 IsUpTo limit z = (pos 0 ≤ℤ z) × (z ≤ℤ pos limit)
 
--- the number at an index of a row
+-- the number at an index of a row, or 0 after the row's end
 abbrev pub number_at : List ℤ → ℕ → ℤ
 number_at row i = slice_index_or row i (pos 0)
 
--- a kernel accepts each number of a row
+-- a kernel accepts each number of a row, and 0
 abbrev pub AreTaken : (ℤ → Type 0) → List ℤ → Type 0
 AreTaken takes row = (i : ℕ) → takes (number_at row i)
 

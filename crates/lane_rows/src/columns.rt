@@ -1,8 +1,10 @@
-//! Kernels of three rows for the separable windows of gradients: first down the columns of three
-//! rows of bytes, then across three columns.
+//! Kernels of three rows for the separable windows of gradients. One kernel computes a weighted sum
+//! or a difference for each column of three rows of bytes. Another then computes a gradient from
+//! three neighbouring columns.
 //!
-//! They are plain loops, which the compiler vectorizes for the processor. Blocks of 32 numbers of
-//! 16 bits in `std::simd` take 1.1 to 1.2 times as long on processors with registers of 16 bytes.
+//! The kernels are plain loops, which the compiler vectorizes for the processor. Blocks of 32
+//! numbers of 16 bits in `std::simd` take 1.1 to 1.2 times as long on processors with registers of
+//! 16 bytes.
 ghost use Rattle.std.specs.Prelude.{◌≡◌, ◌≤◌, ◌+ℤ◌, ◌-ℤ◌, ◌*ℤ◌, ℤ, pos, map, length, unsigned_abs};
 ghost use Rattle.vx_base.specs.Image.{run};
 ghost use Rattle.lane_rows.specs.Threes.{AreTaken, number_at};
@@ -39,7 +41,7 @@ impl Item for Change {
 }
 
 impl Change {
-    /// Returns the difference zero.
+    /// Returns a difference of 0.
     pub fn zero() -> Change {
         Change { change: 0 }
     }
@@ -99,7 +101,7 @@ impl OfColumn<Change, i16> for Weighted {
     }
 }
 
-/// The third of three numbers minus the first.
+/// The last of three numbers minus the first.
 #[derive(Drop)]
 pub struct Rise;
 

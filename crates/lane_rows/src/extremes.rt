@@ -78,7 +78,7 @@ pub fn max_u8(first: &[u8], second: &[u8], out: &mut [u8])
     zip_rows(&OfSamples(&Greater), first, second, out);
 }
 
-/// Writes the smaller item of each pair. Each row is U8 or S16.
+/// Writes the smaller item of each pair. Each input row is U8 or S16.
 pub fn min_s16<A: Short, B: Short>(first: &[A], second: &[B], out: &mut [i16])
     requires first_len { length first.now ≡ length out.old }
     requires second_len { length second.now ≡ length out.old }
@@ -87,7 +87,7 @@ pub fn min_s16<A: Short, B: Short>(first: &[A], second: &[B], out: &mut [i16])
     zip_rows(&OfSamples(&Smaller), first, second, out);
 }
 
-/// Writes the greater item of each pair. Each row is U8 or S16.
+/// Writes the greater item of each pair. Each input row is U8 or S16.
 pub fn max_s16<A: Short, B: Short>(first: &[A], second: &[B], out: &mut [i16])
     requires first_len { length first.now ≡ length out.old }
     requires second_len { length second.now ≡ length out.old }

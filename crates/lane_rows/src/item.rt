@@ -28,7 +28,7 @@ impl Item for i32 {
 
 /// An item type that converts to S16 without loss: `u8` or `i16`.
 pub trait Short: Item {
-    /// Returns the item's number as an S16 sample.
+    /// Returns the item's value as an S16 sample.
     fn short(self) -> i16
         ensures { result ≡ Self.value self };
 

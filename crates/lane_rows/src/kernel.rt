@@ -1,4 +1,4 @@
-//! The traits of kernels: the result for one item, and for a block of items in lanes.
+//! The traits of kernels. A kernel computes one item, or a block of items in lanes.
 ghost use Rattle.std.specs.Prelude.{◌≡◌, ℤ, map, length};
 ghost use Rattle.std.specs.Simd.Lanes.{zip2};
 

@@ -1,10 +1,11 @@
-//! Kernels over rows: functions of slices. The input rows of a call are as long as the output row.
-//! Only `MatrixRows` needs longer input rows. The length need not be a multiple of a block's
-//! length. The inputs come first, then the parameters, then the output.
+//! Kernels over rows: functions of slices. The input rows of a call must be as long as the output
+//! row; only `MatrixRows` needs longer input rows. The length need not be a multiple of a block's
+//! length. Arguments come in this order: the kernel (if any), the inputs, the parameters, the
+//! output.
 //!
 //! Most kernels compute each output item from the input items at its index. A kernel that updates a
 //! row also reads the output item that it replaces. Most kernels are small types that compute one
-//! item, and a block of items in lanes (`std::simd`). The functions in `rows` are proved once, for
+//! item, or a block of items in lanes (`std::simd`). The functions in `rows` are proved once, for
 //! all kernels of a trait in `kernel`. These functions write every item of a row: first block by
 //! block, and then the remaining items one by one.
 //!
@@ -36,9 +37,9 @@
 //! output item. The function p narrows a number to the output's format by the policy. The items of
 //! three rows are x, y and z. A window has 3 x 3 samples. Times are in picoseconds per item, for
 //! rows of 1920 items in the cache, on x86-64-v2 (registers of 16 bytes) and x86-64-v3 (32 bytes).
-//! A block of 32 items takes two registers of bytes or four of S16 items on v2, and half as many on
-//! v3. A kernel that updates a row has blocks of 16 items. Kernels without a time were not measured
-//! on their own.
+//! On v2, a block of 32 bytes takes two registers, and a block of 32 S16 items takes four. On v3,
+//! they take half as many. A kernel that updates a row has blocks of 16 items. Kernels without a
+//! time were not measured on their own.
 //!
 //! | Kernel | Formula | Conditions | v2 | v3 |
 //! |---|---|---|---|---|
@@ -52,10 +53,10 @@
 //! | `absdiff_s16` | abs(a - b), at most 32,767 | U8 or S16 rows | 82 | 40 |
 //! | `min_u8`, `max_u8` | min(a, b), max(a, b) | | 31 | 16 |
 //! | `min_s16`, `max_s16` | min(a, b), max(a, b) | U8 or S16 rows | 61 | 38 |
-//! | `threshold_u8` | by a limit; by a range | a rule of U8 | 29; 51 | 19; 29 |
-//! | `threshold_s16` | by a limit; by a range | a rule of S16 | 50; 86 | 38; 56 |
+//! | `threshold_u8` | by a limit; by a range | a rule for U8 | 29; 51 | 19; 29 |
+//! | `threshold_s16` | by a limit; by a range | a rule for S16 | 50; 86 | 38; 56 |
 //! | `widen`, `shift_up` | a, a * 2^n | n up to 7 | 46 | 23 |
-//! | `narrow` | a / 2^n, rounded down, wraps; saturates | n up to 7 | 52; 39 | 29; 24 |
+//! | `narrow` | p(a / 2^n), rounded down: by Wrap; by Saturate | n up to 7 | 52; 39 | 29; 24 |
 //! | `scale_u8`, `scale_s16` | a / 2^n, rounded toward zero, clamped | S32 rows, n up to 31 | | |
 //! | `accumulate` | c + a, at most 32,767 | updates S16 | 90 | 44 |
 //! | `accumulate_square` | c + a * a / 2^n, rounded down, at most 32,767 | n up to 15 | 122 | 62 |

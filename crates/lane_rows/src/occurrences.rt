@@ -41,8 +41,8 @@ fn without<T: Compared>(row: &[T], item: T) -> usize
     32 * blocks
 }
 
-/// Returns the index of the first occurrence of `item`. The caller has to pass an item that occurs
-/// in the row.
+/// Returns the index of the first occurrence of `item`. The caller must pass an item that occurs in
+/// the row.
 pub fn first_of<T: Compared>(row: &[T], item: T) -> usize
     requires { 0 < count_of (T.value item) (map T.value row.now) }
     ensures below { result < length row.now }

@@ -1,8 +1,9 @@
 //! Sums of samples times coefficients modulo 2^32, by the processor's multiply-and-add instruction.
 //!
-//! The instruction multiplies 16 numbers by 16 others and adds the two products of each pair of
-//! neighbours. With two alternating coefficients, it gives the sums at every second index. A second
-//! instruction, one index further on, gives the sums at the indices in between.
+//! In registers of 32 bytes, the instruction multiplies 16 numbers by 16 others and adds the two
+//! products of each pair of neighbours. With two alternating coefficients, it gives the sums at
+//! every second index. A second instruction, one index further on, gives the sums at the indices in
+//! between.
 ghost use Rattle.std.specs.Prelude.{◌≡◌, ◌+◌, ◌*◌, ◌≤◌, ℤ, length, FitsSigned};
 ghost use Rattle.std.specs.Int.{w16, w32, int_wrap};
 ghost use Rattle.std.specs.Simd.Lanes.{chunk, Each1};

@@ -82,7 +82,7 @@ pub fn mul_u8(first: &[u8], second: &[u8], amount: u8, policy: Policy, out: &mut
 }
 
 /// Writes the product of each pair of items, divided by 2^amount, rounded toward zero and narrowed
-/// by the policy. Each row is U8 or S16.
+/// by the policy. Each input row is U8 or S16.
 pub fn mul_s16<A: Short, B: Short>(
     first: &[A],
     second: &[B],

@@ -1,4 +1,4 @@
-//! Divides numbers by a power of two, rounded toward zero and clamped.
+//! Numbers divided by a power of two, rounded toward zero and clamped.
 #![tactic(auto, using(crate::proofs::ShortLaws::fit_as_bits))]
 
 ghost use Rattle.std.specs.Prelude.{◌≡◌, ◌≤◌, ◌^◌, ℤ, pos, int_div, map, length, FitsSigned};

@@ -78,7 +78,7 @@ impl<P: Overflow> Arithmetic for Difference<P> {
     }
 }
 
-/// Writes the sums of the items, narrowed by the policy.
+/// Writes the sum of each pair of items, narrowed by the policy.
 pub fn add_u8(first: &[u8], second: &[u8], policy: Policy, out: &mut [u8])
     requires first_len { length first.now ≡ length out.old }
     requires second_len { length second.now ≡ length out.old }
@@ -89,7 +89,7 @@ pub fn add_u8(first: &[u8], second: &[u8], policy: Policy, out: &mut [u8])
     })
 }
 
-/// Writes the sums of the items, narrowed by the policy. Each row is U8 or S16.
+/// Writes the sum of each pair of items, narrowed by the policy. Each input row is U8 or S16.
 pub fn add_s16<A: Short, B: Short>(first: &[A], second: &[B], policy: Policy, out: &mut [i16])
     requires first_len { length first.now ≡ length out.old }
     requires second_len { length second.now ≡ length out.old }
@@ -113,7 +113,7 @@ pub fn sub_u8(first: &[u8], second: &[u8], policy: Policy, out: &mut [u8])
 }
 
 /// Writes the items of the first row minus the items of the second, narrowed by the policy. Each
-/// row is U8 or S16.
+/// input row is U8 or S16.
 pub fn sub_s16<A: Short, B: Short>(first: &[A], second: &[B], policy: Policy, out: &mut [i16])
     requires first_len { length first.now ≡ length out.old }
     requires second_len { length second.now ≡ length out.old }

@@ -1,5 +1,5 @@
-//! Sums and means of three rows of non-negative numbers, for separable windows: first down the
-//! columns of three rows of samples, then across three of these sums.
+//! Sums and means of three rows of non-negative numbers, for separable windows: first a sum for
+//! each column of three rows of samples, then a mean from three neighbouring sums.
 ghost use Rattle.std.specs.Prelude.{◌≡◌, ◌+◌, ◌≤◌, ◌+ℤ◌, ◌*ℤ◌, ℕ, ℤ, pos, map, length};
 ghost use Rattle.std.specs.Prelude.{nat_le, true, refl};
 ghost use Rattle.std.specs.Int.{int_div_euclid};
@@ -232,8 +232,7 @@ impl OfThree<u8> for Sixteenth {
     ghost small = { refl };
 }
 
-/// Writes the sum of the three numbers at each index. The caller has to pass numbers from 0 to
-/// 8,191.
+/// Writes the sum of the three numbers at each index. The caller must pass numbers from 0 to 8,191.
 pub fn sum3<A: Addend>(first: &[A], second: &[A], third: &[A], out: &mut [i16])
     requires first_len { length first.now ≡ length out.old }
     requires second_len { length second.now ≡ length out.old }
@@ -247,7 +246,7 @@ pub fn sum3<A: Addend>(first: &[A], second: &[A], third: &[A], out: &mut [i16])
     SumOfThree::write(first, second, third, out);
 }
 
-/// Writes the sum of the three numbers at each index, with weights 1, 2, 1. The caller has to pass
+/// Writes the sum of the three numbers at each index, with weights 1, 2, 1. The caller must pass
 /// numbers from 0 to 8,191.
 pub fn weighted3<A: Addend>(first: &[A], second: &[A], third: &[A], out: &mut [i16])
     requires first_len { length first.now ≡ length out.old }

@@ -21,7 +21,7 @@ pub trait Tested: Short {
     /// The format of the samples.
     ghost format: { Format };
 
-    /// Returns the item with the value `number`. The caller has to pass a sample of the format.
+    /// Returns the item with the value `number`. The caller must pass a sample of the format.
     fn from_short(number: i16) -> Self
         requires { IsTrue (is_sample format number) }
         ensures { Self.value result ≡ number };
@@ -173,7 +173,7 @@ impl<A: Tested> LanesOfItem<A, u8> for Between<A> {
 }
 
 /// Writes the rule's true value where an item passes, and the rule's false value elsewhere. The
-/// caller has to pass a rule for items of type `A`.
+/// rule must be for items of type `A`.
 fn write_tested<A: Tested>(row: &[A], rule: ThresholdRule, out: &mut [u8])
     requires len { length row.now ≡ length out.old }
     requires format { rule.format ≡ A.format }
@@ -202,7 +202,7 @@ fn write_tested<A: Tested>(row: &[A], rule: ThresholdRule, out: &mut [u8])
 }
 
 /// Writes the rule's true value where an item passes, and the rule's false value elsewhere. The
-/// caller has to pass a rule for U8 samples.
+/// rule must be for U8 samples.
 pub fn threshold_u8(row: &[u8], rule: ThresholdRule, out: &mut [u8])
     requires len { length row.now ≡ length out.old }
     requires format { rule.format ≡ U8 }
@@ -212,7 +212,7 @@ pub fn threshold_u8(row: &[u8], rule: ThresholdRule, out: &mut [u8])
 }
 
 /// Writes the rule's true value where an item passes, and the rule's false value elsewhere. The
-/// caller has to pass a rule for S16 samples.
+/// rule must be for S16 samples.
 pub fn threshold_s16(row: &[i16], rule: ThresholdRule, out: &mut [u8])
     requires len { length row.now ≡ length out.old }
     requires format { rule.format ≡ S16 }

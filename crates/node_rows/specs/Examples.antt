@@ -44,6 +44,6 @@ example_node function =
       out2 = None;
     }
 
--- the output samples of a node of the function for an image and a second operand, if there is one
+-- the output samples of the function's example node, given an image and an optional second operand
 abbrev pub node_samples : Function → Format → ImageValue → Option ObjectValue → List ℤ
 node_samples function format image second = (node_image (example_node function) First format image second).samples

@@ -11,10 +11,10 @@ matrix_in (Some (ConvolutionObject matrix)) = Some matrix
 matrix_in other = None
 
 -- a function's vertical radius r: for each output row, the function reads the same row of its first
--- input, r rows above it and r rows below it. With a matrix, the radius is half the number of
--- matrix rows, rounded down. Otherwise it is 1 for a 3x3 window, and 0 for a pixel-wise function.
--- In a second image or an accumulator, the function reads only the same row. The result is None if
--- the function reads all rows or writes no image.
+-- input, r rows above it and r rows below it. In a second image or an accumulator, the function
+-- reads only the same row. With a matrix, the radius is half the number of matrix rows, rounded
+-- down. Without a matrix, the result is 1 for a 3x3 window, 0 for a pixel-wise function, and None
+-- for a function that writes no image. It is also None for Integral, which reads all rows above.
 abbrev pub window_radius : Function → Option ConvolutionValue → Option ℕ
 window_radius function (Some matrix) = Some (matrix.rows / 2)
 window_radius Box None = Some 1

@@ -7,10 +7,10 @@ use vx_base::{Convolution, Function};
 
 /// Returns a function's vertical radius (OpenVX 1.3, "Vision Functions"). For each output row, a
 /// function of radius r reads the same row of its first input, r rows above it and r rows below it.
-/// With a matrix, the radius is half the number of matrix rows, rounded down. Otherwise the radius
-/// is 1 for a 3x3 window, and 0 for a pixel-wise function. In a second image or an accumulator, the
-/// function reads only the same row. Returns `None` if the function reads all rows, as for an
-/// integral image, or writes no image.
+/// In a second image or an accumulator, the function reads only the same row. With a matrix, the
+/// radius is half the number of matrix rows, rounded down. Without a matrix, the result is 1 for a
+/// 3x3 window, 0 for a pixel-wise function, and `None` for a function that writes no image. It is
+/// also `None` for Integral, which reads all rows above.
 pub fn window_radius(function: Function, matrix: Option<&Convolution>) -> Option<u16>
     ensures { result ≡ window_radius function (option_copied matrix.entry) }
 {

@@ -1,7 +1,7 @@
 -- The skeletons of objects determine how many blocks they occupy.
 use Rattle.std.proofs.Common.{◌≡◌, ℕ, ◌+◌, List, [], ◌∷◌, ◌++◌, map, refl, sym, ap, ◌∙◌, sum}
 use Rattle.object_table.proofs.Common.{sum_by_push, Format, ImageValue, ObjectValue, DelayObject, image_blocks, object_blocks, blocks_in, NamedObject, image_skeleton, skeleton, sum_map, KeepsBlocks, sum-map}
-use Rattle.object_table.proofs.SkeletonLaws.{map-told}
+use Rattle.object_table.proofs.SkeletonLaws.{map-determined}
 
 -- ---- of one object
 
@@ -21,7 +21,7 @@ keeps_blocks new old same format =
     let of_named : NamedObject → ℕ = λ o. object_blocks o.object format in
     let of_object : ObjectValue → ℕ = λ object. object_blocks object format in
     sym (sum-map of_named new)
-    ∙ ap sum (map-told (λ (o : NamedObject). skeleton o.object) of_named of_object (λ o. blocks_of_skeleton o.object format) new old same)
+    ∙ ap sum (map-determined (λ (o : NamedObject). skeleton o.object) of_named of_object (λ o. blocks_of_skeleton o.object format) new old same)
     ∙ sum-map of_named old
 
 -- ---- when an object is added

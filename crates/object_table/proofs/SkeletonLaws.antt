@@ -7,17 +7,17 @@ use Rattle.object_table.proofs.SlotLemmas.{IsDelay-set}
 
 -- ---- functions that are determined by another
 
-module _ {X Y Z : Type 0} (f : X → Y) (g : X → Z) (h : Y → Z) (told : (x : X) → h (f x) ≡ g x) where
+module _ {X Y Z : Type 0} (f : X → Y) (g : X → Z) (h : Y → Z) (determined : (x : X) → h (f x) ≡ g x) where
   -- lists that agree under f agree under g, if f determines g
-  pub map-told : (xs ys : List X) → map f xs ≡ map f ys → map g xs ≡ map g ys
-  map-told xs ys same = sym (through xs) ∙ ap (map h) same ∙ through ys
+  pub map-determined : (xs ys : List X) → map f xs ≡ map f ys → map g xs ≡ map g ys
+  map-determined xs ys same = sym (through xs) ∙ ap (map h) same ∙ through ys
     where
       through : (l : List X) → map h (map f l) ≡ map g l
-      through l = map-map h f l ∙ ap (λ k. map k l) (fun_ext told)
+      through l = map-map h f l ∙ ap (λ k. map k l) (fun_ext determined)
 
   -- and of what may be there
-  pub option_map-told : (one other : Option X) → option_map f one ≡ option_map f other → option_map g one ≡ option_map g other
-  option_map-told one other same = grind (arith, told)
+  pub option_map-determined : (one other : Option X) → option_map f one ≡ option_map f other → option_map g one ≡ option_map g other
+  option_map-determined one other same = grind (arith, determined)
 
 -- ---- what the skeleton determines
 
@@ -60,4 +60,4 @@ skeleton-with_slot slot new object same = grind (arith, skeletons-set)
 pub IsObject-with_slot : (slot : Option ℕ) (new object : ObjectValue) → option_map skeleton (in_slot slot object) ≡ Some (skeleton new) → IsObject new → IsObject object
     → IsObject (with_slot slot new object)
 IsObject-with_slot slot new object same is was =
-    grind (arith, IsDelay-set, map-told image_skeleton description_of description_of (λ _. refl), skeletons-set)
+    grind (arith, IsDelay-set, map-determined image_skeleton description_of description_of (λ _. refl), skeletons-set)

@@ -99,8 +99,8 @@ kept_entries entries = filter is_kept entries
 -- ---- the invariant of a table
 
 -- The invariant of a table. Names are distinct and below `next`, the next name. There are at most
--- 1,024 objects of bounded size, and each is held. The charge and the use counts are exact. Nodes
--- use only names below `next`.
+-- 1,024 objects. Each is held, and has a bounded number of bytes and of nodes. The charge and the
+-- use counts are exact. Nodes use only names below `next`.
 pub record IsTable (next charge : ℕ) (entries : List (ℕ × Entry)) : Type 0 where
   pub names : IsStrictlyIncreasing (map (λ e. e.0) entries)
   pub below : All (λ e. e.0 < next) entries

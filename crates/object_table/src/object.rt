@@ -130,8 +130,8 @@ impl Object {
         }
     }
 
-    /// Returns whether `image(slot)` may be called. With a slot, the object must be a delay that
-    /// has the slot. Without a slot, the object must be an image that isn't virtual.
+    /// Returns whether `image(slot)` may be called. With a slot: whether the object is a delay that
+    /// has the slot. Without a slot: whether the object is an image that isn't virtual.
     pub fn has_image(&self, slot: Option<u8>) -> bool
         ensures { IsTrue result ↔ HasImage slot self.now }
     {
@@ -155,8 +155,8 @@ impl Object {
         }
     }
 
-    /// Returns the image in a slot of the delay; without a slot, the object itself, which must then
-    /// be an image.
+    /// Returns the image in a slot of a delay; without a slot, the object itself as an image.
+    /// `has_image(slot)` must be true.
     pub fn image(&self, slot: Option<u8>) -> &Stored
         requires { HasImage slot self.now }
         ensures { result.now ≡ image_value (object_in slot self.now) }
@@ -251,7 +251,8 @@ impl Object {
         }
     }
 
-    /// Replaces the counts of a distribution, one for each bin. Allocates nothing.
+    /// Replaces the counts of a distribution. There must be one count for each bin. Allocates
+    /// nothing.
     pub fn set_counts(&mut self, counts: &[u32])
         requires kind { object_kind self.old ≡ kind.Distribution }
         requires size { length counts.now ≡ (distribution_value self.old).bins.bins }

@@ -313,7 +313,7 @@ impl Table {
         entry.object.age();
     }
 
-    /// Replaces the counts of the distribution under a name, one for each bin.
+    /// Replaces the counts of the distribution under a name. There must be one count for each bin.
     pub fn set_counts(&mut self, name: u32, counts: &[u32])
         requires kind { IsUnder self.old.objects kind.Distribution name }
         requires size { length counts.now

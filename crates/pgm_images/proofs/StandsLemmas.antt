@@ -246,3 +246,5 @@ memory_faults (Some taken) = header_faults taken.0 taken.1
 
 pub memory_faultless : (text : List ℕ) → fault text ≢ Some NoMemory
 memory_faultless text = memory_faults (take_header text)
+
+pub ruleset faults = (no_fault, memory_faultless)

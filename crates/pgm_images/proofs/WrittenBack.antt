@@ -4,7 +4,7 @@ use Rattle.pgm_images.proofs.Common.{ints, nat_tests, length-map, All-cons, All-
 use Rattle.std.proofs.lemmas.Fmt.{digits_decimal, digits_value-decimal, decimal_nonempty}
 use Rattle.pgm_images.proofs.DigitLemmas.{digits_model}
 use Rattle.pgm_images.proofs.SpacedLemmas.{value_is}
-use Rattle.pgm_images.proofs.StandsLemmas.{read_stands}
+use Rattle.pgm_images.proofs.StandsLemmas.{read_stands, stands_read}
 
 -- a number behind a whitespace byte
 spaced : (space n : ℕ) (digits : List ℕ) → is_space space ≡ true → all_ascii_digits digits ≡ true → 0 < length digits → digits_value 10 digits ≡ n → IsSpaced (space ∷ digits) n
@@ -71,3 +71,5 @@ read_back p is same =
       below = below;
       samples = sym back;
     })
+
+pub ruleset text_and_back = (stands_read, read_back)

@@ -43,7 +43,7 @@ take_numbers encoding text =
 abbrev pub take_header : List ℕ → BeginsWith HeaderValue
 take_header text = then_take (take_magic text) take_numbers
 
--- whether a PGM text with this maxval is accepted
+-- whether this maxval is accepted
 abbrev pub is_maxval : ℕ → Bool
 is_maxval n = nat_le 1 n && nat_le n 32767
 

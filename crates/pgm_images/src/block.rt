@@ -37,7 +37,8 @@ impl ShortNumbers {
     }
 
     /// Fills the block from the first 64 positions of a text and the four bytes after them. Returns
-    /// whether the text there is only whitespace and short numbers up to the maxval.
+    /// whether these positions have only whitespace and short numbers up to the maxval. Digits at
+    /// the front of the text aren't checked.
     fn look(&mut self, maxval: u8, text: &[u8]) -> bool
         requires { 68 ≤ length text.now }
         ensures { result ≡ true → FindNumbers maxval 64 self.new.numbers self.new.bytes text.now }
@@ -70,8 +71,7 @@ impl ShortNumbers {
     }
 
     /// Fills the block from the front of a text, and returns the mask of the positions where
-    /// numbers begin. A mask of 0 says nothing about the text: its numbers have to be read one by
-    /// one.
+    /// numbers begin. A mask of 0 says nothing about the text: its numbers must be read one by one.
     pub fn renew(&mut self, maxval: u16, text: &[u8]) -> u64
         ensures { 0 < result → IsBlock maxval self.new.numbers self.new.bytes result text.now }
     {

@@ -84,8 +84,8 @@ pub fn limits()
     ensures too_great { read_result (codes "P5 1 1 32768\n" ++ 0 ∷ 0 ∷ []) ≡ Err InvalidFormat }
 {}
 
-/// Too few samples, too many samples, and samples above the maxval. A sample above the maxval is
-/// reported only if the text has no other fault.
+/// Too few samples, too many samples, a comment that doesn't end, and samples above the maxval. A
+/// sample above the maxval is reported only if the text has no other fault.
 pub fn samples()
     ensures too_few { read_result (codes "P5 1 1 255\n") ≡ Err InvalidFormat }
     ensures too_many { read_result (codes "P5 1 1 255\n" ++ 10 ∷ 20 ∷ []) ≡ Err InvalidFormat }

@@ -73,7 +73,7 @@ pub fn take_header(text: &[u8]) -> Option<(Header, &[u8])>
 
 impl Header {
     /// Returns the description of a picture with this header. `InvalidDimension`: a side isn't 1 to
-    /// 8192. `InvalidFormat`: the maxval isn't 1 to 32767.
+    /// 8192. `InvalidFormat`: the sides are 1 to 8192, but the maxval isn't 1 to 32767.
     pub fn read_description(self) -> Result<Desc, PgmFault>
         ensures value { result ≡ header_description self.width self.height self.maxval }
         ensures allowed { IfOk result (λ d. IsTrue (is_maxval self.maxval)) }

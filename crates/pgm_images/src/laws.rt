@@ -23,7 +23,7 @@ pub fn reading_by_grammar()
 {}
 
 /// A text has no fault exactly if it encodes a picture. `NoMemory` is never the fault of a text.
-#[tactic(auto, using(crate::proofs::StandsLemmas::no_fault, crate::proofs::StandsLemmas::memory_faultless))]
+#[tactic(auto, using(crate::proofs::StandsLemmas::faults))]
 pub fn faults_by_grammar()
     ensures stands { (text : List ℕ) → fault text ≡ None → (p : PictureValue) × Encodes text p }
     ensures none { (text : List ℕ) (p : PictureValue) → Encodes text p → fault text ≡ None }
@@ -72,7 +72,7 @@ pub fn first_faults()
 
 /// The text that is written for a U8 picture encodes that picture. Reading the text returns the
 /// same picture.
-#[tactic(auto, using(crate::proofs::StandsLemmas::stands_read, crate::proofs::WrittenBack::read_back))]
+#[tactic(auto, using(crate::proofs::WrittenBack::text_and_back))]
 pub fn text_is_read_back()
     ensures stands { (p : PictureValue) → IsPicture p → p.description.format ≡ U8 →
         Encodes (pgm_text p) p }

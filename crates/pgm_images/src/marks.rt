@@ -1,4 +1,5 @@
-//! The tokens of a text, taken from its front: whitespace, comments and numbers.
+//! The tokens of a text, taken from its front: whitespace, comments and numbers. A number above
+//! 65535 is read as 65535.
 ghost use Rattle.std.specs.Prelude.{◌≡◌, ◌∷◌, IfSome, IfNone, None, Some, false, true, min, length};
 ghost use Rattle.std.specs.Prelude.{◌+◌, ◌*◌, ◌-◌, ◌%◌, nat_lt, if◌then◌else◌, ℕ, List};
 ghost use Rattle.std.specs.Char.{is_ascii_digit};
@@ -101,7 +102,7 @@ fn with_digit(number: u8, digit: u8, is_digit: bool) -> u8
 /// values:
 ///
 /// 1. the number
-/// 2. the length in bytes of the whitespace byte and the number, or 0 if no number begins here
+/// 2. the length in bytes of the whitespace byte and the number, or 0 if no number is read
 /// 3. whether this function can't read the bytes: the number has more than three digits or is above
 ///    the maxval, or the first byte is neither whitespace nor a digit
 ///

@@ -18,8 +18,9 @@ use vx_base::Samples;
 /// How many numbers are read one by one before a block is tried again.
 const SINGLES: usize = 16;
 
-/// Reads numbers one by one and writes them over the samples `from..to`. Returns whether a number
-/// is above the maxval, and the text after the numbers. `None`: the text has fewer numbers.
+/// Reads numbers one by one and writes them over the samples `from..to`. A number above the maxval
+/// is written as the maxval. Returns whether a number is above the maxval, and the text after the
+/// numbers. `None`: the text has fewer numbers.
 fn read_singly<'a, T: TextSample>(
     maxval: u16,
     text: &'a [u8],
@@ -50,8 +51,8 @@ fn read_singly<'a, T: TextSample>(
 }
 
 /// Reads one decimal number for each sample; only whitespace and comments may follow the last
-/// number. A number above the maxval is reported only once the whole text is read, and is written
-/// as the maxval.
+/// number. A number above the maxval is written as the maxval, and is reported only after the whole
+/// text is read.
 fn read_plain<T: TextSample>(maxval: u16, text: &[u8], samples: &mut [T]) -> Result<(), PgmFault>
     requires limit { maxval ≤ T.limit }
     requires maxval { maxval ≤ 32767 }
@@ -157,10 +158,10 @@ fn read_pairs<T: TextSample>(maxval: u16, bytes: &[u8], samples: &mut [T]) -> Re
 }
 
 /// Reads one number for each sample from the text after a header, and writes it over the sample.
-/// The maxval has to be 1 to 32767. The samples have to be U8 if the maxval is below 256, else S16.
+/// The maxval must be 1 to 32767. The samples must be U8 if the maxval is below 256, else S16.
 /// After a fault the samples may have any value. `InvalidFormat`: the text has fewer numbers, or
-/// doesn't end after the last one. `InvalidValue`: otherwise, a number is above the maxval. In a
-/// plain text, whitespace and comments may follow the last number.
+/// doesn't end after the last one. `InvalidValue`: a number is above the maxval, and there is no
+/// other fault. In a plain text, whitespace and comments may follow the last number.
 pub fn read_samples(header: Header, text: &[u8], samples: &mut Samples) -> Result<(), PgmFault>
     requires maxval { IsTrue (is_maxval header.maxval) }
     requires format { samples_format samples.old ≡ format_up_to header.maxval }

@@ -31,12 +31,12 @@ pub fn read_description(text: &[u8]) -> Result<Desc, PgmFault>
     header.read_description()
 }
 
-/// Writes the samples of a text over existing samples. The caller has to give a text with a valid
+/// Writes the samples of a text over existing samples. The caller must give a text with a valid
 /// header, and samples of the format and number that the header states. Allocates nothing.
 ///
 /// After a fault the samples may have any value. `InvalidFormat`: the header isn't followed by
-/// exactly the number of samples that it states. `InvalidValue`: otherwise, a sample is above the
-/// maxval.
+/// exactly the number of samples that it states. `InvalidValue`: a sample is above the maxval, and
+/// there is no other fault.
 pub fn read_into(text: &[u8], samples: &mut Samples) -> Result<(), PgmFault>
     requires { SamplesFitHeader text.now samples.old }
     ensures format { samples_format samples.new ≡ samples_format samples.old }
@@ -52,7 +52,7 @@ pub fn read_into(text: &[u8], samples: &mut Samples) -> Result<(), PgmFault>
 }
 
 /// Returns the picture that a PGM text encodes (Netpbm, pgm(5)). The text is P2 or P5. The samples
-/// are U8 if the maxval is below 256, else S16, and aren't rescaled.
+/// are U8 if the maxval is below 256, else S16. They aren't rescaled.
 ///
 /// The fault is the first of these:
 ///
@@ -63,7 +63,7 @@ pub fn read_into(text: &[u8], samples: &mut Samples) -> Result<(), PgmFault>
 /// 4. `InvalidValue`: a sample is above the maxval.
 ///
 /// `NoMemory`: the samples could not be allocated. Memory is allocated only for the samples, and
-/// only once the header is accepted.
+/// only after the header is accepted.
 #[tactic(auto, using(crate::proofs::StandsLemmas::stands_read))]
 pub fn read(alloc: Global, text: &[u8]) -> Result<Picture, PgmFault>
     ensures stands { IfOk result (λ picture. Encodes text.now picture) }

@@ -14,8 +14,7 @@ use image_core::{Image, ImageMut, RowUpdate};
 use lane_rows::{Accumulated, OfSum, Squared, update_row};
 use vx_base::Rect;
 
-/// The update of an image of sums from the samples of `image`, which has the same width and height.
-/// `kernel` computes each new sum in `area`.
+/// Adds `image` to an image of sums of the same size. `kernel` computes each new sum in `area`.
 #[derive(Drop)]
 struct Added<'a, 'b, K> {
     kernel: &'a K,
@@ -40,8 +39,8 @@ impl<K: OfSum<u8, i16>> RowUpdate<i16> for Added<'_, '_, K> {
     }
 }
 
-/// Updates an image of sums from an image of the same size, where both are valid. `kernel` computes
-/// each new sum. All other sums become 0.
+/// Updates an image of sums from an image of the same size. `kernel` computes the new sums where
+/// both images are valid. All other sums become 0.
 fn add_to_sums<K: OfSum<u8, i16>>(kernel: &K, image: &Image<'_>, sums: &mut ImageMut<'_>)
     requires target { IsTarget sums.old }
     requires size { HaveSameSize (target_image sums.old) image.now }

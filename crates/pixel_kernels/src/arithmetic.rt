@@ -18,8 +18,8 @@ use lane_rows::{
 };
 use vx_base::{Format, Policy};
 
-/// Writes the results of a lane kernel for two images to a third image of the same size. Either all
-/// images are U8, or the inputs are each U8 or S16 and the output is S16.
+/// Writes the results of a lane kernel for two images to a third image of the same size. All images
+/// must be U8, or the output must be S16 and each input U8 or S16.
 fn write_arithmetic<K: Arithmetic>(
     kernel: &K,
     first: &Image<'_>,
@@ -64,8 +64,8 @@ fn write_from_shorts<K: Arithmetic>(
     }
 }
 
-/// Writes the absolute differences of the samples (OpenVX 1.3, "Absolute Difference"). Differences
-/// above the format's greatest sample become this sample. All images are U8, or all S16.
+/// Writes the absolute differences of the samples (OpenVX 1.3, "Absolute Difference"). In S16,
+/// differences above 32,767 become 32,767. All images must be U8, or all S16.
 pub fn absolute_difference(first: &Image<'_>, second: &Image<'_>, output: &mut ImageMut<'_>)
     requires { Fits AbsoluteDifference first.now (Some (ImageObject second.now)) output.old }
     ensures { Writes (from_two (target_image output.old).format
@@ -75,7 +75,7 @@ pub fn absolute_difference(first: &Image<'_>, second: &Image<'_>, output: &mut I
     write_arithmetic(&Distance, first, second, output);
 }
 
-/// Writes the smaller of the two samples (OpenVX 1.3, "Min"); all images are U8, or all S16.
+/// Writes the smaller of the two samples (OpenVX 1.3, "Min"); all images must be U8, or all S16.
 pub fn minimum(first: &Image<'_>, second: &Image<'_>, output: &mut ImageMut<'_>)
     requires { Fits MinPixel first.now (Some (ImageObject second.now)) output.old }
     ensures { Writes (from_two (target_image output.old).format smaller first.now second.now)
@@ -84,7 +84,7 @@ pub fn minimum(first: &Image<'_>, second: &Image<'_>, output: &mut ImageMut<'_>)
     write_arithmetic(&Smaller, first, second, output);
 }
 
-/// Writes the greater of the two samples (OpenVX 1.3, "Max"); all images are U8, or all S16.
+/// Writes the greater of the two samples (OpenVX 1.3, "Max"); all images must be U8, or all S16.
 pub fn maximum(first: &Image<'_>, second: &Image<'_>, output: &mut ImageMut<'_>)
     requires { Fits MaxPixel first.now (Some (ImageObject second.now)) output.old }
     ensures { Writes (from_two (target_image output.old).format greater first.now second.now)
@@ -94,7 +94,7 @@ pub fn maximum(first: &Image<'_>, second: &Image<'_>, output: &mut ImageMut<'_>)
 }
 
 /// Writes the sums of the samples, narrowed by the policy (OpenVX 1.3, "Arithmetic Addition").
-/// Either all images are U8, or the inputs are each U8 or S16 and the output is S16.
+/// All images must be U8, or the output must be S16 and each input U8 or S16.
 pub fn add(first: &Image<'_>, second: &Image<'_>, output: &mut ImageMut<'_>, policy: Policy)
     requires { Fits Add first.now (Some (ImageObject second.now)) output.old }
     ensures { Writes (from_two (target_image output.old).format
@@ -107,8 +107,8 @@ pub fn add(first: &Image<'_>, second: &Image<'_>, output: &mut ImageMut<'_>, pol
 }
 
 /// Writes the first image's samples minus the second's, narrowed by the policy (OpenVX 1.3,
-/// "Arithmetic Subtraction"). Either all images are U8, or the inputs are each U8 or S16 and the
-/// output is S16.
+/// "Arithmetic Subtraction"). All images must be U8, or the output must be S16 and each input U8 or
+/// S16.
 pub fn subtract(first: &Image<'_>, second: &Image<'_>, output: &mut ImageMut<'_>, policy: Policy)
     requires { Fits Subtract first.now (Some (ImageObject second.now)) output.old }
     ensures { Writes (from_two (target_image output.old).format
@@ -122,8 +122,8 @@ pub fn subtract(first: &Image<'_>, second: &Image<'_>, output: &mut ImageMut<'_>
 }
 
 /// Writes the products of the samples, divided by 2^amount, rounded toward zero and narrowed by the
-/// policy (OpenVX 1.3, "Pixel-wise Multiplication"). Either all images are U8, or the inputs are
-/// each U8 or S16 and the output is S16.
+/// policy (OpenVX 1.3, "Pixel-wise Multiplication"). All images must be U8, or the output must be
+/// S16 and each input U8 or S16.
 pub fn multiply(
     first: &Image<'_>,
     second: &Image<'_>,

@@ -14,7 +14,7 @@ use crate::two::write_two;
 use image_core::{Image, ImageMut};
 use lane_rows::{And, Not, Or, Xor};
 
-/// Writes the bits that are set in both samples (OpenVX 1.3, "Bitwise AND"); all images are U8.
+/// Writes the bits that are set in both samples (OpenVX 1.3, "Bitwise AND"); all images must be U8.
 pub fn bit_and(first: &Image<'_>, second: &Image<'_>, output: &mut ImageMut<'_>)
     requires { Fits AndBits first.now (Some (ImageObject second.now)) output.old }
     ensures { Writes (from_two U8 and_bits first.now second.now) output.old output.new }
@@ -23,7 +23,7 @@ pub fn bit_and(first: &Image<'_>, second: &Image<'_>, output: &mut ImageMut<'_>)
 }
 
 /// Writes the bits that are set in one or both samples (OpenVX 1.3, "Bitwise INCLUSIVE OR"); all
-/// images are U8.
+/// images must be U8.
 pub fn bit_or(first: &Image<'_>, second: &Image<'_>, output: &mut ImageMut<'_>)
     requires { Fits OrBits first.now (Some (ImageObject second.now)) output.old }
     ensures { Writes (from_two U8 or_bits first.now second.now) output.old output.new }
@@ -32,7 +32,7 @@ pub fn bit_or(first: &Image<'_>, second: &Image<'_>, output: &mut ImageMut<'_>)
 }
 
 /// Writes the bits that are set in exactly one of the samples (OpenVX 1.3, "Bitwise EXCLUSIVE OR");
-/// all images are U8.
+/// all images must be U8.
 pub fn bit_xor(first: &Image<'_>, second: &Image<'_>, output: &mut ImageMut<'_>)
     requires { Fits XorBits first.now (Some (ImageObject second.now)) output.old }
     ensures { Writes (from_two U8 xor_bits first.now second.now) output.old output.new }
@@ -41,7 +41,7 @@ pub fn bit_xor(first: &Image<'_>, second: &Image<'_>, output: &mut ImageMut<'_>)
 }
 
 /// Writes the samples with each of the eight bits inverted (OpenVX 1.3, "Bitwise NOT"); both images
-/// are U8.
+/// must be U8.
 pub fn bit_not(image: &Image<'_>, output: &mut ImageMut<'_>)
     requires { Fits NotBits image.now None output.old }
     ensures { Writes (from_one U8 not_bits image.now) output.old output.new }

@@ -1,10 +1,10 @@
-//! Samples of images as items of lane rows.
+//! Number types for image samples and row items.
 ghost use Rattle.std.specs.Prelude.{◌≡◌, refl};
 
 use image_core::Sample;
 use lane_rows::Item;
 
-/// A sample of an image that is also an item of a lane row.
+/// A number type for both image samples and row items: `u8` or `i16`.
 pub trait Pixel: Sample + Item {
     /// The value as an item equals the value as a sample.
     ghost same: { Self.Item.value ≡ Self.Number.value };

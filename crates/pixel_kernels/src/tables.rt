@@ -55,7 +55,7 @@ impl LanesOfItem<i16, i16> for ShortTable<'_> {
     }
 }
 
-/// Writes the table's entries for the samples (OpenVX 1.3, "TableLookup"); the images have the
+/// Writes the table's entries for the samples (OpenVX 1.3, "TableLookup"); the images must have the
 /// table's format, U8 or S16.
 pub fn lookup(image: &Image<'_>, output: &mut ImageMut<'_>, lut: &Lut)
     requires { Fits TableLookup image.now (Some (LutObject lut.now)) output.old }

@@ -13,8 +13,8 @@ use image_core::{Image, ImageMut};
 use lane_rows::{Above, Between, Tested};
 use vx_base::{Format, ThresholdKind, ThresholdRule};
 
-/// Writes the rule's true value where a sample passes the rule's test, and the rule's false value
-/// elsewhere. The input's samples are of type `A`.
+/// Writes the rule's true value where a valid sample passes the rule's test, and the false value
+/// where it doesn't. The input and the rule must have the format of `A`; the output must be U8.
 fn write_threshold<A: Pixel + Tested>(
     image: &Image<'_>,
     output: &mut ImageMut<'_>,
@@ -49,9 +49,9 @@ fn write_threshold<A: Pixel + Tested>(
     }
 }
 
-/// Writes the rule's true value where a sample passes the rule's test, and the rule's false value
-/// elsewhere (OpenVX 1.3, "Thresholding"). The input has the rule's format, U8 or S16; the output
-/// is U8.
+/// Writes the rule's true value where a valid sample passes the rule's test, and the false value
+/// where it doesn't (OpenVX 1.3, "Thresholding"). The input must have the rule's format, U8 or S16;
+/// the output must be U8.
 pub fn threshold(image: &Image<'_>, output: &mut ImageMut<'_>, rule: ThresholdRule)
     requires { Fits Threshold image.now (Some (ThresholdObject rule)) output.old }
     ensures { Writes (from_one U8 (threshold_result rule) image.now) output.old output.new }

@@ -31,7 +31,7 @@ free_of p U32 = p.u32s.free
 abbrev pub blocks_of : Pool → Format → ℕ
 blocks_of p format = lent_of p format + free_count (free_of p format)
 
--- 1 if the formats are equal, else 0; the sum over blocks is the number of blocks of a format
+-- 1 if the formats are equal, else 0. Summed over blocks, this is the number of blocks of a format
 abbrev pub one_of : Format → Format → ℕ
 one_of format other = if same_format format other then 1 else 0
 

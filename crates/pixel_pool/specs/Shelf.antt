@@ -1,4 +1,4 @@
--- The view of a `Shelf`, the blocks of one format, and the links between its free blocks.
+-- The view of a `Shelf` (the blocks of one format), and the links between its free blocks.
 use Rattle.std.specs.Prelude.{◌≡◌, ◌≤◌, ◌<◌, ℕ, ◌+◌, List, length, map, Some, IsSomeAnd, slice_index_or, vec_capacity}
 use Rattle.slab.specs.Slab.{Slab, get, slab_len}
 use Rattle.pixel_pool.specs.Classes.{class_capacity, class_count}

@@ -42,7 +42,7 @@ impl Block {
         self.samples.format()
     }
 
-    /// Returns the samples: as many as were requested, or none between `lift` and `put`.
+    /// Returns the block's samples. The block has none between `lift` and `put`.
     pub fn samples(&self) -> &Samples
         ensures { result.now ≡ self.now }
     {
@@ -60,7 +60,7 @@ impl Block {
         self.samples.take()
     }
 
-    /// Puts samples of the block's format into the block, after `lift`.
+    /// Puts samples into the block, after `lift`. They must have the block's format.
     pub fn put(&mut self, samples: Samples)
         requires { samples_format samples ≡ samples_format self.old }
         ensures { self.new ≡ samples }

@@ -40,9 +40,9 @@ impl Pool {
     /// Lends a block of `count` samples of a format; the samples may have any value. An error means
     /// that there is no memory for a new block; the pool is then unchanged.
     ///
-    /// The smallest free block that fits is used; if none fits, a block is added. Before a free
-    /// block is lent, it is shrunk if its capacity is above 1,024 samples and above twice `count`.
-    /// The capacity of a new block is at most an eighth above `count`.
+    /// The smallest free block that fits is used; if none fits, a block is added. A free block with
+    /// a capacity above 1,024 and above `2 * count + 1` samples is shrunk before it is lent, unless
+    /// the system refuses. The capacity of a new block is at most an eighth above `count`.
     pub fn take(&mut self, format: Format, count: usize) -> Result<Block, AllocError>
         ensures format { IfOk result (λ taken. samples_format taken ≡ format) }
         ensures count { IfOk result (λ taken. length (values taken) ≡ count) }

@@ -53,7 +53,7 @@ pub fn create(alloc: Global, runtime: &mut Runtime, request: &Request) -> Result
     }
 }
 
-/// Makes a request of client 1, which has to succeed with an empty reply.
+/// Makes a request of client 1, which must succeed with an empty reply.
 pub fn succeed(alloc: Global, runtime: &mut Runtime, request: &Request) -> Result<(), Fail> {
     match reply(alloc, runtime, request)? {
         Reply::Empty => Ok(()),

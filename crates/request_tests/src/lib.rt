@@ -1,6 +1,6 @@
-//! Tests of the public functions on requests, for cases that no stream through the program reaches.
-//! These are the order of reads and flushes, devices that fail, the writing of requests, small
-//! quotas, and the blocks of images. `tools/check_program` tests the other cases on the program.
+//! Tests of the public functions that read, write and answer requests. The tests cover the order of
+//! reads and flushes, devices that fail, the writing of requests, small quotas, and the blocks of
+//! images. `tools/check_program` tests the whole program.
 //!
 //! - `devices`: a source and a sink in memory that move a few bytes in each call, and can fail
 //! - `streams`: streams in pieces, failures of each read and write, and how far a stream is read

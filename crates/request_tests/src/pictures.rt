@@ -87,7 +87,7 @@ fn read(writing: &[u8]) -> &[u8] {
     }
 }
 
-/// Serves a stream, and returns the replies. Serving has to succeed.
+/// Serves a stream, and returns the replies. Serving must succeed.
 pub fn ask(alloc: Global, runtime: &mut Runtime, stream: &[u8]) -> Result<Vec<u8>, Fail> {
     let served = serve_bytes(alloc, runtime, stream, ALL_AT_ONCE);
     if served.result.is_err() {
@@ -158,8 +158,8 @@ fn pictures_in_pieces(rt: HostRuntime) -> Result<(), Fail> {
 }
 
 /// Returns whether the image still has the first picture after two failed writes of the next
-/// picture. In one write, the stream ends after `part` of the frame. In the other, a read within
-/// `part` fails.
+/// picture. `part` is the beginning of the frame. In one write, the stream ends after `part`. In the
+/// other, a read within `part` fails.
 fn stays(
     alloc: Global,
     runtime: &mut Runtime,

@@ -8,8 +8,8 @@ use std::test::Fail;
 use vx_base::{Desc, Format, Samples};
 use vx_requests::StreamFault;
 
-/// Widths and heights of images. Only the first image's text is written in a body of fewer than 64
-/// bytes.
+/// Widths and heights of images. The request that writes the first image's text has a body of at
+/// most 64 bytes; the other bodies are longer.
 const SIDES: [(u16, u16); 3] = [(3, 2), (13, 11), (100, 7)];
 
 /// Returns a raw text of pseudorandom U8 samples, with this maxval.
@@ -93,7 +93,7 @@ fn texts_in_pieces(rt: HostRuntime) -> Result<(), Fail> {
     Ok(())
 }
 
-/// Serves the frame that writes the next text 23 times, cut short at another length each time.
+/// Serves 23 parts of the frame that writes the next text. Each part begins at the frame's start.
 /// Returns whether the image still has the first text each time.
 fn stays_after_parts(
     alloc: Global,

@@ -51,15 +51,15 @@ extremes_of f =
       max_at = f.greatest.at;
     }
 
--- the extreme with its pixel `down` rows lower
+-- the extreme, with its pixel moved down by `down` rows
 abbrev pub shift_down : ℕ → Extreme → Extreme
 shift_down down l = record l { at = (l.at.0, l.at.1 + down) }
 
--- both extremes with their pixels `down` rows lower
+-- both extremes, with their pixels moved down by `down` rows
 abbrev pub shift_found : ℕ → Found → Found
 shift_found down f = record { least = shift_down down f.least; greatest = shift_down down f.greatest }
 
--- the extremes of the rows above a band, merged with the extremes of the band, whose pixels move
--- `down` rows lower
+-- the extremes of the rows above a band, merged with the extremes of the band, whose pixels are
+-- moved down by `down` rows
 abbrev pub added_extremes : ℕ → Extremes → Extremes → Extremes
 added_extremes down e band = extremes_of (merge_found (found_of e) (shift_found down (found_of band)))

@@ -38,9 +38,9 @@ pub record AreRowsOf (part : ImageValue) (rows : Band) (whole : ImageValue) (lin
 abbrev pub sum_between : ImageValue → ℕ → ℕ → ℕ → ℕ
 sum_between image start x y = sum_by unsigned_abs (samples_in (record { x0 = image.valid.x0; y0 = max image.valid.y0 start; x1 = x; y1 = y }) image)
 
--- a sample of row y of an integral image, where y is at least `start`. It is the sum in the row
--- above row `start`, plus the sum of the samples in rows `start` to y. The sum in the row above
--- counts only if row `start` isn't above the valid rectangle.
+-- the sample in column x of row y of an integral image, where y is at least `start`: the sum of the
+-- samples up to column x in rows `start` to y, plus `above x`, modulo 2^32. `above x` is the sum in
+-- the row above row `start`, and counts as 0 if row `start` is above the valid rectangle.
 abbrev pub sum_on : ImageValue → ℕ → (ℕ → ℕ) → ℕ → ℕ → ℤ
 sum_on image start above x y = pos (((if nat_le image.valid.y0 start then above x else 0) + sum_between image start (x + 1) (y + 1)) % 2 ^ 32)
 

@@ -40,7 +40,8 @@ fn count_values(
 }
 
 /// Writes the histogram of a U8 image's valid samples (OpenVX 1.3, "Histogram"; the bins are as
-/// this project defines them). `counts` has one count for each bin. The old counts are overwritten.
+/// this project defines them). `counts` must have one count for each bin. The old counts are
+/// overwritten.
 pub fn histogram(image: &Image<'_>, bins: Bins, counts: &mut [u32])
     requires format { image.now.format ≡ U8 }
     requires size { length counts.old ≡ bins.bins }
@@ -51,8 +52,9 @@ pub fn histogram(image: &Image<'_>, bins: Bins, counts: &mut [u32])
     add_histogram(image, Band::whole(image.desc()), bins, counts);
 }
 
-/// Adds the histogram of a band's valid samples to `counts`, one count for each bin. The image is
-/// U8. Each count, plus the number of the band's valid samples, must be below 2^32.
+/// Adds the histogram of a band's valid samples to `counts`. The image must be U8. `counts` must
+/// have one count for each bin. Each count, plus the number of the band's valid samples, must be
+/// below 2^32.
 pub fn add_histogram(image: &Image<'_>, rows: Band, bins: Bins, counts: &mut [u32])
     requires format { image.now.format ≡ U8 }
     requires rows { IsInRows image.now.height rows }

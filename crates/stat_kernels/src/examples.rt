@@ -55,7 +55,7 @@ pub fn integral_of_four()
 {}
 
 /// Zeros outside the valid rectangle are not extremes. If two pixels have the same extreme, the
-/// upper pixel is reported. If no pixel is valid, all numbers are 0.
+/// first in row-major order is reported. If no pixel is valid, all numbers are 0.
 pub fn extremes_of_four()
     ensures column { extremes (record {
       width = 2;

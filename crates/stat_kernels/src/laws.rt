@@ -44,7 +44,8 @@ pub fn extremes_of_bands()
 {}
 
 /// The extremes of two adjacent bands of `whole` can also be merged if another image, `part`, has
-/// the second band's rows. Row y of the second band in `part` is row y + `down` of `whole`.
+/// the second band's rows. In `part` they form the band `rows`. Each such row y of `part` is row
+/// y + `down` of `whole`.
 pub fn extremes_of_parts()
     ensures { (part whole : ImageValue) (rows : Rows) (start first down : ℕ) →
         rows.start + down ≡ start + first → AreRowsOf part rows whole (start + first) →

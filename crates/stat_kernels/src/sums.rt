@@ -53,7 +53,8 @@ fn write_integral_row(image: &Image<'_>, y: u16, above: &[u32], out: &mut [u32])
     right.fill(0);
 }
 
-/// Returns the last row of `width` sums in `before`, or `None` if `before` is empty.
+/// Returns the last `width` sums of `before`, or `None` if `before` is empty. `before` must be
+/// empty or have at least `width` sums.
 pub fn row_above(before: &[u32], width: usize) -> Option<&[u32]>
     requires { length before.now ≡ 0 ⊎ width ≤ length before.now }
     ensures { option_copied result ≡ last_row width before.now }
@@ -66,8 +67,10 @@ pub fn row_above(before: &[u32], width: usize) -> Option<&[u32]>
 }
 
 /// Writes a band of an integral image, continuing from `above`: the row above the band, or `None`
-/// at the top of an image. Reads only the band's rows of `image`. The clause `whole` states the
-/// result for another image, `whole`, that has the band's rows from row `line` on.
+/// at the top of an image. Reads only the band's rows of `image`. The clause `whole` is about
+/// another image, `whole`, that has these rows from row `line` on. If `above` is the row above row
+/// `line` in the integral image of `whole`, this function writes the band of that integral image
+/// that begins at row `line`.
 pub fn integral_on(image: &Image<'_>, rows: Band, above: Option<&[u32]>, samples: &mut [u32])
     requires format { image.now.format ≡ U8 }
     requires rows { IsInRows image.now.height rows }

@@ -1,4 +1,4 @@
--- Result codes of requests: OpenVX's vx_status_e, with numbers of this project.
+-- Status codes of requests: OpenVX's vx_status_e, with numbers of this project.
 use Rattle.std.specs.Prelude.{ℕ, List, codes}
 use Rattle.vx_base.specs.declared.code.Code.{Code}
 use Rattle.vx_base.specs.declared.code.Code.TheVariants.{Success, NoMemory, InvalidParameters, InvalidReference, InvalidScope, InvalidFormat, InvalidDimension, InvalidValue, InvalidType, InvalidGraph, InvalidLink, MultipleWriters, OptimizedAway, NoResources}

@@ -4,8 +4,8 @@ use Rattle.std.specs.Prelude.{ℕ, ℤ, pos, ◌+◌, ◌*◌, ◌==◌, nat_le,
 use Rattle.vx_base.specs.declared.format.Format.TheVariants.{S16}
 use Rattle.vx_base.specs.Sample.{IsSample}
 
--- a convolution matrix, with its coefficients in row-major order. Each sum is divided by
--- 2^exponent.
+-- a convolution matrix, with its coefficients in row-major order. Each sum of products is divided
+-- by 2^exponent.
 pub record ConvolutionValue : Type 0 where
   pub columns : ℕ
   pub rows : ℕ

@@ -46,8 +46,8 @@ is_registered g name = list_any (λ delay. delay == name) g.delays
 abbrev pub with_delays : GraphValue → List ℕ → GraphValue
 with_delays g names = record g { delays = names }
 
--- a graph whose node numbers ascend and are below the next number, with no more nodes than the
--- limit, and no delay registered twice
+-- a graph with at most 256 nodes, all well-formed. The node numbers ascend and are below `next`. No
+-- delay is registered twice.
 pub record IsGraph (g : GraphValue) : Type 0 where
   pub left : g.next ≤ 4294967296
   pub count : length g.nodes ≤ GREATEST_NODES

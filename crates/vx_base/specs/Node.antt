@@ -30,14 +30,14 @@ is_wrap Wrap = true
 is_wrap Saturate = false
 
 -- whether the policy and the amount suit the function. If the function takes no policy, the policy
--- is Wrap. If the function takes no amount, the amount is 0; otherwise it is at most the function's
--- greatest amount.
+-- must be Wrap. If the function takes no amount, the amount must be 0. Otherwise the amount must be
+-- at most the function's greatest amount.
 abbrev pub has_amount : Parameters → Policy → ℕ → Bool
 has_amount p policy amount = (p.policy || is_wrap policy) && nat_le amount (unwrap_or p.greatest_amount 0)
 
--- whether the operands suit the function: a second input is given exactly if the function takes
--- one. If the function has two outputs, one or both are given. Otherwise only the first output is
--- given.
+-- whether the operands suit the function. A second input must be given exactly if the function
+-- takes one. If the function has two outputs, one or both must be given. Otherwise the first output
+-- must be given, and the second must not.
 abbrev pub has_operands : Parameters → Node → Bool
 has_operands p n =
     (if is_some p.second_input then is_some n.in2 else is_none n.in2)

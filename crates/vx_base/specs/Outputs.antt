@@ -64,7 +64,7 @@ written_in n output (Some cell) start held = written_to n output cell (held n.in
 abbrev pub written_from : (Reference → Option ObjectValue) → Node → (Reference → Option ObjectValue) → List (Reference × ObjectValue)
 written_from start n held = written_in n First n.out1 start held ++ written_in n Second n.out2 start held
 
--- the outputs of a node that runs first, each with the output's new value. The present objects are
--- then the objects at the start of the run.
+-- the outputs of a node, each with the output's new value. The inputs and the outputs' earlier
+-- values are from `held`.
 abbrev pub written_by : Node → (Reference → Option ObjectValue) → List (Reference × ObjectValue)
 written_by n held = written_from held n held

@@ -44,7 +44,7 @@ difference format policy a b = narrow format policy (a -ℤ b)
 abbrev pub product : Format → Policy → ℕ → ℤ → ℤ → ℤ
 product format policy n a b = narrow format policy (int_div (a *ℤ b) (pos (2 ^ n)))
 
--- "Absolute Difference": the distance between two samples, at most the format's greatest sample
+-- "Absolute Difference": the distance between two samples, clamped to the format
 abbrev pub absolute_difference : Format → ℤ → ℤ → ℤ
 absolute_difference format a b = clamp format (pos (distance a b))
 

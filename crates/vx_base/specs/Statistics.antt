@@ -30,8 +30,8 @@ valid_samples image = samples_in image.valid image
 
 -- ---- "Histogram"; the bins are as this project defines them
 
--- the bins of a histogram: their number, the least sample that they count, and the number of sample
--- values that they cover
+-- the bins of a histogram: their number, the least sample that they count, and the number of values
+-- that they cover; some of these values may be above 255
 pub record BinsValue : Type 0 where
   pub bins : ℕ
   pub offset : ℕ

@@ -9,7 +9,8 @@ pub const GREATEST_BINS: usize = 256;
 
 /// The bins of a histogram of U8 samples (OpenVX 1.3, `vx_distribution`): 1 to 256 bins. The
 /// offset, 0 to 255, is the least sample that is counted. The range, 1 to 256, is the number of
-/// sample values that the bins cover. The bins divide the range evenly, up to rounding.
+/// values that the bins cover; some values may be above 255. The bins divide the range evenly, up
+/// to rounding.
 #[derive(Clone, Copy, PartialEq, Eq, Debug)]
 pub struct Bins {
     bins: u16,
@@ -64,7 +65,7 @@ impl Bins {
         self.offset
     }
 
-    /// Returns the number of sample values that the bins cover, from the offset on.
+    /// Returns the number of values that the bins cover, from the offset on.
     pub fn range(self) -> u16
         ensures value { result ≡ self.range }
         ensures limits { (1 ≤ result) × (result ≤ 256) }

@@ -1,4 +1,4 @@
-//! Result codes of requests.
+//! Status codes of requests.
 ghost use Rattle.std.specs.Prelude.{◌≡◌};
 ghost use Rattle.vx_base.specs.Code.{code_number, code_name};
 

@@ -48,7 +48,7 @@ impl Desc {
         }
     }
 
-    /// Returns the description of an image. The caller has to give a width and a height from 1 to
+    /// Returns the description of an image. The caller must give a width and a height from 1 to
     /// 8192.
     pub fn with_sides(width: u16, height: u16, format: Format) -> Desc
         requires { IsTrue (is_side width && is_side height) }

@@ -44,7 +44,7 @@ pub fn narrowed()
     ensures kept { narrow S16 Saturate (negsuc 99) ≡ negsuc 99 }
 {}
 
-/// Rectangles and their pixels.
+/// Rectangles made from bounds, intersections of rectangles, and rectangles shrunk by radii.
 pub fn rectangles()
     ensures proper { rectangle 1 0 3 1 ≡ Some (record { x0 = 1; y0 = 0; x1 = 3; y1 = 1 }) }
     ensures zeros { rectangle 0 0 0 0 ≡ Some empty_rectangle }
@@ -60,7 +60,7 @@ pub fn rectangles()
         ≡ empty_rectangle }
 {}
 
-/// Descriptions within the limits and beyond them.
+/// Descriptions within the limits and beyond them, and an image's size in bytes.
 pub fn descriptions()
     ensures least { description 1 1 U8 ≡ Some (record { width = 1; height = 1; format = U8 }) }
     ensures greatest { description 8192 8192 U32
@@ -70,7 +70,7 @@ pub fn descriptions()
     ensures bytes { byte_count (record { width = 8; height = 7; format = S16 }) ≡ 112 }
 {}
 
-/// An image of two columns and two rows that is valid in its left column.
+/// A 2x2 image that is valid only in its left column, and a new image.
 pub fn images()
     ensures samples { (image_from 2 2 U8 (record { x0 = 0; y0 = 0; x1 = 1; y1 = 2 })
         (λ x y. pos 10)).samples ≡ pos 10 ∷ pos 0 ∷ pos 10 ∷ pos 0 ∷ [] }
@@ -120,7 +120,7 @@ pub fn differences()
     ensures absolute_of_ends { absolute_difference S16 (negsuc 32767) (pos 32767) ≡ pos 32767 }
 {}
 
-/// The square of -32768, undivided and divided by 32768, and -3 divided by 2.
+/// The square of -32768: undivided, and divided by 32768. Also -3 divided by 2.
 pub fn products()
     ensures nearest { product S16 Saturate 0 (negsuc 32767) (negsuc 32767) ≡ pos 32767 }
     ensures wrapped { product S16 Wrap 0 (negsuc 32767) (negsuc 32767) ≡ pos 0 }
@@ -163,7 +163,7 @@ pub fn conversions()
     ensures widened { depth_conversion S16 Wrap 7 (pos 255) ≡ pos 32640 }
 {}
 
-/// Samples at the limits of range and binary thresholds.
+/// The results of a range threshold and a binary threshold at their limits and just past them.
 pub fn thresholds()
     ensures below { threshold_result (record {
       format = U8;
@@ -271,7 +271,7 @@ pub fn and_of_halves()
         } }
 {}
 
-/// The number and the name of a result code. Of three nodes of Bitwise Not, the first is permitted,
+/// The number and the name of a status code. Of three nodes of Bitwise Not, the first is permitted,
 /// the second has no output, and the third has a policy that the function doesn't take.
 pub fn nodes()
     ensures number { code_number InvalidFormat ≡ 5 }
@@ -332,7 +332,8 @@ pub fn partial_descs()
     ensures converted_back { open_format ConvertDepth U8 ≡ S16 }
 {}
 
-/// A graph whose only node is removed: the node that is added next gets a new number.
+/// A graph whose only node is removed: the node that is added next gets a new number. A graph that
+/// has used all node numbers takes no more nodes.
 pub fn numbers_of_nodes()
     ensures first { (n : Node) → nodes_of (with_node new_graph n) ≡ n ∷ [] }
     ensures removed { (n : Node) → without_node (with_node new_graph n) 1

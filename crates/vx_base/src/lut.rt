@@ -46,7 +46,7 @@ impl Lut {
         Some(Lut::of(entries))
     }
 
-    /// Returns the table with these entries. The caller has to give 256 U8 entries or 65,536 S16
+    /// Returns the table with these entries. The caller must give 256 U8 entries or 65,536 S16
     /// entries.
     pub fn of(entries: Samples) -> Lut
         requires { IsTrue (is_full (samples_format entries) (length (values entries))) }

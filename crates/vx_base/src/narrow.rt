@@ -25,7 +25,7 @@ pub fn narrow_s16(number: i32, policy: Policy) -> i16
     }
 }
 
-/// Returns the S16 sample that agrees modulo 65,536 with a number from 0 to 65,535.
+/// Returns the S16 sample that agrees with `number` modulo 65,536. `number` must be 0 to 65,535.
 fn signed_of(number: i32) -> i16
     requires { (pos 0 ≤ℤ number) × (number <ℤ pos 65536) }
     ensures { result ≡ signed_of number }

@@ -18,7 +18,8 @@ pub struct Node {
     pub function: Function,
     pub border: Border,
     pub policy: Policy,
-    /// The shift, or the exponent n of a division by 2^n; 0 if the function takes no amount.
+    /// The shift, or the exponent n of a division by 2^n. The amount must be 0 if the function
+    /// takes none.
     pub amount: u8,
     pub in1: ObjRef,
     pub in2: Option<ObjRef>,
@@ -48,10 +49,10 @@ impl Model for NodeSpec {
 impl NodeSpec {
     ghost use Rattle.vx_base.specs.Node.{is_node, node_spec, IsNode};
 
-    /// Returns the node with these fields, or `None` if they don't suit its function. The fields
-    /// suit the function only if each input, output, policy or amount that the function doesn't
-    /// take is `None`, `Policy::Wrap` or 0. An operand that is name 0 without a slot suits no
-    /// function. Every border suits every function.
+    /// Returns the node with these fields, or `None` if they don't suit its function. An input or
+    /// output that the function doesn't take must be `None`. If the function takes no policy, the
+    /// policy must be `Policy::Wrap`. If it takes no amount, the amount must be 0. An operand that
+    /// is name 0 without a slot suits no function. Every border suits every function.
     pub fn new(node: Node) -> Option<NodeSpec>
         ensures { result ≡ node_spec node }
     {
@@ -62,7 +63,7 @@ impl NodeSpec {
         }
     }
 
-    /// Returns the node with these fields. The caller has to ensure that they suit the node's
+    /// Returns the node with these fields. The caller must ensure that they suit the node's
     /// function.
     pub fn of(node: Node) -> NodeSpec
         requires { IsTrue (is_node node) }

@@ -26,8 +26,8 @@ impl Model for Picture {
 }
 
 impl Picture {
-    /// Returns the picture with this description and these samples. The caller has to give one
-    /// sample of the description's format for each pixel.
+    /// Returns the picture with this description and these samples. The caller must give one sample
+    /// of the description's format for each pixel.
     pub fn new(desc: Desc, samples: Samples) -> Picture
         requires { Describes desc samples }
         ensures { result ≡ record { description = desc; samples = values samples } }

@@ -67,8 +67,8 @@ impl Rect {
         }
     }
 
-    /// Proves that the bounds are in canonical form. The prover learns a number's range only where
-    /// the number is read. At run time this function does nothing.
+    /// Proves that the bounds are in canonical form and have 16 bits. The prover learns a number's
+    /// range only where the number is read. At run time this function does nothing.
     pub fn prove_bounds(self)
         ensures { IsRectangle self }
     {

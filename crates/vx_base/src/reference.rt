@@ -32,7 +32,7 @@ impl ObjRef {
     ghost use Rattle.vx_base.specs.Node.{is_nothing};
 
     /// Returns the reference to the object of this name, or to this slot of the delay of this name.
-    /// The caller has to give a slot below 255, or `None`.
+    /// The caller must give a slot below 255, or `None`.
     pub fn new(name: u32, slot: Option<u8>) -> ObjRef
         requires { ForSome slot (λ k. k < 255) }
         ensures { result ≡ record { name = name; slot = slot } }

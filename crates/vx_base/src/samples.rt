@@ -41,7 +41,7 @@ impl Samples {
         }
     }
 
-    /// Overwrites the samples with the samples of `other`. The caller has to ensure that both have
+    /// Overwrites the samples with the samples of `other`. The caller must ensure that both have
     /// the same format and the same number of samples.
     pub fn copy_from(&mut self, other: &Samples)
         requires format { samples_format self.old ≡ samples_format other.now }

@@ -65,7 +65,7 @@ impl ThresholdRule {
         }
     }
 
-    /// Returns the threshold with these limits. The caller has to ensure that the limits are
+    /// Returns the threshold with these limits. The caller must ensure that the limits are
     /// permitted.
     pub fn with_limits(
         format: Format,

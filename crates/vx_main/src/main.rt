@@ -2,9 +2,9 @@
 //!
 //! `vx_main serve` reads request frames from standard input, and writes a reply frame for each to
 //! standard output. `vx_main apply` reads one PGM text from standard input, applies one function,
-//! and writes the resulting text to standard output. `program::run` does both over any reader and
-//! writer; `main` calls it with the reader and the writer of the process. After a failure, `main`
-//! prints a message to standard error, and exits with the failure's status.
+//! and writes the resulting text to standard output. `program::run` runs either command over any
+//! reader and writer. `main` calls `run` with the reader and the writer of the process. After a
+//! failure, `main` prints a message to standard error, and exits with the failure's status.
 #![tactic(auto)]
 
 mod apply;

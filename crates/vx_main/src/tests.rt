@@ -8,7 +8,7 @@ use std::test::Fail;
 use vx_base::Code;
 use vx_requests::StreamFault;
 
-/// Client 7 opens a context and creates two images of one U8 sample. The client writes 10 to the
+/// Client 7 opens a context and creates two U8 images of size 1x1. The client writes 10 to the
 /// first, runs Not from the first to the second, and reads the second.
 const REQUESTS: &[u8] = b"\x00\x00\x00\x03\x00\x07\x01\
 \x00\x00\x00\x08\x00\x07\x03\x01\x00\x01\x00\x01\

@@ -7,7 +7,7 @@ use Rattle.vx_wire.specs.Op.{ops, op_numbered}
 use Rattle.vx_wire.specs.Requests.{request_with, request_with_known}
 use Rattle.vx_wire.specs.Images.{write_image_pgm_in}
 use Rattle.vx_wire.proofs.Numbers.{number_is}
-use Rattle.vx_wire.proofs.ReadFields.{AllBytes, then_of, Reads, long_reads, description_reads, outline_reads, cell_reads, rectangle_reads, slots_reads, bins_reads}
+use Rattle.vx_wire.proofs.ReadFields.{AllBytes, then_of, Reads, long_reads, description_reads, partial_desc_reads, cell_reads, rectangle_reads, slots_reads, bins_reads}
 use Rattle.vx_wire.proofs.ReadSamples.{picture_reads}
 use Rattle.vx_wire.proofs.ReadObjects.{lut_reads, threshold_reads, convolution_reads}
 use Rattle.vx_wire.proofs.ReadNode.{node_reads}
@@ -81,7 +81,7 @@ with_op kinds.ReadDistribution body request is e = one_of long_reads ReadDistrib
 with_op kinds.CreateMinMax body request is e = none_of CreateMinMax (record { op_is = refl; body_is = refl; within = tt }) body request e
 with_op kinds.ReadMinMax body request is e = one_of long_reads ReadMinMax (λ x within. record { op_is = refl; body_is = refl; within = within }) body request is e
 with_op kinds.CreateGraph body request is e = none_of CreateGraph (record { op_is = refl; body_is = refl; within = tt }) body request e
-with_op kinds.CreateVirtualImage body request is e = two_of long_reads outline_reads CreateVirtualImage (λ x y first second. record { op_is = refl; body_is = refl; within = (first, second) }) body request is e
+with_op kinds.CreateVirtualImage body request is e = two_of long_reads partial_desc_reads CreateVirtualImage (λ x y first second. record { op_is = refl; body_is = refl; within = (first, second) }) body request is e
 with_op kinds.AddNode body request is e = two_of long_reads node_reads AddNode (λ x y first second. record { op_is = refl; body_is = refl; within = (first, second) }) body request is e
 with_op kinds.RemoveNode body request is e = two_of long_reads long_reads RemoveNode (λ x y first second. record { op_is = refl; body_is = refl; within = (first, second) }) body request is e
 with_op kinds.VerifyGraph body request is e = one_of long_reads VerifyGraph (λ x within. record { op_is = refl; body_is = refl; within = within }) body request is e

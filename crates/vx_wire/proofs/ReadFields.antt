@@ -134,7 +134,7 @@ bytes_reads n = record {
       );
 }
 
--- ---- formats, sides, descriptions, outlines, references, rectangles, numbers of slots, bins
+-- ---- formats, sides, descriptions, partial descriptions, references, rectangles, numbers of slots, bins
 
 format_reads : Reads [] take_format (λ format. format_number format ∷ []) (λ format. Unit {0})
 format_reads = one_made byte_reads InvalidFormat format_numbered (λ n format below e. (ap (λ x. x ∷ []) (number_is format_number (U8 ∷ S16 ∷ U32 ∷ []) n format e), tt))
@@ -162,8 +162,8 @@ open_side_reads : Reads [] take_open_side (λ side. to_be_bytes w16 (open_side_n
 open_side_reads =
     one_made short_reads InvalidDimension open_side_numbered (λ n side below e. let (number, is) = number_of_side n side e in (ap (λ x. to_be_bytes w16 x) number, is))
 
-pub outline_reads : Reads [] take_partial_desc partial_desc_bytes IsPartialDescription
-outline_reads =
+pub partial_desc_reads : Reads [] take_partial_desc partial_desc_bytes IsPartialDescription
+partial_desc_reads =
     then_reads open_format_reads _ (λ format f. then_reads open_side_reads _ (λ width w. then_reads open_side_reads _ (λ height h.
     made (record { width = width; height = height; format = format }) refl (both (may_be_side width) (may_be_side height) w h))))
 

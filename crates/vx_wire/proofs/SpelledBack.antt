@@ -1,7 +1,7 @@
 -- A request is read back from its op and body.
 use Rattle.std.proofs.Common.{◌≡◌, List, [], ◌∷◌, ◌++◌, ℕ, Ok, refl, ap, append-nil}
 use Rattle.vx_wire.proofs.Common.{w32, to_be_bytes, Request, OpenContext, ReleaseContext, CreateImage, QueryImage, WriteImage, WriteImagePgm, ReadImage, ReadImagePgm, SetValid, Release, CreateLut, CreateThreshold, CreateConvolution, CreateDistribution, ReadDistribution, CreateMinMax, ReadMinMax, CreateGraph, CreateVirtualImage, AddNode, RemoveNode, VerifyGraph, ProcessGraph, Immediate, CreateDelay, AgeDelay, RegisterAutoAging, op_number, op_of, FieldResult, and_then, one_field, two_fields, take_long, request_of, body_of, take_description, description_bytes, take_partial_desc, partial_desc_bytes, take_reference, reference_bytes, take_picture, picture_bytes, take_lut, lut_bytes, take_threshold, threshold_bytes, take_convolution, convolution_bytes, take_bins, bins_bytes, take_node, node_bytes, take_slots, take_rectangle, rectangle_bytes, IsRequest}
-use Rattle.vx_wire.proofs.SpelledFields.{long_back, description_back, outline_back, cell_back, rectangle_back, slots_back, bins_back, picture_back}
+use Rattle.vx_wire.proofs.SpelledFields.{long_back, description_back, partial_desc_back, cell_back, rectangle_back, slots_back, bins_back, picture_back}
 use Rattle.vx_wire.proofs.SpelledObjects.{lut_back, threshold_back, convolution_back}
 use Rattle.vx_wire.proofs.SpelledNode.{node_back}
 
@@ -39,7 +39,7 @@ read_back (ReadMinMax name) is = one_back take_long ReadMinMax (to_be_bytes w32 
 read_back CreateGraph is = refl
 read_back (CreateVirtualImage graph declared) is =
     let bytes = partial_desc_bytes declared in
-    two_back take_long take_partial_desc CreateVirtualImage (to_be_bytes w32 graph) bytes graph declared (long_back graph bytes is.0) (outline_back declared [] is.1)
+    two_back take_long take_partial_desc CreateVirtualImage (to_be_bytes w32 graph) bytes graph declared (long_back graph bytes is.0) (partial_desc_back declared [] is.1)
 read_back (AddNode graph node) is =
     let bytes = node_bytes node in
     two_back take_long take_node AddNode (to_be_bytes w32 graph) bytes graph node (long_back graph bytes is.0) (node_back node [] is.1)

@@ -61,8 +61,8 @@ numbered_side (Some n) is = let some : (n == 0) ≡ false = grind (arith, nat_te
 open_side_back : (side : Option ℕ) (rest : List ℕ) → IsTrue (may_be_side side) → take_open_side (to_be_bytes w16 (open_side_number side) ++ rest) ≡ Ok (side, rest)
 open_side_back side rest is = rw (short_is (open_side_number side) (open_side_below side is), numbered_side side is) refl
 
-pub outline_back : (o : PartialDescription) (rest : List ℕ) → IsPartialDescription o → take_partial_desc (partial_desc_bytes o ++ rest) ≡ Ok (o, rest)
-outline_back o rest is =
+pub partial_desc_back : (o : PartialDescription) (rest : List ℕ) → IsPartialDescription o → take_partial_desc (partial_desc_bytes o ++ rest) ≡ Ok (o, rest)
+partial_desc_back o rest is =
     let (width, height) = both_of (may_be_side o.width) (may_be_side o.height) is in
     rw (open_format_back o.format _, open_side_back o.width _ width, open_side_back o.height _ height) refl
 

@@ -39,6 +39,7 @@ take_open_format body = and_then (take_byte body) (λ n rest. allowed_or_fault I
 abbrev pub input_format_numbered : ℕ → Option Format
 input_format_numbered n = with_number format_number (U8 ∷ S16 ∷ []) n
 
--- reads the format of a lookup table or threshold from the front of a body: a byte, 1 U8 or 2 S16
+-- reads the format of a lookup table or threshold from the front of a body: a byte, 1 for U8 or 2
+-- for S16
 abbrev pub take_input_format : List ℕ → FieldResult Format
 take_input_format body = and_then (take_byte body) (λ n rest. allowed_or_fault InvalidFormat (input_format_numbered n) rest)

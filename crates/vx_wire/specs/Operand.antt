@@ -9,7 +9,7 @@ use Rattle.vx_wire.specs.declared.fields.operand.Presence.TheVariants.{Required,
 use Rattle.vx_wire.specs.Fields.{FieldResult, and_then, allowed_or_fault}
 use Rattle.vx_wire.specs.Reference.{take_reference, reference_bytes}
 
--- The operand that a reference encodes. There is no result if a required operand is missing, or if
+-- The operand that a reference encodes. There is no result if a required operand is absent, or if
 -- an operand is given that the function doesn't have.
 abbrev pub operand : Presence → Reference → Option (Option Reference)
 operand Required cell = if is_nothing cell then None else Some (Some cell)
@@ -41,12 +41,13 @@ second_input p = if is_some p.second_input then Required else Absent
 abbrev pub first_output : Parameters → Presence
 first_output p = if p.output_pair then Free else Required
 
--- the presence of the second output: absent if the function has no pair of outputs; of a pair, at
--- least one output is required
+-- the presence of the second output: absent if the function has no pair of outputs, else required
+-- if the first output is absent, else optional
 abbrev pub second_output : Parameters → Option Reference → Presence
 second_output p out1 = if p.output_pair then (if is_none out1 then Required else Free) else Absent
 
--- reads the first input from the front of a body: a reference, which is never absent
+-- reads the first input from the front of a body: a reference; InvalidParameters if the input is
+-- absent
 abbrev pub take_first_input : List ℕ → FieldResult Reference
 take_first_input body =
     and_then (take_reference body) (λ cell rest. allowed_or_fault InvalidParameters (if is_nothing cell then None else Some cell) rest)

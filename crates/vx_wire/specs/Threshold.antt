@@ -26,7 +26,7 @@ range_number true = 1
 abbrev pub range_numbered : ℕ → Option Bool
 range_numbered n = with_number range_number (false ∷ true ∷ []) n
 
--- reads a threshold's kind from the front of a body: a byte, 0 BINARY or 1 RANGE
+-- reads a threshold's kind from the front of a body: a byte, 0 for BINARY or 1 for RANGE
 abbrev pub take_is_range : List ℕ → FieldResult Bool
 take_is_range body = and_then (take_byte body) (λ n rest. allowed_or_fault InvalidParameters (range_numbered n) rest)
 

@@ -18,7 +18,7 @@ pub enum BodyFault {
     /// - an amount is above the greatest that the function accepts
     /// - a limit of a threshold isn't a sample of the threshold's format, or the upper limit is
     ///   below the lower one
-    /// - a rectangle's bounds aren't all 0, and x0 isn't below x1 or y0 isn't below y1
+    /// - a rectangle with a bound other than 0 has x0 >= x1 or y0 >= y1
     /// - the number of slots of a delay isn't 1 to 16
     /// - the exponent of a convolution is above 31
     /// - the number of bins or their range isn't 1 to 256, or the offset of the bins is above 255

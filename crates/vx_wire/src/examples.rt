@@ -1,4 +1,4 @@
-//! Worked examples: bodies, in bytes, and the requests that they encode.
+//! Worked examples: bodies, in bytes, and the requests and replies that they encode.
 ghost use Rattle.std.specs.Prelude.{◌≡◌, [], ◌∷◌, Some, None, Ok, Err, pos, negsuc};
 ghost use Rattle.vx_base.specs.declared.format.Format.TheVariants.{U8, S16, U32};
 ghost use Rattle.vx_base.specs.declared.policy.Policy.TheVariants.{Wrap, Saturate};
@@ -313,7 +313,7 @@ pub fn virtual_images_made()
     ensures cut { request_of 19 (0 ∷ 0 ∷ 0 ∷ 3 ∷ 0 ∷ 0 ∷ 0 ∷ 0 ∷ []) ≡ Err InvalidParameters }
     ensures more { request_of 19 (0 ∷ 0 ∷ 0 ∷ 3 ∷ 0 ∷ 0 ∷ 0 ∷ 0 ∷ 0 ∷ 0 ∷ [])
         ≡ Err InvalidParameters }
-    ensures no_outline { request_of 19 (0 ∷ 0 ∷ 0 ∷ 3 ∷ []) ≡ Err InvalidParameters }
+    ensures no_description { request_of 19 (0 ∷ 0 ∷ 0 ∷ 3 ∷ []) ≡ Err InvalidParameters }
     ensures no_name { request_of 19 (0 ∷ 0 ∷ 0 ∷ []) ≡ Err InvalidParameters }
 {}
 
@@ -367,9 +367,9 @@ pub fn graphs_verified_and_run()
     ensures run_with_a_slot { request_of 23 (0 ∷ 0 ∷ 1 ∷ 2 ∷ 255 ∷ []) ≡ Err InvalidParameters }
 {}
 
-/// Not nodes from image 1 to image 2, with an UNDEFINED and a CONSTANT border. Then invalid Not
-/// nodes: cut short, with policy 1, with UNDEFINED and constant 5, without an input, or with two
-/// inputs.
+/// Running a Not node from image 1 to image 2, with an UNDEFINED or a CONSTANT border. Then invalid
+/// Not nodes: cut short, with policy 1, with UNDEFINED and constant 5, without an input, or with
+/// two inputs.
 pub fn nodes()
     ensures whole { request_of 24 (4 ∷ 0 ∷ 0 ∷ 0 ∷ 0 ∷ 0 ∷ 0 ∷ 0 ∷ 1 ∷ 255 ∷ 0 ∷ 0 ∷ 0 ∷ 0 ∷ 255 ∷ 0
         ∷ 0 ∷ 0 ∷ 2 ∷ 255 ∷ 0 ∷ 0 ∷ 0 ∷ 0 ∷ 255 ∷ [])
@@ -508,7 +508,7 @@ pub fn spelled()
     ensures partial_desc { body_of (CreateVirtualImage 3
         (record { width = Some 258; height = Some 8192; format = Some U8 }))
         ≡ 0 ∷ 0 ∷ 0 ∷ 3 ∷ 1 ∷ 1 ∷ 2 ∷ 32 ∷ 0 ∷ [] }
-    ensures open_outline { body_of (CreateVirtualImage 3
+    ensures open_description { body_of (CreateVirtualImage 3
         (record { width = None; height = Some 1; format = None }))
         ≡ 0 ∷ 0 ∷ 0 ∷ 3 ∷ 0 ∷ 0 ∷ 0 ∷ 0 ∷ 1 ∷ [] }
     ensures node_of_a_graph { body_of (AddNode 258

@@ -24,8 +24,8 @@ use std::marker::Model;
 /// The bytes of a body that have not been read yet.
 ///
 /// The methods `byte`, `short`, `long` and `bytes`, and the functions `take_..` of the submodules,
-/// each read one field from the front. `InvalidParameters`: the field is cut short. After a fault
-/// the remaining bytes are unspecified, since the first fault ends the reading of a body.
+/// each read one or more fields from the front. `InvalidParameters`: a field is cut short. After a
+/// fault the remaining bytes are unspecified, since the first fault ends the reading of a body.
 #[derive(Drop)]
 pub struct Fields<'a> {
     rest: &'a [u8],

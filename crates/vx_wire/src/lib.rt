@@ -6,10 +6,11 @@
 //!
 //! - `op`: the kinds of requests, and their numbers
 //! - `body_fault`, `parse_fault`: why a body encodes no request, and why parsing failed
-//! - `fields`: reads fields from the front of a body. Its modules read and encode one field each:
-//!   `format`, `description`, `partial_desc` (a partial description), `reference`, `rectangle`,
-//!   `samples`, `threshold`, `convolution`, `bins` (of a distribution), `operand`, `node`, `slots`
-//!   (of a delay). `described` (an image's description) and `extremes` encode replies.
+//! - `fields`: reads fields from the front of a body. Each module is for one field or a group of
+//!   fields: `format`, `description`, `partial_desc` (a partial description), `reference`,
+//!   `rectangle`, `samples`, `threshold`, `convolution`, `bins` (of a distribution), `operand`,
+//!   `node`, `slots` (of a delay). `described` and `extremes` encode the replies to QueryImage and
+//!   ReadMinMax.
 //! - `requests`: the bodies of requests, by families: `contexts`, `images`, `objects` (of any
 //!   kind), `tables` (lookup tables, thresholds and convolutions), `statistics` (distributions and
 //!   extremes), `graphs`, `immediate`, `delays`

@@ -1,4 +1,4 @@
-//! Ops. The op of a frame is the byte that gives the kind of the request.
+//! Ops, the kinds of requests. A frame has its op's number as one byte.
 ghost use Rattle.std.specs.Prelude.{◌≡◌, ◌↔◌, Some};
 ghost use Rattle.vx_wire.specs.declared.op.Op.{Op as RequestOp};
 ghost use Rattle.vx_wire.specs.Op.{op_number, op_numbered, op_of};

@@ -30,7 +30,7 @@ pub enum ParseFault {
 impl ParseFault {
     ghost use Rattle.vx_wire.specs.Faults.{fault_code};
 
-    /// Returns the status code of the reply to a body with this fault.
+    /// Returns the status code of the reply when parsing fails with this fault.
     pub fn code(self) -> Code
         ensures { result ≡ fault_code self }
     {

@@ -24,10 +24,10 @@ use std::alloc::Global;
 
 /// Returns the request that an op's number and a body encode.
 ///
-/// The fault is that of the first field that is cut short or out of range. `InvalidParameters`: no
-/// op has the number, or bytes follow the last field. `NoMemory`: an allocation failed. Memory is
-/// allocated only for a picture's samples, a lookup table's entries or a text. The body is checked
-/// before the allocation.
+/// The fault is that of the first field that is cut short or whose value isn't allowed.
+/// `InvalidParameters`: no op has the number, or bytes follow the last field. `NoMemory`: an
+/// allocation failed. Memory is allocated only for a picture's samples, a lookup table's entries or
+/// a text. The body is checked before the allocation.
 pub fn parse(alloc: Global, op: u8, body: &[u8]) -> Result<Request, ParseFault>
     ensures ok { IfOk result (λ request. request_of op body.now ≡ Ok request) }
     ensures err { IfErr result (MayFailWith (request_of op body.now)) }

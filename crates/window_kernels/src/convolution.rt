@@ -77,8 +77,8 @@ fn prove_constant(border: Border)
     if let Border::Constant(_value) = border {}
 }
 
-/// The greatest number of columns in a piece. It limits the scratch memory, which therefore doesn't
-/// grow with the image's width.
+/// The greatest number of columns in a piece. It limits the scratch memory, however wide the image
+/// is.
 const PIECE_WIDTH: usize = 1024;
 
 /// The number of items loaded in each row beyond the columns of a piece, as `MatrixRows::write`

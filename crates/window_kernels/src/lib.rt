@@ -1,7 +1,7 @@
 //! Window functions: each output sample depends on the input samples around the same pixel.
 //!
-//! Each function writes a whole output: the results of OpenVX 1.3's formula where the border mode
-//! makes the output valid, 0 elsewhere.
+//! Each function writes all samples of its output: the results of OpenVX 1.3's formula where the
+//! border mode makes the output valid, 0 elsewhere.
 //!
 //! A 3x3 window function is an `OfWindow`. `write_windows` applies any `OfWindow` to a whole image.
 //! The windows in the middle of a row lie in valid columns, so lane kernels of lane_rows read the
@@ -11,8 +11,8 @@
 //! columns, are computed one by one.
 //!
 //! `convolve` works on pieces of rows. It loads the samples that a piece's windows read, border
-//! included, for the lane kernel `MatrixRows`. The width of a piece is limited, so the scratch
-//! memory doesn't grow with the image's width.
+//! included, for the lane kernel `MatrixRows`. The width of a piece is limited, and so is the
+//! scratch memory.
 //!
 //! No function allocates memory. `examples` evaluates the definitions on numbers, and `laws` states
 //! facts about the definitions.

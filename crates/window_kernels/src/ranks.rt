@@ -49,7 +49,8 @@ impl OfWindow<u8, u8> for Median {
     }
 }
 
-/// Writes the least sample of each 3x3 window (OpenVX 1.3, "Erode Image"); both images are U8.
+/// Writes the least sample of each 3x3 window (OpenVX 1.3, "Erode Image"). Both images must be U8
+/// and of the same size.
 pub fn erode3(image: &Image<'_>, output: &mut ImageMut<'_>, border: Border)
     requires { WindowFits U8 image.now output.old }
     ensures { Writes (from_nine U8 least_of border image.now) output.old output.new }
@@ -60,7 +61,8 @@ pub fn erode3(image: &Image<'_>, output: &mut ImageMut<'_>, border: Border)
     })
 }
 
-/// Writes the greatest sample of each 3x3 window (OpenVX 1.3, "Dilate Image"); both images are U8.
+/// Writes the greatest sample of each 3x3 window (OpenVX 1.3, "Dilate Image"). Both images must be
+/// U8 and of the same size.
 pub fn dilate3(image: &Image<'_>, output: &mut ImageMut<'_>, border: Border)
     requires { WindowFits U8 image.now output.old }
     ensures { Writes (from_nine U8 greatest_of border image.now) output.old output.new }
@@ -72,7 +74,8 @@ pub fn dilate3(image: &Image<'_>, output: &mut ImageMut<'_>, border: Border)
     })
 }
 
-/// Writes the median of each 3x3 window (OpenVX 1.3, "Median Filter"); both images are U8.
+/// Writes the median of each 3x3 window (OpenVX 1.3, "Median Filter"). Both images must be U8 and
+/// of the same size.
 pub fn median3(image: &Image<'_>, output: &mut ImageMut<'_>, border: Border)
     requires { WindowFits U8 image.now output.old }
     ensures { Writes (from_nine U8 median border image.now) output.old output.new }

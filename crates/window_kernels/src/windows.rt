@@ -14,7 +14,8 @@ use image_core::{Image, ImageMut, RowFormula, Sample, set_all};
 use lane_rows::{Item, ThreeItems};
 use vx_base::{Border, GREATEST_SIDE, Rect};
 
-/// Samples that are also items of lane rows, with the same value: U8 and S16.
+/// A sample type that is also an `Item` of `lane_rows`: `u8` or `i16`. A number has the same value
+/// in both traits.
 pub trait SampleItem: Sample + Item {
     ghost same: { Self.Item.value ≡ Self.Number.value };
 }
@@ -39,7 +40,8 @@ pub trait OfWindow<T: Sample, S> {
     fn item(&self, above: ThreeItems, here: ThreeItems, below: ThreeItems) -> T
         ensures { T.value result ≡ formula self.now (nine_of above here below) };
 
-    /// Writes the results for all windows in three rows; `out` has two items fewer than each row.
+    /// Writes the results for all windows in three rows. `out` must have two items fewer than each
+    /// row.
     fn write_row(&self, above: &[u8], here: &[u8], below: &[u8], scratch: &mut [S], out: &mut [T])
         requires above { length above.now ≡ length out.old + 2 }
         requires here { length here.now ≡ length out.old + 2 }
@@ -55,8 +57,8 @@ struct FromNine<'a, 'b, K> {
     kernel: &'a K,
     image: &'a Image<'b>,
     border: Border,
-    /// A row of the border's samples. Windows read it for rows above and below the valid rectangle,
-    /// except under REPLICATE, which reads the nearest valid row.
+    /// A row of the border's samples. Windows read it for rows above and below the valid rectangle.
+    /// Under REPLICATE they read the nearest valid row instead.
     off_rows: &'a [u8],
     area: Rect,
     ghost format: { image.now.format ≡ U8 },
@@ -89,7 +91,7 @@ impl<K> FromNine<'_, '_, K> {
     }
 
     /// Writes to `out` the samples of row `y` from column `x` + 1 on. The windows of these samples
-    /// lie in valid columns. The rows are read without a copy.
+    /// must lie in valid columns. The rows are read without a copy.
     fn write_inside<T: Sample, S>(&self, x: u16, y: u16, scratch: &mut [S], out: &mut [T])
     where
         K: OfWindow<T, S>,
@@ -180,10 +182,10 @@ pub const SIDE: usize = GREATEST_SIDE as usize;
 
 /// Makes a call with a slice of items on the stack.
 ///
-/// `with_scratch!(count, [item; most], row => call)` binds the slice to `row`. Every item is
-/// initialized, so a small image gets a short slice. For a count of at most 64 the slice has 64
-/// items, for a count of at most 512 it has 512, and otherwise `most`. With `[item; small, middle,
-/// most]` these lengths are `small`, `middle` and `most`.
+/// `with_scratch!(count, [item; most], row => call)` binds the slice to `row`. Initializing the
+/// items takes time, so a small image gets a short slice. For a count of at most 64 the slice has
+/// 64 items, for a count of at most 512 it has 512, and otherwise `most`. With `[item; small,
+/// middle, most]` these lengths are `small`, `middle` and `most`.
 macro_rules! with_scratch {
     ($count:expr, [$item:expr; $most:expr], $row:ident => $call:expr) => {
         with_scratch!($count, [$item; 64, 512, $most], $row => $call)

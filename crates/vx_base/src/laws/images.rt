@@ -25,7 +25,8 @@ pub fn bands()
 {}
 
 /// An image made from a function has the function's values in the valid rectangle and 0 elsewhere.
-/// The image is well-formed if its sides are permitted and the values are samples of its format.
+/// The image is well-formed if its sides are permitted, its valid rectangle is canonical and within
+/// the image, and the values are samples of its format.
 pub fn formula_samples()
     ensures image { (width height : ℕ) (format : Format) (valid : Rectangle) (f : ℕ → ℕ → ℤ) →
         IsTrue (is_side width) → IsTrue (is_side height) → IsCanonical valid →
@@ -62,7 +63,7 @@ pub fn image_of_own_samples()
         image_from a.width a.height a.format a.valid (pixel_at a) ≡ a }
 {}
 
-/// A new image is well-formed, and 0 at each pixel.
+/// A new image is 0 at each pixel. It is well-formed if its sides are permitted.
 pub fn new_is_zero()
     ensures image { (width height : ℕ) (format : Format) → IsTrue (is_side width) →
         IsTrue (is_side height) → IsImage (new_image width height format) }

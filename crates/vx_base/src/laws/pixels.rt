@@ -63,7 +63,7 @@ pub fn absolute_differences()
     ensures shorts { (a b : ℤ) → absolute_difference S16 a b ≡ pos (min (distance a b) 32767) }
 {}
 
-/// If a function takes the formats of its inputs and its output, its results are samples of the
+/// If a function takes the given formats, policy and amount, its results are samples of the
 /// output's format.
 pub fn results_are_samples()
     ensures one { (function : Function) (first output : Format) (policy : Policy) (n : ℕ) (a : ℤ) →

@@ -4,14 +4,14 @@ ghost use Rattle.vx_base.specs.Rectangle.{Rectangle, has_pixel, is_rectangle, re
 ghost use Rattle.vx_base.specs.Rectangle.{whole_rectangle, meet_of};
 ghost use Rattle.vx_base.specs.Rectangle.{shrink_of};
 
-/// Two rectangles with the same pixels are equal.
+/// Two rectangles in canonical form are equal if they have the same pixels.
 pub fn pixels_decide_rectangle()
     ensures { (r s : Rectangle) → IsTrue (is_rectangle r.x0 r.y0 r.x1 r.y1) →
         IsTrue (is_rectangle s.x0 s.y0 s.x1 s.y1) →
         ((x y : ℕ) → has_pixel r x y ≡ has_pixel s x y) → r ≡ s }
 {}
 
-/// A rectangle made from bounds has the pixels between them.
+/// A rectangle made from bounds is in canonical form, and has exactly the pixels within the bounds.
 pub fn pixels_within_bounds()
     ensures rectangle { (x0 y0 x1 y1 : ℕ) →
         let r = rectangle_or_empty x0 y0 x1 y1 in IsTrue (is_rectangle r.x0 r.y0 r.x1 r.y1) }

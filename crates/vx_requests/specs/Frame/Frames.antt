@@ -74,7 +74,7 @@ said_length bytes = from_be_bytes w32 (take 4 bytes)
 abbrev pub IsBegun : List ℕ → Type 0
 IsBegun rest = 4 ≤ length rest → IsLength (said_length rest) × (length rest < said_length rest + 4)
 
--- the beginning of a frame, of at least one byte
+-- the beginning of a frame: at least one byte, but not the whole frame
 abbrev pub IsTruncated : List ℕ → Type 0
 IsTruncated rest = (0 < length rest) × IsBegun rest
 
@@ -97,7 +97,7 @@ pub record Splits (stream : List ℕ) (frames : List Frame) (rest : List ℕ) : 
 abbrev pub request_frame : ℕ → Request → Frame
 request_frame client request = record { client = client; op = op_number (op_of request); body = body_of request }
 
--- whether a request fits a frame; only a request with a text that is too long does not
+-- whether a request fits a frame: every request does, unless it has a text that is too long
 abbrev pub fits_a_frame : Request → Bool
 fits_a_frame (WriteImagePgm image text) = nat_le (length text) GREATEST_TEXT
 fits_a_frame request = true

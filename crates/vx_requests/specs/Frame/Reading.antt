@@ -13,7 +13,7 @@ use Rattle.vx_requests.specs.Frame.Frames.{IsBegun, IsTruncated, IsLength, said_
 
 -- ---- the bytes that were read
 
--- reading stopped within a frame with this fault; after Truncated, no bytes are left in the source
+-- reading stopped with this fault, within a frame; after Truncated, no bytes are left in the source
 abbrev pub BreaksIn : StreamFault → Option (List ℕ) → Type 0
 BreaksIn Truncated left = IsAtEnd left
 BreaksIn ReadFailed left = Unit {0}

@@ -34,10 +34,10 @@ const TEXT_HEAD: usize = 25;
 
 /// Writes the frame of a reply, and flushes the sink.
 ///
-/// `client` and `op` are those of the request. A picture's samples, a text's bytes or a
-/// distribution's counts are written last. Everything before them takes one write. The only fault
-/// is `WriteFailed`: a write or the flush failed, and part or all of the frame may have been
-/// written.
+/// `client` and `op` are those of the request. One call of `write_all` writes the whole frame, or
+/// everything before a picture's samples, a text's bytes or a distribution's counts. Further calls
+/// write these. The only fault is `WriteFailed`: a write or the flush failed, and part or all of
+/// the frame may have been written.
 pub fn write_reply<K: Sink>(
     sink: &mut K,
     client: u16,
@@ -246,7 +246,7 @@ fn put_text_head(bytes: &mut [u8; TEXT_HEAD], client: u16, op: u8, desc: Desc) -
 }
 
 /// Returns the bytes before a body of `count` bytes in a reply that isn't a refusal. A length above
-/// 2^32 - 1 would lose its upper bytes, but the server's texts and counts are shorter.
+/// 2^32 - 1 would lose its upper bytes, but no reply of the server is that long.
 fn head_before(count: usize, client: u16, op: u8) -> [u8; 8]
     requires { count + 4 < 2 ^ 64 }
     ensures { result ≡ reply_head (count + 4) client op 0 }

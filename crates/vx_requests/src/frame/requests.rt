@@ -31,7 +31,7 @@ use vx_wire::{
 /// Writes the frame in which a client sends a request. Does not flush the sink, and allocates
 /// nothing.
 ///
-/// The caller has to check that the request fits a frame (`fits_a_frame`). The only fault is
+/// The caller must check that the request fits a frame (`fits_a_frame`). The only fault is
 /// `WriteFailed`: a write failed, and part of the frame may have been written. Ensures that the
 /// request's fields are in the ranges of their types (`IsRequest`). Parsing the frame's body
 /// therefore gives an equal request.
@@ -103,7 +103,7 @@ pub fn write_request<K: Sink>(
     }
 }
 
-/// Writes a frame whose body is a name, in one write.
+/// Writes a frame whose body is a name, in one call of `write_all`.
 fn write_name<K: Sink>(sink: &mut K, client: u16, op: Op, name: u32) -> Result<(), StreamFault>
     requires { K.failures sink.old < 2 ^ 62 }
     ensures { WritesAll K.taken K.failures sink.old sink.new
@@ -113,7 +113,7 @@ fn write_name<K: Sink>(sink: &mut K, client: u16, op: Op, name: u32) -> Result<(
     write_short(sink, client, op.number(), &name.to_be_bytes())
 }
 
-/// Writes a frame whose body is a name and a field of at most 25 bytes, in one write.
+/// Writes a frame whose body is a name and a field of at most 25 bytes, in one call of `write_all`.
 fn write_named<K: Sink>(
     sink: &mut K,
     client: u16,
@@ -145,7 +145,7 @@ fn spell_named(name: u32, field: &[u8], body: &mut [u8])
     body[4..].copy_from_slice(field);
 }
 
-/// Writes a frame whose body is a reference, in one write.
+/// Writes a frame whose body is a reference, in one call of `write_all`.
 fn write_reference<K: Sink>(
     sink: &mut K,
     client: u16,
@@ -163,7 +163,7 @@ fn write_reference<K: Sink>(
     write_short(sink, client, op.number(), &reference_bytes(reference))
 }
 
-/// Writes a frame whose body has at most 29 bytes, in one write.
+/// Writes a frame whose body has at most 29 bytes, in one call of `write_all`.
 fn write_short<K: Sink>(sink: &mut K, client: u16, op: u8, body: &[u8]) -> Result<(), StreamFault>
     requires failures_fit { K.failures sink.old < 2 ^ 62 }
     requires short { length body.now ≤ 29 }
@@ -196,8 +196,8 @@ fn frame_head(len: u32, client: u16, op: u8) -> [u8; 7]
     [a, b, c, d, e, f, op]
 }
 
-/// Writes the frame of a `WriteImage`: everything before the samples in one write, and then the
-/// samples.
+/// Writes the frame of a `WriteImage`: everything before the samples in one call of `write_all`,
+/// and then the samples.
 fn write_write_image<K: Sink>(
     sink: &mut K,
     client: u16,
@@ -226,8 +226,8 @@ fn image_head_bytes(client: u16, image: ObjRef, desc: Desc) -> [u8; 17]
     bytes
 }
 
-/// Writes the frame of a `WriteImagePgm`: everything before the text in one write, and then the
-/// text.
+/// Writes the frame of a `WriteImagePgm`: everything before the text in one call of `write_all`,
+/// and then the text.
 fn write_write_image_pgm<K: Sink>(
     sink: &mut K,
     client: u16,
@@ -257,7 +257,7 @@ fn image_pgm_head_bytes(client: u16, image: ObjRef, count: usize) -> [u8; 12]
     bytes
 }
 
-/// Writes the frame of a `SetValid`, in one write.
+/// Writes the frame of a `SetValid`, in one call of `write_all`.
 fn write_set_valid<K: Sink>(
     sink: &mut K,
     client: u16,
@@ -274,8 +274,8 @@ fn write_set_valid<K: Sink>(
     write_short(sink, client, Op::SetValid.number(), &body)
 }
 
-/// Writes the frame of a `CreateLut`: everything before the entries in one write, and then the
-/// entries.
+/// Writes the frame of a `CreateLut`: everything before the entries in one call of `write_all`, and
+/// then the entries.
 fn write_create_lut<K: Sink>(sink: &mut K, client: u16, lut: &Lut) -> Result<(), StreamFault>
     requires { K.failures sink.old < 2 ^ 62 }
     ensures { WritesAll K.taken K.failures sink.old sink.new
@@ -300,7 +300,7 @@ fn create_lut_head(client: u16, format: Format, count: usize) -> [u8; 8]
     [a, b, c, d, e, f, op, format_number(format)]
 }
 
-/// Writes the frame of a `CreateThreshold`, in one write.
+/// Writes the frame of a `CreateThreshold`, in one call of `write_all`.
 fn write_create_threshold<K: Sink>(
     sink: &mut K,
     client: u16,
@@ -325,8 +325,8 @@ fn write_create_threshold<K: Sink>(
     }
 }
 
-/// Writes the frame of a `CreateConvolution`: everything before the coefficients in one write, and
-/// then the coefficients.
+/// Writes the frame of a `CreateConvolution`: everything before the coefficients in one call of
+/// `write_all`, and then the coefficients.
 fn write_create_convolution<K: Sink>(
     sink: &mut K,
     client: u16,
@@ -353,7 +353,7 @@ fn create_convolution_head(client: u16, convolution: &Convolution) -> [u8; 10]
     [a, b, c, d, e, f, op, columns, rows, convolution.exponent()]
 }
 
-/// Writes the frame of a `CreateDelay`, in one write.
+/// Writes the frame of a `CreateDelay`, in one call of `write_all`.
 fn write_create_delay<K: Sink>(
     sink: &mut K,
     client: u16,

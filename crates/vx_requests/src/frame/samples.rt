@@ -29,7 +29,7 @@ pub fn write_samples<K: Sink>(sink: &mut K, samples: &Samples) -> Result<(), Str
     }
 }
 
-/// Writes numbers of several bytes each, encoded as samples, in blocks of 1024 numbers.
+/// Writes numbers of several bytes each, encoded as samples, in blocks of at most 1024 numbers.
 pub fn write_wide<S: WideSample, K: Sink>(sink: &mut K, samples: &[S]) -> Result<(), StreamFault>
     requires { K.failures sink.old < 2 ^ 62 }
     ensures { WritesAll K.taken K.failures sink.old sink.new
@@ -45,7 +45,7 @@ pub fn write_wide<S: WideSample, K: Sink>(sink: &mut K, samples: &[S]) -> Result
     Ok(())
 }
 
-/// Encodes samples into the front of the block, and writes the encoded bytes. The block has to be
+/// Encodes samples into the front of the block, and writes the encoded bytes. The block must be
 /// long enough for all of these bytes.
 fn write_sample_block<S: WideSample, K: Sink>(
     sink: &mut K,

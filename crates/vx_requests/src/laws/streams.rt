@@ -81,7 +81,7 @@ pub fn lost_shows()
 {}
 
 /// Let the source's bytes be known. Let `serve` succeed, or fail with `Truncated` or `BadLength`.
-/// The frames that `serve` read and all bytes after them are then the split of the source's bytes.
+/// The source's bytes then split into the frames that `serve` read and all bytes after them.
 pub fn session_splits()
     ensures { (limits : LimitsValue) (input more : List ℕ) (taken_old taken_new : Option (List ℕ))
         (old new : ℕ → State) (result : Result Summary StreamFault) →

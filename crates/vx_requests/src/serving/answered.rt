@@ -33,7 +33,7 @@ pub struct Answered {
 }
 
 /// Writes the frame of a reply, flushes the sink, and returns the reply's code. An image's samples
-/// are read from `runtime`, which has to be in the state after the request.
+/// are read from `runtime`, which must be in the state after the request.
 pub fn write_answered<K: Sink>(
     sink: &mut K,
     runtime: &Runtime,

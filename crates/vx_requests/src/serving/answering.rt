@@ -1,4 +1,4 @@
-//! Reads the bytes after a frame's length, and returns the runtime's reply.
+//! Reads the payload of a frame (the client, the op and the body), and answers the frame.
 ghost use Rattle.std.specs.Prelude.{◌≡◌, ℕ, ◌<◌, ◌≤◌, ◌^◌, List, length, All, Ok, IfOk};
 ghost use Rattle.client_model.specs.Limits.{LimitsValue};
 ghost use Rattle.client_model.specs.Context.{State};
@@ -31,7 +31,7 @@ struct RequestFrame<'a> {
     body: &'a [u8],
 }
 
-/// Reads the `length` bytes after a frame's length, and answers the frame.
+/// Reads a payload of `length` bytes, and answers its frame.
 pub fn answer_payload<S: Source>(
     alloc: Global,
     reader: &mut Reader<S>,
@@ -60,7 +60,7 @@ pub fn answer_payload<S: Source>(
     })
 }
 
-/// Fills the buffer with the bytes after a frame's length, and answers the frame.
+/// Fills the buffer with a frame's payload, and answers the frame.
 fn answer_small<S: Source>(
     alloc: Global,
     reader: &mut Reader<S>,
@@ -173,7 +173,8 @@ fn frame_in(bytes: &[u8]) -> RequestFrame<'_>
     }
 }
 
-/// Returns the reply to a frame.
+/// Answers a frame, and returns the content of the reply. If the reply is NO_MEMORY, drops the free
+/// blocks.
 fn answer_frame(alloc: Global, runtime: &mut Runtime, frame: &RequestFrame) -> ReplyContent
     ensures replies { let f = frame_of frame.now.client frame.now.op frame.now.body.now in
         IsReply runtime.old.limits f (states_of runtime.old) (states_of runtime.new)
@@ -190,8 +191,8 @@ fn answer_frame(alloc: Global, runtime: &mut Runtime, frame: &RequestFrame) -> R
     content
 }
 
-/// Returns the reply to a frame, or the refusal of a body that encodes no request. The text of a
-/// WriteImagePgm is parsed in place.
+/// Answers a frame, and returns the content of the reply. A body that encodes no request is
+/// refused. The text of a WriteImagePgm isn't copied.
 fn content_for(alloc: Global, runtime: &mut Runtime, frame: &RequestFrame) -> ReplyContent
     ensures replies { let f = frame_of frame.now.client frame.now.op frame.now.body.now in
         IsReply runtime.old.limits f (states_of runtime.old) (states_of runtime.new)
@@ -209,8 +210,8 @@ fn content_for(alloc: Global, runtime: &mut Runtime, frame: &RequestFrame) -> Re
     }
 }
 
-/// Returns the runtime's reply, or NO_MEMORY. For ReadImage and ReadImagePgm, returns the image's
-/// reference, so that nothing is copied.
+/// Answers a request with the runtime's reply, or with NO_MEMORY. For ReadImage and ReadImagePgm,
+/// returns the image's reference, so that nothing is copied.
 fn answer_request(
     alloc: Global,
     runtime: &mut Runtime,

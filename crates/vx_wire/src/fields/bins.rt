@@ -21,8 +21,8 @@ fn take_up_to_256(fields: &mut Fields) -> Result<u16, BodyFault>
     }
 }
 
-/// Reads the offset, which is the least sample that falls into a bin: 0 to 255. `InvalidValue`: out
-/// of range.
+/// Reads the offset: 0 to 255. The offset is the least sample that falls into a bin.
+/// `InvalidValue`: above 255.
 fn take_offset(fields: &mut Fields) -> Result<u16, BodyFault>
     ensures taken { Takes take_offset fields.old fields.new result }
     ensures limit { IfOk result (λ n. n < 256) }
@@ -35,7 +35,8 @@ fn take_offset(fields: &mut Fields) -> Result<u16, BodyFault>
     }
 }
 
-/// Reads the bins of a distribution. The range may end above 255.
+/// Reads the bins of a distribution. The last value that they cover, offset + range - 1, may be
+/// above 255.
 pub fn take_bins(fields: &mut Fields) -> Result<Bins, BodyFault>
     ensures { Takes take_bins fields.old fields.new result }
 {

@@ -24,7 +24,7 @@ fn take_odd_side(fields: &mut Fields) -> Result<u8, BodyFault>
     }
 }
 
-/// Reads the exponent of the power of two by which sums are divided: 0 to 31. `InvalidValue`: above
+/// Reads the exponent n, 0 to 31, of the scale 2^n by which sums are divided. `InvalidValue`: above
 /// 31.
 fn take_exponent(fields: &mut Fields) -> Result<u8, BodyFault>
     ensures taken { Takes take_exponent fields.old fields.new result }

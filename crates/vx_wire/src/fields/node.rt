@@ -49,8 +49,8 @@ fn border_bytes(border: Border) -> [u8; 2]
     }
 }
 
-/// Reads the overflow policy: 0 for WRAP, or 1 for SATURATE if the function has a policy.
-/// `InvalidParameters`: another number.
+/// Reads the overflow policy: 0 for WRAP or 1 for SATURATE. If the function has no policy, the
+/// number must be 0. `InvalidParameters`: another number.
 fn take_policy(fields: &mut Fields, parameters: Parameters) -> Result<Policy, BodyFault>
     ensures taken { Takes (take_policy parameters) fields.old fields.new result }
     ensures has { IfOk result (λ p. IsTrue (parameters.policy || is_wrap p)) }

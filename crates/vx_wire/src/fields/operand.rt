@@ -66,8 +66,8 @@ fn first_output(parameters: Parameters) -> Presence
     }
 }
 
-/// Returns whether the second output is required, absent or optional. Of a pair of outputs, at
-/// least one is required.
+/// Returns whether the second output is required, absent or optional. In a pair of outputs, the
+/// second is required if the first is absent.
 fn second_output(parameters: Parameters, out1: &Option<ObjRef>) -> Presence
     ensures { result ≡ second_output parameters out1.now }
 {

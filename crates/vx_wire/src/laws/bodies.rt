@@ -5,8 +5,8 @@ ghost use Rattle.vx_wire.specs.Op.{op_number, op_of};
 ghost use Rattle.vx_wire.specs.Requests.{request_of, body_of};
 ghost use Rattle.client_model.specs.Request.{IsRequest};
 
-/// Parsing the op and the body of a request gives the request back. The request's fields have to be
-/// in the ranges of their types.
+/// Parsing the op and the body of a request gives the request back. The request's fields must be in
+/// the ranges of their types.
 pub fn body_is_read_back()
     ensures { (request : Request) → IsRequest request →
         request_of (op_number (op_of request)) (body_of request) ≡ Ok request }

@@ -3,11 +3,11 @@ use Rattle.graph_run.proofs.Common.{Description, second_object}
 use Rattle.image_core.specs.Bands.{all_rows}
 use Rattle.graph_steps.specs.Steps.{CanMake}
 use Rattle.graph_steps.proofs.KernelLaws.{all_written}
-use Rattle.graph_run.proofs.OnceLemmas.{can_make_beside, image_back, plane_whole}
+use Rattle.graph_run.proofs.OnceLemmas.{output_can, image_back, plane_whole}
 use Rattle.graph_run.proofs.once.write_to.Goals as goal
 
 pub write-requires-clause-can : goal.write-requires-clause-can
-write-requires-clause-can c = grind (arith, can_make_beside c.args.table.now c.args.node.now c.args.which c.args.output c.args.plane c.requires.taken c.requires.runs)
+write-requires-clause-can c = grind (arith, output_can c.args.table.now c.args.node.now c.args.which c.args.output c.args.plane c.requires.taken c.requires.runs)
 
 pub returns : goal.returns
 returns c =
@@ -16,7 +16,7 @@ returns c =
     let p = c.args.plane in
     let q = c.write.new.self in
     let whole = plane_whole t n c.args.which c.args.output p c.requires.taken c.requires.runs in
-    let held = can_make_beside t n c.args.which c.args.output p c.requires.taken c.requires.runs in
+    let held = output_can t n c.args.which c.args.output p c.requires.taken c.requires.runs in
     let can : CanMake c.of_lent-step.result c.image-first.result (second_object c.second_of-second.result) p.desc = search rules in
     let made = all_written c.of_lent-step.result c.image-first.result (second_object c.second_of-second.result) p whole can q c.whole-rows.result
     (c.whole-rows.ensures ∙ ap (λ (d : Description). all_rows d.height) c.desc.ensures) c.write.ensures in
