@@ -21,7 +21,7 @@ use vx_base::{Convolution, Kind, Node, ObjRef, Output};
 /// The data that determine the indices and radii in a graph's tasks.
 #[derive(Clone, Copy)]
 pub struct Binding<'a> {
-    /// The objects, for the sizes of matrices.
+    /// The table with the matrices, whose sizes determine radii.
     pub table: &'a Table,
     /// The height of the tallest image.
     pub high: u16,

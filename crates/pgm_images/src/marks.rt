@@ -102,9 +102,10 @@ fn with_digit(number: u8, digit: u8, is_digit: bool) -> u8
 /// values:
 ///
 /// 1. the number
-/// 2. the length in bytes of the whitespace byte and the number, or 0 if no number is read
-/// 3. whether this function can't read the bytes: the number has more than three digits or is above
-///    the maxval, or the first byte is neither whitespace nor a digit
+/// 2. the length in bytes of the whitespace byte and the number; 0 if `blank` isn't whitespace or no
+///    digit follows it, and if value 3 is true
+/// 3. whether a slower function must read the bytes: the number has more than three digits or is
+///    above the maxval, or `blank` is neither whitespace nor a digit
 ///
 /// The processor can't predict the number of digits, so nothing here branches on it.
 #[inline(always)]
