@@ -45,6 +45,16 @@ class Units(unittest.TestCase):
         self.assertEqual(service["Slice"], ["feqyldan.slice"])
         self.assertIn("MemoryMax", unit("feqyldan.slice"))
 
+    def test_each_server_has_a_user_of_its_own(self) -> None:
+        service = unit("feqyldan@.service")
+        self.assertEqual(service["DynamicUser"], ["yes"])
+        # systemd 252 has this for %i: the connection's number, and the process and the user at its
+        # other end. These are the greatest numbers.
+        greatest = f"{2**32 - 1}-{2**22}-{2**32 - 2}"
+        user = service["User"][0].replace("%i", greatest)
+        self.assertIn(greatest, user)
+        self.assertRegex(user, r"^[a-z][a-z0-9-]{0,30}$")
+
     def test_what_they_start_ends_in_time(self) -> None:
         for name, module in SERVICES.items():
             service, sockets = unit(f"{name}.service"), unit(f"{name}.socket")

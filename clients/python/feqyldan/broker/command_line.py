@@ -81,7 +81,7 @@ def add_memory(made: argparse.ArgumentParser) -> None:
              "broker's control group, divided among the servers)")
     add("--own-memory", type=memory_from, default=0, metavar="BYTES",
         help="most bytes of address space of the broker itself, or 'unlimited' (default: a "
-             "quarter of the same memory)")
+             f"quarter of the same memory, at least {LEAST_OWN_MEMORY})")
     add("--bytes-held", type=partial(number_from, 7, GREATEST_LENGTH + 4), default=BYTES_HELD,
         metavar="BYTES", help="most bytes of a request frame, and of a reply (default: "
                               f"{BYTES_HELD}, enough for an image of 8192x8192 U32)")
