@@ -1,15 +1,16 @@
 /*
  * OpenVX's calls for the vision server Feqyldan.
  *
- * Names, types, numbers and signatures are those of OpenVX 1.3. A call that the server can't serve
- * returns VX_ERROR_NOT_SUPPORTED; docs/from_openvx.md lists these calls. This library is not a
- * conformant implementation of OpenVX.
+ * Names, types, numbers and signatures are those of OpenVX 1.3, as far as they could be checked.
+ * docs/from_openvx.md lists the calls that the server can't serve. Nearly all of them return
+ * VX_ERROR_NOT_SUPPORTED, or an object with that status. This library is not a conformant
+ * implementation of OpenVX.
  *
  * The environment says where the server is. FEQYLDAN_SOCKET is the path of a socket. Without it,
  * each context starts a program: FEQYLDAN_PROGRAM, or else `feqyldan` or `vx_main` from PATH.
  * FEQYLDAN_QUOTA limits the bytes of a context's samples on a program that it starts, and
- * FEQYLDAN_TIMEOUT the seconds that a call waits without a byte from the server. Several threads
- * may use one context. A child of fork() can't use its parent's contexts.
+ * FEQYLDAN_TIMEOUT the seconds for which the server may neither take nor send a byte while a call
+ * waits. Several threads may use one context. A child of fork() can't use its parent's contexts.
  *
  * Every function may return these errors, which aren't repeated below:
  *
@@ -19,8 +20,9 @@
  *   VX_ERROR_NO_MEMORY           there is no memory; nothing has changed
  *   VX_FAILURE                   the server has ended or is late; a log entry says which
  *
- * A function that makes an object never returns NULL, except without a valid context: vxGetStatus
- * of the object gives the error. Given an object that couldn't be made, it returns that object.
+ * A function that makes an object returns NULL only if its first argument isn't valid. Otherwise
+ * vxGetStatus of the object gives the error. Given an object that couldn't be made, it returns that
+ * object.
  */
 #ifndef VX_VX_H
 #define VX_VX_H

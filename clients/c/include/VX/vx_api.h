@@ -349,7 +349,8 @@ VX_API_ENTRY vx_status VX_API_CALL vxReleaseDelay(vx_delay *delay);
 /* ---- Graphs ---- */
 
 VX_API_ENTRY vx_graph VX_API_CALL vxCreateGraph(vx_context context);
-/* VX_GRAPH_PERFORMANCE: a vx_perf_t of the successful runs, from the request to the reply. */
+/* VX_GRAPH_PERFORMANCE: a vx_perf_t of the successful runs, each up to the end of vxProcessGraph or
+   vxWaitGraph. */
 VX_API_ENTRY vx_status VX_API_CALL vxQueryGraph(vx_graph graph, vx_enum attribute, void *ptr,
                                                 vx_size size);
 VX_API_ENTRY vx_status VX_API_CALL vxReleaseGraph(vx_graph *graph);
@@ -441,8 +442,9 @@ VX_API_ENTRY vx_status VX_API_CALL vxSetGraphParameterByIndex(vx_graph graph, vx
 /*
  * ---- What the server can't do ----
  *
- * These calls are declared so that programs compile. Each adds a log entry and returns
- * VX_ERROR_NOT_SUPPORTED, or an object with that status, whose typed release returns
+ * These calls are declared so that programs compile. Each, except a release, adds a log entry.
+ * Calls that register a type return VX_TYPE_INVALID, and vxRetrieveNodeCallback returns NULL. All
+ * others return VX_ERROR_NOT_SUPPORTED, or an object with that status, whose typed release returns
  * VX_ERROR_INVALID_REFERENCE. docs/from_openvx.md lists these calls.
  */
 

@@ -17,7 +17,7 @@ extern "C" {
  *   VX_ERROR_INVALID_SCOPE  an image is a virtual image of another graph
  *   VX_ERROR_INVALID_VALUE  not a policy
  *   VX_ERROR_INVALID_TYPE   a scalar or an array of the wrong type
- *   VX_ERROR_NOT_SUPPORTED  a rounding policy other than VX_ROUND_POLICY_TO_ZERO
+ *   VX_ERROR_NOT_SUPPORTED  VX_ROUND_POLICY_TO_NEAREST_EVEN
  *
  * A log entry says more, and vxVerifyGraph then returns VX_ERROR_INVALID_NODE. vxVerifyGraph checks
  * the formats and sizes of the images.

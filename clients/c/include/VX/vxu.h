@@ -9,7 +9,7 @@
  *
  *   VX_ERROR_INVALID_FORMAT     the formats of the images
  *   VX_ERROR_INVALID_DIMENSION  the sizes of the images
- *   VX_ERROR_INVALID_VALUE      a policy, shift or threshold that isn't allowed
+ *   VX_ERROR_INVALID_VALUE      a policy, scale, shift or threshold that isn't allowed
  *   VX_ERROR_INVALID_TYPE       a scalar or an array of the wrong type
  *   VX_ERROR_OPTIMIZED_AWAY     an image is virtual
  *   VX_ERROR_INVALID_GRAPH      an output is an input too
@@ -41,8 +41,8 @@ VX_API_ENTRY vx_status VX_API_CALL vxuSubtract(vx_context context, vx_image in1,
                                                vx_enum policy, vx_image out);
 
 /* in1 * in2 * scale, rounded toward zero and narrowed by the overflow policy. Formats as for
-   vxuAdd. VX_ERROR_NOT_SUPPORTED: a scale other than 1 / 2^n with n from 0 to 15, or a rounding
-   policy other than VX_ROUND_POLICY_TO_ZERO. */
+   vxuAdd. VX_ERROR_NOT_SUPPORTED: a scale that is neither negative nor 1 / 2^n with n from 0 to 15,
+   or VX_ROUND_POLICY_TO_NEAREST_EVEN. */
 VX_API_ENTRY vx_status VX_API_CALL vxuMultiply(vx_context context, vx_image in1, vx_image in2,
                                                vx_float32 scale, vx_enum overflow_policy,
                                                vx_enum rounding_policy, vx_image out);
