@@ -252,9 +252,21 @@ class Memory(BrokerTest):
         deaf = [self.connect(broker) for _ in range(5)]
         for program in deaf:
             program.send(plain(MANY_BYTES, struct.pack(">I", 3_000_000)))
-        self.assertTrue(broker.says("the broker has no memory for its replies (--total-held)"))
+        self.assertTrue(broker.says("(--total-held)"))
         self.assertLessEqual(broker.state()["bytes_held"], 5_000_000)
         self.assertEqual(self.connect(broker).ask(plain(50)), success(50))
+
+    def test_replies_that_nobody_takes_end_no_other_connection(self) -> None:
+        broker = self.begin("--total-held", "5000000", tells_state=True)
+        deaf = [self.connect(broker) for _ in range(4)]
+        for program in deaf:
+            program.send(plain(MANY_BYTES, struct.pack(">I", 1_400_000)))
+        self.assertTrue(broker.wait_for(lambda: broker.state()["bytes_held"] > 4_000_000))
+        late = self.connect(broker)
+        late.send(plain(MANY_BYTES, struct.pack(">I", 1_200_000)))
+        # One of the others holds more than this reply.
+        self.assertTrue(broker.says("(--total-held)"))
+        self.assertEqual(len(late.reply()), 1_200_008)
 
     def test_the_broker_has_a_limit_of_its_own(self) -> None:
         quarter = os.sysconf("SC_PAGE_SIZE") * os.sysconf("SC_PHYS_PAGES") // 4

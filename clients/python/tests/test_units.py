@@ -45,15 +45,14 @@ class Units(unittest.TestCase):
         self.assertEqual(service["Slice"], ["feqyldan.slice"])
         self.assertIn("MemoryMax", unit("feqyldan.slice"))
 
-    def test_each_server_has_a_user_of_its_own(self) -> None:
+    def test_servers_of_one_user_are_separate(self) -> None:
         service = unit("feqyldan@.service")
-        self.assertEqual(service["DynamicUser"], ["yes"])
-        # systemd 252 has this for %i: the connection's number, and the process and the user at its
-        # other end. These are the greatest numbers.
-        greatest = f"{2**32 - 1}-{2**22}-{2**32 - 2}"
-        user = service["User"][0].replace("%i", greatest)
-        self.assertIn(greatest, user)
-        self.assertRegex(user, r"^[a-z][a-z0-9-]{0,30}$")
+        self.assertEqual((service["User"], service["PrivateUsers"], service["ProtectProc"]),
+                         (["feqyldan"], ["yes"], ["invisible"]))
+        excluded = {name for line in service["SystemCallFilter"] if line.startswith("~")
+                    for name in line[1:].split()}
+        for name in ("kill", "tgkill", "pidfd_send_signal", "process_vm_readv"):
+            self.assertIn(name, excluded)
 
     def test_what_they_start_ends_in_time(self) -> None:
         for name, module in SERVICES.items():

@@ -119,13 +119,22 @@ class Connection:
         self.taken_at = now
         return sent
 
-    def put_reply(self, piece: memoryview, now: float) -> None:
-        sent = 0
-        if not self.outgoing:
-            sent, self.taken_at = self.send(piece, now), now
-        if sent < len(piece):
-            self.total.take(len(piece) - sent)
-            self.outgoing += piece[sent:]
+    def put_reply(self, piece: memoryview, now: float) -> memoryview:
+        """Sends a piece of a reply, unless earlier pieces wait. Returns what wasn't sent."""
+        if self.outgoing:
+            return piece
+        sent, self.taken_at = self.send(piece, now), now
+        return piece[sent:]
+
+    def let_wait(self, piece: memoryview) -> None:
+        """Keeps a piece of a reply until the connection takes it. Raises TotalReached if too many
+        bytes would wait for all connections together, and MemoryError if there is no memory."""
+        self.total.take(len(piece))
+        try:
+            self.outgoing += piece
+        except MemoryError:
+            self.total.give(len(piece))
+            raise
 
     @property
     def most_waiting(self) -> int:

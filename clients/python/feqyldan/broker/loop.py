@@ -174,9 +174,9 @@ class Broker(Front):
         if connection.is_open:
             self.settle(connection)
 
-    def end_greatest(self) -> None:
-        """Ends the connection that holds the most bytes."""
-        greatest = max(self.open, key=lambda connection: connection.bytes_held)
+    def end_greatest(self, growing: Optional[Connection] = None, more: int = 0) -> None:
+        """Ends the connection that holds the most bytes, if `growing` held `more` bytes."""
+        greatest = max(self.open, key=lambda one: one.bytes_held + more * (one is growing))
         self.end(greatest, f"{greatest.bytes_held} bytes of its frames or replies wait, the most "
                            f"of {self.total.bytes} in all (--total-held)")
 
@@ -301,17 +301,26 @@ class Broker(Front):
             return
         self.counts.bytes_out += len(piece.bytes)
         try:
-            connection.put_reply(piece.bytes, self.now)
+            self.let_wait(connection, connection.put_reply(piece.bytes, self.now))
         except OSError:
             self.end(connection)
         except MemoryError:
-            self.end(connection, "the broker has no memory for its replies (--total-held)")
-        else:
-            if len(connection.outgoing) > connection.most_waiting:
-                self.end(connection,
-                         f"{len(connection.outgoing)} bytes of replies wait for it (--bytes-held)")
-            elif connection.outgoing:
-                self.watch(connection)
+            self.end(connection, "the broker has no memory for its replies (--own-memory)")
+
+    def let_wait(self, connection: Connection, piece: memoryview) -> None:
+        """Keeps the piece of a reply that a connection doesn't take now. If too many bytes would
+        wait for all connections together, first ends those that hold the most."""
+        while piece and connection.is_open:
+            try:
+                connection.let_wait(piece)
+                break
+            except TotalReached:
+                self.end_greatest(connection, len(piece))
+        if len(connection.outgoing) > connection.most_waiting:
+            self.end(connection,
+                     f"{len(connection.outgoing)} bytes of replies wait for it (--bytes-held)")
+        elif connection.outgoing:
+            self.watch(connection)
 
     def complete(self, server: Server, turn: Turn) -> None:
         """Handles the end of a turn: the server has answered all of its requests."""
