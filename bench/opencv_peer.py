@@ -23,7 +23,7 @@ first = numpy.frombuffer(bytes(range(256)) * (pixels // 256), numpy.uint8).resha
                                                                                    width).copy()
 second = first[:, ::-1].copy()
 shorts = numpy.arange(pixels, dtype=numpy.uint16).astype(numpy.int16).reshape(height, width)
-others = shorts[:, ::-1].copy()
+others = shorts[::-1, ::-1].copy()
 byte_output, short_output = numpy.empty_like(first), numpy.empty_like(shorts)
 short_sums, float_sums = numpy.zeros_like(shorts), numpy.zeros_like(first, numpy.float32)
 table = numpy.arange(255, -1, -1, dtype=numpy.uint8)

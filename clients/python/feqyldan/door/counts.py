@@ -10,7 +10,8 @@ from ..service.metrics import ACCEPTED, MEMORY, metric, metrics_of, metrics_of_s
 MEANINGS = {
     2: "its arguments are refused", 3: "its connection's frames have a fault, or ended within one",
     5: "there was no memory to start with"}
-# The exit statuses of servers whose connection ended.
+# The exit statuses of servers whose connection ended: by its end between two frames, or while the
+# server wrote a reply.
 USUAL = (0, 4)
 
 

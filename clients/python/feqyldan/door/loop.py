@@ -144,8 +144,7 @@ class Door(Front):
         self.descriptors.close(server.sock)
         self.admission.let_out(server.owner)
         self.counts.ended += 1
-        # SIGPIPE ends a server that wrote to a program that had left.
-        if status not in USUAL and status != -signal.SIGPIPE:
+        if status not in USUAL:
             self.counts.failed += 1
             self.lines.say(f"{server} {meaning_of(status)}")
 
