@@ -10,9 +10,9 @@ use std::alloc::{AllocError, Global};
 use std::marker::Model;
 use vx_base::Border;
 
-/// A row of a U8 image with `radius` more samples on each side. It is for kernels that need whole
-/// rows, border included. The kernels of window_kernels don't use it: they read rows without a
-/// copy, except that convolution loads pieces of several rows with `load_row`.
+/// A row of a U8 image, extended by `radius` samples on each side. It is for kernels that need
+/// whole rows, border included. The kernels of window_kernels don't use it: they read rows without
+/// a copy, except that convolution loads pieces of several rows with `load_row`.
 #[derive(Drop)]
 pub struct RowWindow {
     width: u16,

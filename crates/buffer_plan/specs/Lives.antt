@@ -23,8 +23,8 @@ is_live steps cell step = is_written (take step steps) cell && is_node_operand (
 abbrev pub is_in : ℕ → Life → Bool
 is_in step l = nat_le l.first step && nat_le step l.last
 
--- a life has exactly the steps at which the image is live, and begins with the first step that
--- writes the image
+-- a life has exactly the steps at which the image is live. It begins with the first step that
+-- writes the image, or after all steps if no step writes the image.
 pub record IsLife (steps : List Node) (l : Life) : Type 0 where
   pub first : l.first ≡ position_or_len (λ n. writes n l.image.cell) steps + 1
   pub live : (step : ℕ) → is_live steps l.image.cell step ≡ is_in step l

@@ -39,7 +39,7 @@ TakesSlot l ends ends' slot =
     ⊎ ((slot ≡ length ends) × (ends' ≡ ends ++ l.last ∷ [])
     × ((k : ℕ) → k < length ends → l.first ≤ slice_index_or ends k 0))
 
--- no image of the list has p's slot if the image and p are live at the same step
+-- if p and an image of the list are live at the same step, they have different slots
 abbrev pub IsApart : Placed → List Placed → Type 0
 IsApart p ps = (q : Placed) (step : ℕ) → In q ps → is_in step p.life ≡ true →
     is_in step q.life ≡ true → p.slot ≢ q.slot
@@ -49,15 +49,15 @@ abbrev pub AllApart : List Placed → Type 0
 AllApart [] = Unit {0}
 AllApart (p ∷ ps) = IsApart p ps × AllApart ps
 
--- at this step the number of live images reaches the count for the first time
+-- at this step the number of live images reaches `count` for the first time
 pub record IsReached (lives : List Life) (count step : ℕ) : Type 0 where
   pub some : 0 < count
   pub there : count ≤ count_in step lives
   pub fewer_before : (earlier : ℕ) → earlier < step → count_in earlier lives < count
 
 -- lives with their slots, and the size of each slot. If the lives are in the order of their first
--- steps, overlapping lives have different slots. In that case the number of images that are live at
--- the peak step reaches the number of slots.
+-- steps, and each ends no earlier than it begins, overlapping lives have different slots. In that
+-- case the peak step is the first step at which as many images are live as there are slots.
 pub record ArePlaced (lives : List Life) (p : Places) : Type 0 where
   pub each : map (λ q. q.life) p.placed.items ≡ lives
   pub below : (q : Placed) → In q p.placed.items → q.slot < length p.samples.items

@@ -7,8 +7,8 @@ ghost use Rattle.graph_verify.specs.Members.{In};
 ghost use Rattle.buffer_plan.specs.Lives.{is_node_operand};
 ghost use Rattle.buffer_plan.specs.Plan.{IsPlan, PlanView};
 
-/// When an image takes a slot, the image that was in the slot before is no longer used. Neither the
-/// step that writes the new image nor a later step reads or writes the old image.
+/// When an image takes a slot, the slot's earlier images are no longer used. Neither the step that
+/// writes the new image nor a later step reads or writes an earlier image.
 pub fn free_when_taken()
     ensures { (before after : List Node) (n : Node) (images : List VirtualOutput) (p : PlanView) →
         IsPlan (before ++ n ∷ after) images p → (taken held : VirtualOutput) →

@@ -42,8 +42,8 @@ impl Places {
     }
 }
 
-/// Returns the first slot that is free at step `first`. For each slot, `ends` has the last step at
-/// which the slot is in use.
+/// Returns the first slot that is free at step `first`, or `None` if no slot is free. For each
+/// slot, `ends` has the last step at which the slot is in use.
 fn free_slot(ends: &[usize], first: usize) -> Option<usize>
     ensures { result ≡ position (λ end. nat_lt end first) ends.now }
 {
@@ -62,8 +62,8 @@ fn take_slot(ends: &mut Vec<usize>, life: &Life) -> Result<usize, AllocError>
     Ok(ends.len() - 1)
 }
 
-/// Returns for each of `count` slots the greatest sample count of its images. Each image's slot
-/// must be below `count`.
+/// Returns the greatest sample count of each slot's images, for the slots below `count`. Each
+/// image's slot must be below `count`.
 fn greatest_samples(
     alloc: Global,
     placed: &[Placed],
@@ -94,8 +94,8 @@ fn peak_after(before: Option<usize>, life: &Life, is_new: bool) -> Option<usize>
 }
 
 /// Gives each image the first free slot, or a new slot if none is free. If the lives are in the
-/// order of their first steps, no valid assignment has fewer slots. An error means that there is no
-/// memory for the result.
+/// order of their first steps, and each ends no earlier than it begins, no valid assignment has
+/// fewer slots. An error means that there is no memory for the result.
 pub fn place(alloc: Global, lives: &[Life]) -> Result<Places, AllocError>
     ensures { IfOk result (λ places. ArePlaced lives.now places) }
 {

@@ -22,9 +22,9 @@ use Rattle.client_contexts.specs.declared.kept.KeptGraph.{KeptGraph}
 use Rattle.client_contexts.specs.declared.memory.NoMemory.{NoMemory}
 
 -- A valid cache entry under a name. If a graph is held under the name, the entry has the graph's
--- verification. No verdict refuses this graph within the entry's limit on work bytes. The plan
--- gives slots to the virtual images, for a run in the order of the verified steps. The schedule
--- fits a run on the objects that the nodes name.
+-- verification, and the graph can run within the entry's limit on work bytes. The plan gives slots
+-- to the virtual images, for a run in the order of the verified steps. The schedule fits a run on
+-- the objects that the nodes name.
 pub record IsKept (c : Context) (name : ℕ) (k : KeptGraph) : Type 0 where
   pub below : name < c.next
   pub ready : IfSome (object_held c.objects name) (λ object. IsReady c.objects (nodes_in object) k.verified)
@@ -77,10 +77,10 @@ ends_verification ReleaseContext name = true
 ends_verification (Release released) name = released == name
 ends_verification other name = changes_nodes other name
 
--- the effect of a request on its client's cache of verified graphs. VerifyGraph of a graph in the
--- cache never runs out of memory. After VerifyGraph or ProcessGraph has succeeded, the graph stays
--- in the cache until its nodes change, or the graph or the context is released. OpenVX 1.3,
--- "Object: Graph", vxVerifyGraph and vxProcessGraph.
+-- the effect of a request on its client's cache of verified graphs. VerifyGraph of a graph that is
+-- in the cache with this limit on work bytes never runs out of memory. After VerifyGraph or
+-- ProcessGraph has succeeded, the graph stays in the cache until its nodes change, or the graph or
+-- the context is released. OpenVX 1.3, "Object: Graph", vxVerifyGraph and vxProcessGraph.
 pub record KeepsVerified (work : ℕ) (request : Request) (old new : List (ℕ × ℕ)) (result : Result Reply NoMemory) : Type 0 where
   pub lost : OnErr result ((graph : ℕ) → request ≡ VerifyGraph graph → IsKeptWithin work graph old → ⊥)
   pub found : result ≡ Ok Empty → (graph : ℕ) → (request ≡ VerifyGraph graph) ⊎ (request ≡ ProcessGraph graph) → IsKeptWithin work graph new

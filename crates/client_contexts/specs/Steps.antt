@@ -107,7 +107,8 @@ abbrev pub name_refusal : Kind → Option ObjectValue → Option Refusal
 name_refusal wanted None = Some InvalidReference
 name_refusal wanted (Some object) = if same_kind wanted (object_kind object) then None else Some InvalidType
 
--- whether an object is outside a scope: a virtual image of another graph
+-- whether an object is outside the scope of a graph: the object is a virtual image of another
+-- graph. Without a scope, no object is outside.
 abbrev pub is_outside : Option ℕ → Option ObjectValue → Bool
 is_outside None object = false
 is_outside (Some graph) object = is_of_other_graph graph object
@@ -119,7 +120,7 @@ slot_refusal wanted scope slot object =
     else (if is_outside scope (in_slot slot object) then Some InvalidScope
     else (if is_none (in_slot slot object) then Some InvalidValue else None))
 
--- of two refusals of operands, the one that comes first in this order: InvalidReference,
+-- of up to two refusals of operands, the one that comes first in this order: InvalidReference,
 -- InvalidType, InvalidScope, InvalidValue
 abbrev pub first_class : Option Refusal → Option Refusal → Option Refusal
 first_class None other = other

@@ -56,8 +56,8 @@ fn described(image: &Stored) -> Described
     }
 }
 
-/// Returns the reply to a query of a virtual image: the declared format and sides, 0 for an open
-/// side, and an empty valid rectangle.
+/// Returns the reply to a query of a virtual image: the declared format, the declared sides (0 if
+/// open), and an empty valid rectangle.
 fn described_virtual(declared: PartialDesc) -> Described
     ensures { result ≡ described_virtual declared }
 {
@@ -81,7 +81,8 @@ pub fn query_image(table: &Table, reference: ObjRef) -> Result<Reply, Refusal>
     }))
 }
 
-/// Returns the reason, if any, why a picture can't be written to an image of this description.
+/// Returns the reason, if any, why a picture can't be written to an image, given the descriptions
+/// of both.
 fn picture_refusal(image: Desc, picture: Desc) -> Option<Refusal>
     ensures { result ≡ picture_refusal image picture }
 {
@@ -175,7 +176,7 @@ fn valid_refusal(image: Desc, valid: Rect) -> Option<Refusal>
     }
 }
 
-/// Sets the valid rectangle of an image, and each sample outside the rectangle to 0.
+/// Sets the valid rectangle of an image. Each sample outside the rectangle becomes 0.
 pub fn set_valid(table: &mut Table, reference: ObjRef, valid: Rect) -> Result<Reply, Refusal>
     requires { IsContext table.old }
     ensures comes { ComesTo (set_valid table.old reference valid) table.old table.new result }

@@ -145,8 +145,8 @@ fn find_operand(
     }
 }
 
-/// Returns the operand that a reference of a node names, or `None` without a reference. The operand
-/// is `known` if given, otherwise the one that `find_operand` returns.
+/// Returns the operand that a reference of a node names, or `None` without a reference. If the
+/// operand is in `known`, the reference isn't looked up.
 fn find_if_given(
     table: &Table,
     cell: Option<ObjRef>,

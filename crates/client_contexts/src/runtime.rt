@@ -34,8 +34,8 @@ use std::collections::BTreeMap;
 use std::marker::Model;
 use vx_base::{Code, Desc, Format, ObjRef};
 
-/// The open contexts, at most one for each client, with a pool and with lists for runs. The pool's
-/// blocks hold the samples of the clients' images. Runs of graphs reuse the memory of the lists.
+/// The open contexts (at most one for each client), a pool, and lists for runs. The pool's blocks
+/// hold the samples of the clients' images. Runs of graphs reuse the memory of the lists.
 #[derive(Drop)]
 pub struct Runtime {
     alloc: Global,

@@ -44,7 +44,7 @@ described_image image = record { format = Some image.format; width = image.width
 abbrev pub described_virtual : PartialDescription → Described
 described_virtual declared = record { format = declared.format; width = unwrap_or declared.width 0; height = unwrap_or declared.height 0; valid = empty_rectangle }
 
--- the result of QueryImage for an object; a refusal if the object isn't an image
+-- the result of QueryImage for an image or a virtual image; otherwise a refusal
 abbrev pub as_described : Option ObjectValue → Result Described Refusal
 as_described (Some (ImageObject image)) = Ok (described_image image)
 as_described (Some (VirtualObject image)) = Ok (described_virtual image.declared)

@@ -7,7 +7,7 @@ use vx_base::Code;
 /// Why a request is refused. A refused request changes nothing.
 #[derive(Clone, Copy, PartialEq, Eq, Debug)]
 pub enum Refusal {
-    /// A name isn't live, or the graph doesn't have the node that the request removes.
+    /// A name isn't live, or the graph doesn't have the node that the request should remove.
     InvalidReference,
     /// An object isn't of the kind that the request needs, or a reference names a slot of an object
     /// that isn't a delay.
@@ -23,7 +23,7 @@ pub enum Refusal {
     ///
     /// - the format of a picture isn't the image's format
     /// - an image that is read as a PGM text isn't U8
-    /// - a text that is written has no PGM header
+    /// - a text that is written to an image has no PGM header
     /// - the maxval of a PGM text isn't 1 to 32767
     /// - a PGM header isn't followed by exactly the number of samples that it states
     InvalidFormat,

@@ -36,7 +36,7 @@ pub enum Request {
     CreateThreshold(ThresholdRule),
     /// Creates a convolution matrix.
     CreateConvolution(Convolution),
-    /// Creates a distribution of these bins with each count 0.
+    /// Creates a distribution with these bins and all counts 0.
     CreateDistribution(Bins),
     /// Asks for the counts of the distribution with this name.
     ReadDistribution(u32),

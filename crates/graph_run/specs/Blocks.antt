@@ -30,19 +30,21 @@ blocks_of_format blocks format = sum_by (λ b. one_of (samples_format b) format)
 abbrev pub capacity_count : List (Format × ℕ) → Format → ℕ
 capacity_count capacities format = sum_by (λ r. one_of r.0 format) capacities
 
--- the number of samples in a band of `size` rows of an image, including the halo above and below
+-- the number of samples in a band of `size` rows of an image, with `rows` rows of halo above and
+-- below; at most the number in the whole image
 abbrev pub band_samples : ℕ → ℕ → Description → ℕ
 band_samples size rows desc = min desc.height (size + rows + rows) * desc.width
 
--- the number of samples that the slot `wanted` needs for a list of images: the most that any image
--- in the slot needs. The first image of the list has index k.
+-- the number of samples that the slot `wanted` needs for a list of images, in bands of `size` rows
+-- with their halos: the most that any image in the slot needs. The first image of the list has
+-- index k.
 abbrev pub samples_from : ℕ → List ℕ → ℕ → List VirtualOutput → List ℕ → ℕ → ℕ
 samples_from size halos k [] slots wanted = 0
 samples_from size halos k (o ∷ outs) [] wanted = 0
 samples_from size halos k (o ∷ outs) (s ∷ slots) wanted =
     max (if s == wanted then band_samples size (halo halos k) o.desc else 0) (samples_from size halos (k + 1) outs slots wanted)
 
--- the plan with slots that are large enough for bands of `size` rows
+-- the plan with slots that are large enough for bands of `size` rows with their halos
 abbrev pub band_plan : ℕ → List ℕ → List VirtualOutput → List ℕ → PlanView → PlanView
 band_plan size halos outs slots p =
     record p { slot_samples = λ format k. samples_from size halos 0 outs slots (slot_index p format k) }

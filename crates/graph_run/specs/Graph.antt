@@ -12,7 +12,7 @@ use Rattle.graph_verify.specs.declared.operand.Operand.TheVariants.{Image}
 use Rattle.graph_verify.specs.Links.{is_written}
 
 -- one round: all nodes write at the same time, from the objects before the round; accumulating
--- nodes add to the objects at the start of the run
+-- nodes add to the objects as they were at the start of the run
 abbrev pub round_of_nodes : List Node → List NamedObject → List NamedObject → List NamedObject
 round_of_nodes nodes start objects = with_written objects (flat_map (λ n. written_from (object_at start) n (object_at objects)) nodes)
 
@@ -22,7 +22,8 @@ rounds_of_nodes nodes zero objects = objects
 rounds_of_nodes nodes (suc k) objects = round_of_nodes nodes objects (rounds_of_nodes nodes k objects)
 
 -- the value of a virtual image at the start of a run that writes it: an image of its resolved
--- description, wholly valid and 0 everywhere
+-- description, wholly valid and 0 everywhere. Any other object keeps its value, as does a virtual
+-- image whose resolved description has an open part.
 abbrev pub object_at_start : ObjectValue → Operand → ObjectValue
 object_at_start (VirtualObject image) (Image d) = ImageObject (new_image d.width d.height d.format)
 object_at_start object operand = object
@@ -33,7 +34,7 @@ named_at_start is nodes o =
     let cell : Reference = record { name = o.name; slot = None } in
     if is_written nodes cell then record o { object = object_at_start o.object (is cell) } else o
 
--- whether an object is a virtual image; after a run it is as it was before the run
+-- whether an object is a virtual image. After a run the virtual images are as they were before it.
 abbrev pub is_virtual_object : ObjectValue → Bool
 is_virtual_object (VirtualObject image) = true
 is_virtual_object other = false

@@ -40,8 +40,8 @@ pub record CellsStand (is : Reference → Operand) (nodes : List Node) (objects 
 abbrev pub operand_held : List NamedObject → Reference → Operand
 operand_held objects cell = unwrap_or (option_map operand_of (object_at objects cell)) Missing
 
--- the graph is verified and can run: its verdict is None, and each operand's reference names an
--- object of the kind that the node's function expects
+-- the graph is verified and can run: its verdict is None with some limit on work bytes, and each
+-- operand's reference names an object of the kind that the node's function expects
 pub record IsReady (objects : List NamedObject) (nodes : List Node) (v : Verified) : Type 0 where
   pub verified : IsVerified (operand_held objects) nodes v
   pub runs : (work : ℕ) × (verdict work (operand_held objects) nodes ≡ None)

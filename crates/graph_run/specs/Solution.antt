@@ -43,8 +43,8 @@ abbrev pub label_of : NamedObject → ℕ × Bool
 label_of o = (o.name, o.live)
 
 -- the objects after a run solve the equations of the nodes. Each output is what its node computes
--- from the objects after the run; an accumulating node adds to the object before the run. All other
--- objects, and all labels and forms, are as before.
+-- from the objects after the run; an accumulating node adds to the object as it was before the run.
+-- All other objects, and all labels and forms, are as before.
 pub record Solves (nodes : List Node) (before after : List NamedObject) : Type 0 where
   pub labels : map label_of after ≡ map label_of before
   pub forms : (cell : Reference) → form_held after cell ≡ form_held before cell

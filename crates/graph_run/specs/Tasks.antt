@@ -52,8 +52,8 @@ abbrev pub is_at : ℕ → Option ℕ → Bool
 is_at k None = false
 is_at k (Some j) = j == k
 
--- the format and size of a virtual image's block after `count` images are written: the slot's block
--- if the image has it, else an empty block
+-- the format and size of a virtual image's block after `count` virtual images are written: the
+-- slot's block if the image has it, else an empty block
 abbrev pub block_at : List ℕ → (ℕ → Format × ℕ) → ℕ → ℕ → Format × ℕ
 block_at slots slot_capacity count at =
     let block = slot_capacity (slice_index_or slots at 0) in
@@ -66,7 +66,8 @@ blocks_at slots slot_capacity clients count = map (block_at slots slot_capacity 
 
 -- ---- tasks
 
--- where a step gets its second input: from a plane, or from the table of the node at index `at`
+-- the source of a step's second input: a plane, or the lookup table, threshold or matrix of the
+-- node at index `at`; Nothing if the node has no second input
 abbrev pub source : List Reference → ℕ → Kind → Option Reference → SecondSource
 source cells at k None = Nothing
 source cells at kind.Image (Some c) = Plane (index_of cells c)
@@ -96,7 +97,7 @@ tasks_by cells slots radius at tally n kind.Image =
     write_given cells slots radius at n First n.out1 ++ write_given cells slots radius at n Second n.out2
 tasks_by cells slots radius at tally n other = Reduce (record { input = index_of cells n.in1; tally = tally }) ∷ []
 
--- the index of the next tally after a node's tasks, from the index before
+-- the index of the next tally after a node's tasks, if it was `tally` before them
 abbrev pub tally_after : ℕ → Kind → ℕ
 tally_after tally kind.Image = tally
 tally_after tally other = tally + 1
@@ -123,8 +124,8 @@ TakeTurns slots k (Write s ∷ later) =
     ((length slots ≤ s.output) × (s.takes ≡ None) × TakeTurns slots k later)
     ⊎ ((k < length slots) × (s.output ≡ k) × (s.takes ≡ previous_holder slots k) × TakeTurns slots (k + 1) later)
 
--- each slot has the format of its images, and is large enough for a band of `size` rows of each
--- image with the image's halo
+-- each slot has the format of its images, and is large enough for a band of any one of them: `size`
+-- rows and the image's halo
 abbrev pub SlotsHold : ℕ → List ℕ → (ℕ → Description) → List ℕ → (ℕ → Format × ℕ) → Type 0
 SlotsHold size halos descs slots slot_capacity = (k : ℕ) → k < length slots → HoldsRows size (halo halos k) (descs k) (slot_capacity (slice_index_or slots k 0))
 

@@ -128,7 +128,8 @@ fn most_of(most: usize, counts: bool, samples: usize) -> usize
     if counts { most.max(samples) } else { most }
 }
 
-/// Returns the number of samples in a band of an image, including the halo above and below.
+/// Returns the number of samples in a band of `size` rows of an image, with `halo` rows above and
+/// below; at most the number in the whole image.
 fn band_samples(size: u16, halo: u16, desc: Desc) -> usize
     ensures { result ≡ band_samples size halo desc }
 {

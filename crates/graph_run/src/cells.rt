@@ -74,7 +74,7 @@ fn is_there(cells: &[ObjRef], cell: ObjRef) -> bool
     cells.iter().any(|other| *other == cell)
 }
 
-/// Returns the first index of a reference.
+/// Returns the first index of a reference, or `None` if the reference isn't in the list.
 fn position_of(cells: &[ObjRef], cell: ObjRef) -> Option<usize>
     ensures { result ≡ position (λ other. same_reference other cell) cells.now }
 {

@@ -68,9 +68,9 @@ pub fn added_in_any_order()
         ≡ run_of_graph (resolved_operand is others) others objects }
 {}
 
-/// If a graph's verdict is `None`, each node can run when its turn comes. Its verdict alone, with
-/// its resolved operands, is then `None`. After any of the nodes have run, the objects that the
-/// nodes name still match their resolved operands.
+/// If a graph's verdict is `None`, each node can run when its turn comes. The verdict on the node
+/// alone, with its resolved operands, is `None` too. After any of the nodes have run, each object
+/// that the nodes name still matches its resolved operand.
 #[tactic(auto, using(crate::proofs::TurnLaws::each_alone, crate::proofs::TurnLaws::at_its_turn))]
 pub fn each_at_its_turn()
     ensures alone { (work : ℕ) (is : Reference → Operand) (nodes : List Node) (n : Node) →

@@ -45,7 +45,8 @@ pub fn run_lent(table: &mut Table, node: &Node, planes: OutputPlanes)
     run_to(table, node, Output::Second, node.out2, planes.second);
 }
 
-/// Writes one of a node's outputs, if the output is given. An output image must be in `plane`.
+/// Writes one of a node's outputs, if the output is given. If the output is an image, its samples
+/// must be in `plane`.
 fn run_to(
     table: &mut Table,
     node: &Node,

@@ -51,8 +51,8 @@ use vx_base::{Node, ObjRef};
 /// The nodes run in the order of the verification. On large images, each node runs once for each
 /// band of rows. The virtual images that the nodes write share blocks of the pool, by the slots of
 /// the plan. At the end these blocks are given back, and the virtual images are as before. All
-/// memory is allocated first, so after an error the objects are as before; only the pool may have
-/// more free blocks.
+/// memory is allocated first, so after an error the objects are as before; only the pool's free
+/// blocks may differ.
 pub fn run(
     alloc: Global,
     verified: &Verified,

@@ -29,7 +29,8 @@ pub fn tally_cells(alloc: Global, steps: &[Node]) -> Result<Vec<ObjRef>, AllocEr
     Ok(cells)
 }
 
-/// Adds the reference to the distribution or extremes that a node writes, if it writes either.
+/// Adds to `cells` the reference to the distribution or extremes that a node writes, if it writes
+/// either.
 fn add_tally_cell(cells: &mut Vec<ObjRef>, node: &Node) -> Result<(), AllocError>
     ensures { OnOk result (cells.new.items
         ≡ cells.old.items ++ tally_cell (parameters node.now.function).output node.now) }

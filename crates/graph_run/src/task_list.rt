@@ -78,7 +78,8 @@ fn add_tasks(
     }
 }
 
-/// Returns the index of the next tally after a node's tasks are added. `tally` is the index before.
+/// Returns the index of the next tally after a node's tasks are added. `tally` is this index before
+/// they are added.
 fn tally_after(tally: usize, node: &Node) -> usize
     requires { tally + 1 < 2 ^ 64 }
     ensures { result ≡ tally_after tally (parameters node.now.function).output }

@@ -70,7 +70,7 @@ without_block p = record p { samples = [] }
 
 -- ---- many planes
 
--- the plane at an index that isn't in the list
+-- the plane at an index outside the list
 abbrev pub no_plane : PlaneValue
 no_plane =
     record { desc = record { width = 0; height = 0; format = U8 }; valid = empty_rectangle; top = 0; rows = all_rows 0; format = U8; samples = [] }

@@ -88,7 +88,8 @@ IsLive kept [] c = kept c
 IsLive kept (Write s ∷ later) c = ReadsPlane s c ⊎ ((c ≢ s.output) × IsLive kept later c)
 IsLive kept (Reduce r ∷ later) c = (r.input ≡ c) ⊎ IsLive kept later c
 
--- a step takes its own output's block, or the block of a plane whose rows aren't needed any more
+-- each block that a step takes belongs to the step's output, or to a plane whose rows aren't needed
+-- any more
 abbrev pub AreFree : (ℕ → Type 0) → List Task → Type 0
 AreFree kept [] = Unit {0}
 AreFree kept (Reduce r ∷ later) = AreFree kept later

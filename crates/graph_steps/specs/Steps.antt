@@ -36,7 +36,7 @@ use Rattle.graph_steps.specs.Planes.{PlaneValue, plane, read_images, plane_image
 abbrev pub ReadsPlane : Step → ℕ → Type 0
 ReadsPlane s c = (s.first ≡ c) ⊎ (s.second ≡ Plane c)
 
--- a step's second input: an image, a table, or none
+-- a step's second input: an image, an object of `tables`, or none
 abbrev pub second_in : (ℕ → Option ObjectValue) → (ℕ → ImageValue) → SecondSource → Option ObjectValue
 second_in tables images Nothing = None
 second_in tables images (Plane c) = Some (ImageObject (images c))

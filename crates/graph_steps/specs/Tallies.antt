@@ -43,7 +43,7 @@ abbrev pub TakesFormat : Format → Tally → Type 0
 TakesFormat format (tally.Histogram d) = format ≡ U8
 TakesFormat format (tally.Extremes e) = format ≢ U32
 
--- no count exceeds 32 bits when these rows are added
+-- no count exceeds 32 bits when these rows are added, even if one bin gets all their valid samples
 abbrev pub CountsFit : Band → ImageValue → Tally → Type 0
 CountsFit rows image (tally.Histogram d) = (k : ℕ) → slice_index d.counts k + length (valid_samples (valid_in rows image)) < 2 ^ 32
 CountsFit rows image (tally.Extremes e) =

@@ -72,7 +72,8 @@ pub enum Tally {
 }
 
 impl Tally {
-    /// Adds these rows of an image, as rows below all rows that were added before.
+    /// Adds these rows of an image to the tally. They are treated as lying below all rows that were
+    /// added before.
     pub fn add(&mut self, image: &Image<'_>, rows: Band)
         requires rows { IsInRows image.now.height rows }
         requires can { CanAdd rows image.now self.old }

@@ -37,6 +37,7 @@ abbrev pub linked_by : GraphValue → ImageValue → ImageValue → PartialDesc 
 linked_by graph a b declared = live 1 (ImageObject a) ∷ live 2 (ImageObject b) ∷ live 3 (GraphObject graph) ∷ live 4 (chain_image declared)
     ∷ live 5 (chain_image declared) ∷ live 6 (chain_image declared) ∷ live 7 (chain_image declared) ∷ live 8 (chain_image declared) ∷ []
 
--- the objects are those of a chain, except for the parts that a write or a run may change
+-- the objects are well-formed, and are those of a chain except for the parts that a write or a run
+-- may change
 abbrev pub IsChain : List NamedObject → Type 0
 IsChain objects = (a : ImageValue) × (b : ImageValue) × (declared : PartialDesc) × Lasts (linked_by six_boxes a b declared) objects

@@ -57,8 +57,8 @@ fn is_image(table: &Table, name: u32) -> bool
     }
 }
 
-/// Returns whether the image under a name has the samples `wanted`. Takes the samples out of the
-/// table, and puts them back.
+/// Returns whether the image under a name has the samples `wanted`. Takes the image's samples out
+/// of the table, and puts them back.
 pub fn holds(table: &mut Table, name: u32, wanted: [u8; 2]) -> bool {
     if !is_image(table, name) {
         return false;
@@ -102,7 +102,7 @@ fn an_image_is_written_and_valid_in_a_part(rt: HostRuntime) -> Result<(), Fail> 
 }
 
 /// Inserts a delay of three images into a new table, writes the newest image and ages the delay.
-/// Returns the samples of the three slots, in order from slot 0.
+/// Takes the samples out of the three slots, and returns them in order from slot 0.
 fn aged(
     table: &mut Table,
     delay: Delay,

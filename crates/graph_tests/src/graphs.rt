@@ -80,7 +80,7 @@ fn open_parts_are_filled(rt: HostRuntime) -> Result<(), Fail> {
     Ok(())
 }
 
-/// Returns a node of one input and one output, with this number and these operands.
+/// Returns this node with this number and these operands. The node has one input and one output.
 fn linked(number: u32, node: NodeSpec, in1: Operand, out1: Operand) -> Linked
     ensures { result.operands.in1 ≡ in1 }
 {

@@ -32,8 +32,8 @@ fn open() -> PartialDesc {
     PartialDesc::new(None, None, None).unwrap()
 }
 
-/// Returns a node of a function that has no policy and no amount. The node's number is the name of
-/// its first output.
+/// Returns a node of a function that takes no policy and no amount. The node's number is the name
+/// of its first output.
 fn node(function: Function, in1: u32, in2: Option<u32>, out1: u32, out2: Option<u32>) -> Linked
     ensures { IsTrue (is_image result.operands.in1) }
 {

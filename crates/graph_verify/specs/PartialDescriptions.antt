@@ -39,7 +39,8 @@ written_partial_desc is n known cell = with_defaults (operand_partial_desc (is c
 abbrev pub partial_descs : (Reference → Operand) → List Node → Reference → PartialDescription
 partial_descs is nodes = rounds writes (written_partial_desc is) nodes (length nodes) (λ cell. operand_partial_desc (is cell))
 
--- an image of the full description if there is one, else a virtual image of the partial description
+-- an image of the full description, or a virtual image of the partial description if no full
+-- description is given
 abbrev pub virtual_or_image : PartialDescription → Option Description → Operand
 virtual_or_image known None = Virtual known
 virtual_or_image known (Some d) = Image d

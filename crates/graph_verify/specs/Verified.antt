@@ -41,7 +41,7 @@ VerifiesNodes nodes v = (is : Reference → Operand) → AreOperands is nodes �
 abbrev pub ReordersNodes : List Linked → VerifiedValue → Type 0
 ReordersNodes nodes v = IsPermutation (map (λ l. (l.number, l.node)) nodes) (zip v.order v.steps)
 
--- the graph of these nodes can run if its virtual images may take at most `work` bytes
+-- the graph of these nodes can run, with a limit of `work` bytes for its virtual images
 abbrev pub CanRunWithin : ℕ → List Linked → Type 0
 CanRunWithin work nodes = (is : Reference → Operand) → AreOperands is nodes → verdict work is (linked_nodes nodes) ≡ None
 
@@ -63,6 +63,7 @@ pub record IsVerifiedGraph (v : VerifiedValue) : Type 0 where
   pub one_writer : two_writers nodes ≡ false
   pub numbers : length v.order ≡ length v.steps
 
--- the resolved description of a virtual image that the nodes write; None for any other object
+-- the resolved description of a virtual image that the nodes write; None if a part of the
+-- description is still open, and for any other object
 abbrev pub written_description : (Reference → Operand) → List Node → Reference → Option Description
 written_description is nodes cell = if is_virtual (is cell) && is_written nodes cell then operand_description (resolved_operand is nodes cell) else None

@@ -18,7 +18,8 @@ abbrev pub waiting_among : List Node → Linked → WaitingNode
 waiting_among nodes l =
     record { linked = l; for_in1 = is_written nodes l.node.in1; for_in2 = list_any (is_written nodes) (optional_cells l.node.in2) }
 
--- a node after another node is ordered: it no longer waits for inputs that the ordered node writes
+-- an unordered node, updated after another node is ordered: it no longer waits for inputs that the
+-- ordered node writes
 abbrev pub once_ordered : Node → WaitingNode → WaitingNode
 once_ordered ordered w =
     record {

@@ -159,8 +159,8 @@ pub fn work()
 {}
 
 /// The output of Add, a virtual image with an open format, is resolved to S16. If its format is
-/// declared as U8 instead, it stays U8. Convert Bit Depth then fails, since it can't convert U8 to
-/// U8.
+/// declared as U8 instead, it stays U8. The graph is then refused, since Convert Bit Depth can't
+/// convert U8 to U8.
 pub fn open_formats()
     ensures found { resolved_operand (operand_except (virtual_of None) 1 1)
         (adds 1 3 2 ∷ convert_to 2 4 ∷ []) (reference_to 2) ≡ image_operand 1 1 S16 }

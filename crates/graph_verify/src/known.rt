@@ -133,7 +133,7 @@ fn learn_output(
     }
 }
 
-/// Adds the virtual images that a node writes to the resolved images.
+/// Adds each output of a node to the resolved images, if the output is a virtual image.
 fn learn(known: &mut Vec<ResolvedOutput>, linked: &Linked) -> Result<(), AllocError>
     ensures resolved { OnOk result (known.new.items
         ≡ known.old.items ++ resolved_by known.old.items linked.now) }

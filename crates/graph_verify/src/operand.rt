@@ -22,7 +22,7 @@ pub enum Operand {
     Extremes,
     /// A graph, which no function takes.
     Graph,
-    /// A virtual image, as it is declared.
+    /// A virtual image with this partial description.
     Virtual(PartialDesc),
     /// A reference that names no object. No function takes such an operand.
     Missing,
@@ -66,7 +66,8 @@ impl Operand {
     }
 
     /// Returns the format of an image's samples, of a table's entries, of the samples that a
-    /// threshold tests, or of a convolution's coefficients. `None` for the other kinds.
+    /// threshold tests, or of a convolution's coefficients. `None` for a virtual image and for any
+    /// other operand.
     pub fn format(self) -> Option<Format>
         ensures { result ≡ operand_format self }
     {

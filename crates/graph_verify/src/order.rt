@@ -48,8 +48,8 @@ impl<'a> Waiting<'a> {
         }
     }
 
-    /// Updates the node after another node is ordered. The node no longer waits for inputs that the
-    /// ordered node writes, since these have no other writer.
+    /// Updates this node after another node is ordered. This node no longer waits for inputs that
+    /// the ordered node writes, since these have no other writer.
     fn once_ordered(&mut self, ordered: &Node)
         ensures { self.new ≡ once_ordered ordered.now self.old }
     {
@@ -102,7 +102,7 @@ fn take_ready(rest: &mut Vec<Waiting<'_>>, index: usize) -> Linked
 }
 
 /// Returns the nodes, each after all nodes that feed it, or `None` if there is a cycle. No object
-/// may have two writers. An error means that there is no memory for the result.
+/// may have two writers. An error means that memory ran out.
 pub fn put_in_order(alloc: Global, nodes: &[Linked]) -> Result<Option<Vec<Linked>>, AllocError>
     requires { two_writers (linked_nodes nodes.now) ≡ false }
     ensures order { IfOk result (λ found.

@@ -63,7 +63,7 @@ pub fn verdict_on(node: &Node, operands: &Operands) -> Option<Verdict>
     }
 }
 
-/// Returns whether a node reads an object that it writes, which is a cycle of one node.
+/// Returns whether a node reads an object that it writes: a cycle of one node.
 fn reads_own_output(node: &Node) -> bool
     ensures { result ≡ reads_own_output node.now }
 {
@@ -153,7 +153,8 @@ pub fn node_fault(function: Function, operands: &Operands) -> Option<Verdict>
     }
 }
 
-/// Returns whether all images among the operands have the size of the first input.
+/// Returns whether all operands have the size of the first input, in the sense of
+/// `are_of_one_size`.
 fn is_of_one_size(operands: &Operands) -> bool
     ensures { result ≡ list_all (are_of_one_size operands.now.in1) (other_operands operands.now) }
 {

@@ -47,8 +47,8 @@ impl<T: Number> RowUpdate<T> for Unchanged {
     fn update(&self, _x: u16, _y: u16, _row: &mut [T]) {}
 }
 
-/// An update in place, which computes each sample of a rectangle from the sample's old value. The
-/// update gets scratch memory for one row.
+/// A change of samples in place, which computes each sample of a rectangle from the sample's old
+/// value. The change gets scratch memory for one row.
 pub trait RowChange<T: Number, S> {
     /// The new sample in a column of a row, given the old sample.
     ghost next: { Self → ℕ → ℕ → ℤ → ℤ };

@@ -74,7 +74,7 @@ pub trait Sample: Number {
 /// The number of samples in the longest row.
 const LONGEST_ROW: usize = GREATEST_SIDE as usize;
 
-/// Rows of zeros, as long as the longest row.
+/// A row of zeros for each number type, as long as the longest row.
 static ZERO_BYTES: [u8; LONGEST_ROW] = [0; LONGEST_ROW];
 
 static ZERO_SHORTS: [i16; LONGEST_ROW] = [0; LONGEST_ROW];

@@ -61,8 +61,8 @@ pub fn lend(desc: Desc, valid: Rect, samples: &mut [u8]) -> Image<'_>
     Image::new(desc, valid, samples)
 }
 
-/// Returns the exclusive or of two 3 by 2 images, and its valid rectangle. One image has the
-/// samples 1 to 6 and is valid in `left`; the other is 16 everywhere and valid in `right`.
+/// Returns the Xor of two 3 by 2 images, and its valid rectangle. One image is made from the
+/// samples 1 to 6 and is valid in `left`. The other is valid in `right`, where its samples are 16.
 fn xor(left: Rect, right: Rect) -> ([u8; 6], Rect)
     requires left { IsWithin left 3 2 }
     requires right { IsWithin right 3 2 }

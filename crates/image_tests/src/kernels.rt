@@ -112,8 +112,8 @@ fn both_gradients(rt: HostRuntime) {
     assert!(rt; gradients(Border::Replicate) == Some(moved));
 }
 
-/// Returns the convolution with a matrix of 5 columns and 3 rows, as U8 and as S16, and the valid
-/// rectangle of the S16 image.
+/// Returns the convolution of `SAMPLES` with a matrix of 5 columns and 3 rows, as U8 and as S16,
+/// and the valid rectangle of the S16 image.
 fn convolved(exponent: u8, border: Border) -> Option<([u8; 9], [i16; 9], Rect)> {
     let desc = Desc::new(3, 3, Format::U8)?;
     let mut samples = SAMPLES;

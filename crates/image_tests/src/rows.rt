@@ -32,8 +32,9 @@ fn in_turn<T: Copy>(numbers: &[T; 8]) -> [T; 65] {
     items
 }
 
-/// Returns 65 items: each of eight numbers eight times, and the first number once more. Every pair
-/// of the numbers occurs at some index of `in_turn` and `in_runs`.
+/// Returns 65 items: each of eight numbers eight times, and the first number once more. For every
+/// pair of the numbers, there is an index at which `in_turn` has the first and `in_runs` has the
+/// second.
 fn in_runs<T: Copy>(numbers: &[T; 8]) -> [T; 65] {
     let mut items = [numbers[0]; 65];
     for (i, item) in items.iter_mut().enumerate() {

@@ -19,7 +19,8 @@ fn all_but_one<T: Copy>(others: T, one: T, index: usize) -> [T; 65] {
     items
 }
 
-/// Returns the least and the greatest byte of a row, and how many bytes are equal to each.
+/// Returns the least and the greatest byte of a row, and how many bytes are equal to each. `None`
+/// if the row is empty or has more than 65 bytes.
 fn extremes_of_bytes(row: &[u8]) -> Option<(u8, u32, u8, u32)> {
     if row.is_empty() || row.len() > 65 {
         return None;
@@ -34,6 +35,7 @@ fn extremes_of_bytes(row: &[u8]) -> Option<(u8, u32, u8, u32)> {
 }
 
 /// Returns the least and the greatest S16 item of a row, and how many items are equal to each.
+/// `None` if the row is empty or has more than 65 items.
 fn extremes_of_shorts(row: &[i16]) -> Option<(i16, u32, i16, u32)> {
     if row.is_empty() || row.len() > 65 {
         return None;

@@ -5,8 +5,8 @@ use Rattle.std.specs.Simd.Lanes.{chunk}
 use Rattle.vx_base.specs.Image.{run}
 
 -- the absolute value is at most the limit. The limit is 8355840 (255 * 32768) for a U8 sample times
--- an S16 coefficient, and twice that for a pair of products. The nine rows of a matrix have at most
--- 45 pairs. The limit of their sum is 752025600, which is below 2^31.
+-- an S16 coefficient, and twice that for a pair of products. A matrix has at most 45 pairs, in nine
+-- rows. The limit of their sum is 752025600, which is below 2^31.
 abbrev pub IsNear : ℕ → ℤ → Type 0
 IsNear limit z = unsigned_abs z ≤ limit
 

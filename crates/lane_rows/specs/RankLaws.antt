@@ -19,10 +19,11 @@ lesser_number x y = grind arith
 pub greater_number : (x y : ℕ) → pos (max x y) ≡ int_max (pos x) (pos y)
 greater_number x y = grind arith
 
--- the least of nine numbers, chosen row by row, is the least of all nine
+-- choosing the least within each row, and then among the rows, gives the least of all nine numbers
 pub least_is_least : (a b c d e f g h i : ℕ) → pos (chosen_of_nine min a b c d e f g h i) ≡ least_of (pos a ∷ pos b ∷ pos c ∷ pos d ∷ pos e ∷ pos f ∷ pos g ∷ pos h ∷ pos i ∷ [])
 least_is_least = by_rows min int_min lesser_number (λ x y z. grind arith)
 
--- the greatest of nine numbers, chosen row by row, is the greatest of all nine
+-- choosing the greatest within each row, and then among the rows, gives the greatest of all nine
+-- numbers
 pub greatest_is_greatest : (a b c d e f g h i : ℕ) → pos (chosen_of_nine max a b c d e f g h i) ≡ greatest_of (pos a ∷ pos b ∷ pos c ∷ pos d ∷ pos e ∷ pos f ∷ pos g ∷ pos h ∷ pos i ∷ [])
 greatest_is_greatest = by_rows max int_max greater_number (λ x y z. grind arith)

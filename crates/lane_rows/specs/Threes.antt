@@ -18,7 +18,7 @@ AreTaken takes row = (i : ℕ) → takes (number_at row i)
 abbrev pub AreUpTo : ℕ → List ℤ → Type 0
 AreUpTo limit row = AreTaken (IsUpTo limit) row
 
--- a function of three numbers, at each index of three rows
+-- the results of a function of three numbers, at each index of three rows
 abbrev pub zip3 : {A B : Type 0} → (A → A → A → B) → List A → List A → List A → List B
 zip3 f (x ∷ xs) (y ∷ ys) (z ∷ zs) = f x y z ∷ zip3 f xs ys zs
 zip3 f xs ys zs = []

@@ -8,7 +8,7 @@ use Rattle.lane_rows.specs.declared.nine_rows.Nine.{Nine}
 abbrev pub three_of : Three → ℕ → ℕ × ℕ × ℕ
 three_of rows i = (slice_index rows.left.now i, slice_index rows.middle.now i, slice_index rows.right.now i)
 
--- the 32 items of each of three rows from an index on
+-- for each of three rows, the 32 items from an index on
 abbrev pub lanes_of : Three → ℕ → List ℕ × List ℕ × List ℕ
 lanes_of rows index =
     (map (slice_index rows.left.now) (range_with_len index 32), map (slice_index rows.middle.now) (range_with_len index 32), map (slice_index rows.right.now) (range_with_len index 32))

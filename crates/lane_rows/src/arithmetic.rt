@@ -21,7 +21,7 @@ pub trait Arithmetic {
     fn of_bytes(&self, a: u8, b: u8) -> u8
         ensures { pos result ≡ formula self.now U8 (pos a) (pos b) };
 
-    /// Returns the S16 result for two S16 items, either of which may be widened from U8.
+    /// Returns the S16 result for two S16 items. The caller widens U8 items first.
     fn of_shorts(&self, a: i16, b: i16) -> i16
         ensures { result ≡ formula self.now S16 a b };
 

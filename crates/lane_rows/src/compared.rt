@@ -19,7 +19,7 @@ pub trait Compared: Short {
     fn is(self, other: Self) -> bool
         ensures { result ≡ int_eq (Self.value self) (Self.value other) };
 
-    /// Returns the number of items in a block of 32 that equal this item.
+    /// Returns how many of the 32 items of a block equal this item.
     fn count_in(self, block: &[Self]) -> u32
         requires { length block.now ≡ 32 }
         ensures { result ≡ count_of (Self.value self) (map Self.value block.now) };

@@ -49,8 +49,8 @@ pub fn absdiff_u8(first: &[u8], second: &[u8], out: &mut [u8])
     zip_rows(&OfSamples(&Distance), first, second, out);
 }
 
-/// Writes the absolute difference of each pair of items, at most 32,767. Each input row is U8 or
-/// S16.
+/// Writes the absolute difference of each pair of items. A difference above 32,767 becomes 32,767.
+/// Each input row is U8 or S16.
 pub fn absdiff_s16<A: Short, B: Short>(first: &[A], second: &[B], out: &mut [i16])
     requires first_len { length first.now ≡ length out.old }
     requires second_len { length second.now ≡ length out.old }

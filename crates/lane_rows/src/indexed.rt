@@ -25,8 +25,8 @@ pub trait Indexed<T: Item> {
         ensures { map T.value out.new ≡ run index 32 (at self.now) };
 }
 
-/// Writes the last 32 items. Ensures that the whole row is written if the items before them were
-/// already written. Some of the 32 items may be written a second time.
+/// Writes the last 32 items. If the items before these were already written, the whole row is now
+/// written. Some or all of the 32 items may be written a second time.
 fn write_last<T: Item, R: Indexed<T>>(row: &R, out: &mut [T])
     requires count { R.count row.now ≡ length out.old }
     requires room { 32 ≤ length out.old }
@@ -48,7 +48,7 @@ fn write_items<T: Item, R: Indexed<T>>(row: &R, out: &mut [T])
     }
 }
 
-/// Writes all items: in blocks, or one by one if there are fewer than 32.
+/// Writes all items: in blocks, or one by one if the row has fewer than 32 items.
 pub fn write_indexed<T: Item, R: Indexed<T>>(row: &R, out: &mut [T])
     requires count { R.count row.now ≡ length out.old }
     ensures { map T.value out.new ≡ run 0 (length out.old) (R.at row.now) }

@@ -14,7 +14,8 @@ pub trait OfItem<A: Item, T: Item> {
         ensures { T.value result ≡ formula self.now (A.value a) };
 }
 
-/// A kernel of one row. A kernel without vector instructions may write a block item by item.
+/// A kernel of one row. A kernel without vector instructions may write the items of a block one by
+/// one.
 pub trait LanesOfItem<A: Item, T: Item>: OfItem<A, T> {
     /// Writes the results for 32 items.
     fn lanes(&self, row: &[A], out: &mut [T])
@@ -41,7 +42,7 @@ pub trait OfPair<A: Item, B: Item, T: Item> {
             (map B.value second.now) };
 }
 
-/// A kernel that updates a row of sums from another row.
+/// A kernel that updates a row of sums from a row of items.
 pub trait OfSum<A: Item, T: Item> {
     /// The new sum, from the value of the row's item and the old sum at its index.
     ghost formula: { Self → ℤ → ℤ → ℤ };

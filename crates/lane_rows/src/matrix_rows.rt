@@ -24,7 +24,7 @@ pub struct MatrixRows<'a> {
     pub tables: &'a [i16],
     /// The number of rows.
     pub count: u8,
-    /// The number of pairs of coefficients in a row.
+    /// The number of pairs of coefficients in each row of the matrix.
     pub pairs: usize,
     /// The exponent of the power of two by which the sums are divided.
     pub exponent: u8,

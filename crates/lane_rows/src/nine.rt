@@ -84,7 +84,7 @@ fn lanes_at(row: &[u8], index: usize) -> u8x32
     u8x32::from_slice(&row[index..index + 32])
 }
 
-/// Returns the 32 items of each of three rows from `index` on.
+/// Returns, for each of three rows, the 32 items from `index` on.
 pub fn three_lanes(rows: &Three<'_>, index: usize) -> ThreeLanes
     requires { index + 32 ≤ length rows.now.left.now }
     ensures { result ≡ lanes_of rows.now index }

@@ -13,7 +13,7 @@ ghost use Rattle.lane_rows.specs.Pairs.{AreAdded, IsPairTable, alternation, pair
 use std::simd::prelude::*;
 
 /// Returns a sum for each of eight indices: every second index from `index` on. The sum is the
-/// sample at the index times one coefficient, plus the next sample times another.
+/// sample at the index times one coefficient, plus the next sample times another, modulo 2^32.
 ///
 /// The two coefficients alternate in the 16 items of `table` from `at` on. They are read from the
 /// table here. If a caller loaded them into vectors before its loop, the compiler would widen those
@@ -62,7 +62,8 @@ fn sixteen_pairs(row: &[i16], index: usize, table: &[i16], at: usize) -> i32x16
 }
 
 /// Adds the products of one matrix row to the sums at the 32 indices from `index` on. Returns the
-/// new sums at an even distance from `index`, and the new sums at an odd distance.
+/// new sums modulo 2^32: first those at an even distance from `index`, then those at an odd
+/// distance.
 pub fn add_row(
     row: &[i16],
     index: usize,

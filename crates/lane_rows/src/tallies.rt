@@ -15,8 +15,8 @@ fn count_one(counts: &mut [u32; 256], value: u8)
 }
 
 /// Adds the histogram of a row to the counts. The count of a value is the sum of its entries in the
-/// four arrays. Successive items are counted in different arrays, so that equal neighbours don't
-/// wait for each other.
+/// four arrays. Except at the row's end, successive items are counted in different arrays, so that
+/// equal neighbours don't wait for each other.
 #[tactic(auto, using(crate::proofs::TallyLaws::tallies))]
 pub fn tally_row(
     row: &[u8],

@@ -34,8 +34,8 @@ pub trait Tested: Short {
             ≡ map (threshold_choice (Binary (Self.value limit)) true_value false_value)
             (map Self.value row.now) };
 
-    /// Returns, for each of 32 items, `true_value` if the item is between the limits or equal to
-    /// one of them, else `false_value`.
+    /// Returns, for each of 32 items, `true_value` if the item is from `lower` to `upper`, both
+    /// included, else `false_value`.
     fn between(row: &[Self], lower: Self, upper: Self, true_value: u8, false_value: u8) -> u8x32
         requires { length row.now ≡ 32 }
         ensures { map pos result ≡ map
@@ -129,8 +129,7 @@ impl<A: Tested> LanesOfItem<A, u8> for Above<A> {
     }
 }
 
-/// The true value if an item is between the limits or equal to one of them, and the false value if
-/// not.
+/// The true value if an item is from `lower` to `upper`, both included, and the false value if not.
 #[derive(Drop)]
 pub struct Between<A> {
     pub lower: A,

@@ -28,7 +28,8 @@ in_slot None object = Some object
 in_slot (Some k) (DelayObject images) = option_map ImageObject (slice_get images k)
 in_slot (Some k) other = None
 
--- the object with the image in a slot replaced by `new`; without a slot, `new` itself
+-- the object with the image in a slot replaced by `new`; the unchanged object if the slot doesn't
+-- exist or `new` isn't an image; without a slot, `new` itself
 abbrev pub with_slot : Option ℕ → ObjectValue → ObjectValue → ObjectValue
 with_slot None new object = new
 with_slot (Some k) (ImageObject image) (DelayObject images) = DelayObject (slice_set images k image)

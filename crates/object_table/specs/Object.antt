@@ -45,6 +45,6 @@ aged_object other = other
 abbrev pub with_samples : ObjectValue → Rectangle → List ℤ → ObjectValue
 with_samples object valid samples = ImageObject (image_over (description_of (image_value object)) valid samples)
 
--- a distribution of the object's bins, with these counts
+-- a distribution with the object's bins and these counts
 abbrev pub with_counts : ObjectValue → List ℕ → ObjectValue
 with_counts object counts = DistributionObject (record { bins = (distribution_value object).bins; counts = counts })

@@ -37,7 +37,7 @@ object_under objects name = unwrap_or (object_held objects name) (ImageObject (n
 abbrev pub IsUnder : List NamedObject → Kind → ℕ → Type 0
 IsUnder objects wanted name = option_map object_kind (object_held objects name) ≡ Some wanted
 
--- the graph that is held under a name
+-- the graph that is held under a name; a graph without nodes if there is none
 abbrev pub graph_under : List NamedObject → ℕ → GraphValue
 graph_under objects name = graph_value (object_under objects name)
 
@@ -45,7 +45,7 @@ graph_under objects name = graph_value (object_under objects name)
 abbrev pub cell_object : List NamedObject → Reference → ObjectValue
 cell_object objects cell = unwrap_or (object_at objects cell) (ImageObject (new_image 0 0 U8))
 
--- the image that a reference names
+-- the image that a reference names; an image without pixels if the reference names no image
 abbrev pub image_held : List NamedObject → Reference → ImageValue
 image_held objects cell = image_value (cell_object objects cell)
 
@@ -72,7 +72,7 @@ pub record TakesImage (old new : Context) (cell : Reference) (image : Descriptio
 abbrev pub entry_object : ℕ × Entry → NamedObject
 entry_object e = record { name = e.0; live = e.1.live; object = e.1.object }
 
--- the nodes of the graph under a name
+-- the nodes of the graph under a name; none if there is no such graph
 abbrev pub nodes_at : ℕ → List (ℕ × Entry) → List Node
 nodes_at name entries = unwrap_or (option_map (λ e. nodes_in e.object) (lookup (is_at (nat_cmp name)) entries)) []
 
@@ -80,7 +80,8 @@ nodes_at name entries = unwrap_or (option_map (λ e. nodes_in e.object) (lookup 
 abbrev pub used_more : List ℕ → List (ℕ × Entry) → List (ℕ × Entry)
 used_more names entries = map {A = ℕ × Entry} {B = ℕ × Entry} (λ e. let n : Entry = e.1 in (e.0, record n { uses = n.uses + name_count e.0 names })) entries
 
--- the entries, each with its use count lowered by the number of occurrences of its name in a list
+-- the entries, each with its use count lowered by the number of occurrences of its name in a list,
+-- but not below 0
 abbrev pub used_less : List ℕ → List (ℕ × Entry) → List (ℕ × Entry)
 used_less names entries = map {A = ℕ × Entry} {B = ℕ × Entry} (λ e. let n : Entry = e.1 in (e.0, record n { uses = n.uses - name_count e.0 names })) entries
 
@@ -98,9 +99,10 @@ kept_entries entries = filter is_kept entries
 
 -- ---- the invariant of a table
 
--- The invariant of a table. Names are distinct and below `next`, the next name. There are at most
--- 1,024 objects. Each is held, and has a bounded number of bytes and of nodes. The charge and the
--- use counts are exact. Nodes use only names below `next`.
+-- The invariant of a table. Names ascend and are below `next`, the next name. `next` is at most
+-- 2^32. There are at most 1,024 objects. Each is held, and has a bounded number of bytes and of
+-- nodes. The charge and the use counts are exact. Nodes of unreleased graphs use only names below
+-- `next`.
 pub record IsTable (next charge : ℕ) (entries : List (ℕ × Entry)) : Type 0 where
   pub names : IsStrictlyIncreasing (map (λ e. e.0) entries)
   pub below : All (λ e. e.0 < next) entries

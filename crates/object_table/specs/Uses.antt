@@ -21,7 +21,7 @@ nodes_in other = []
 abbrev pub names_used_by : NamedObject → List ℕ
 names_used_by o = if o.live then flat_map used_names (nodes_in o.object) else []
 
--- the names that the nodes of all unreleased graphs use
+-- the names that the nodes of all unreleased graphs use, each as often as it is used
 abbrev pub names_used : List NamedObject → List ℕ
 names_used objects = flat_map names_used_by objects
 

@@ -68,8 +68,8 @@ impl Delay {
         end_images(self.images, pool);
     }
 
-    /// Returns the image in a slot; slot 0 is the newest. `InvalidValue`: the delay has no such
-    /// slot.
+    /// Returns the image in a slot; slot 0 has the newest image. `InvalidValue`: the delay has no
+    /// such slot.
     pub fn slot(&self, k: u8) -> Result<&Stored, TableFault>
         ensures ok { IfOk result (λ image. slice_get self.now k ≡ Some image.now) }
         ensures err { IfErr result (λ fault. (fault ≡ InvalidValue) ×

@@ -24,7 +24,7 @@ impl Model for Distribution {
 }
 
 impl Distribution {
-    /// Returns a distribution of these bins with each count 0.
+    /// Returns a distribution with these bins and all counts 0.
     pub fn new(alloc: Global, bins: Bins) -> Result<Distribution, AllocError>
         ensures value { IfOk result (λ distribution. distribution ≡ new_distribution bins) }
         ensures distribution { IfOk result IsDistribution }

@@ -107,8 +107,9 @@ impl Object {
         }
     }
 
-    /// Returns the kind of the object in a slot; without a slot, the kind of the object itself.
-    /// `None` for a slot of an object that isn't a delay. The slot need not exist.
+    /// Returns the kind of the object in a slot: `Image` for a slot of a delay, whether the slot
+    /// exists or not; `None` for a slot of another object. Without a slot, returns the kind of the
+    /// object itself.
     pub fn slot_kind(&self, slot: Option<u8>) -> Option<Kind>
         ensures { result ≡ slot_kind slot self.now }
     {
@@ -326,7 +327,7 @@ impl Object {
         }
     }
 
-    /// Sets the names of the delays that age with a graph. No name may occur twice in `delays`.
+    /// Replaces the list of delays that age with a graph. No name may occur twice in `delays`.
     pub fn set_delays(&mut self, delays: Vec<u32>)
         requires kind { object_kind self.old ≡ kind.Graph }
         requires distinct { AllPairs (λ a b. a ≢ b) delays.items }

@@ -13,8 +13,7 @@ use std::alloc::{AllocError, Global};
 use std::marker::Model;
 use vx_base::{Desc, Picture, Rect, Samples};
 
-/// An image whose samples are a block of a pool. The samples are taken out while nodes write the
-/// image.
+/// An image whose samples are a block of a pool. The samples may be taken out while nodes run.
 #[derive(Drop)]
 pub struct Stored {
     desc: Desc,
@@ -74,7 +73,8 @@ impl Stored {
         self.valid
     }
 
-    /// Returns the samples of all pixels, row by row from the top.
+    /// Returns the samples of all pixels, row by row from the top. There are none between `take`
+    /// and `put`.
     pub fn samples(&self) -> &Samples
         ensures value { values result.now ≡ self.now.samples }
         ensures format { samples_format result.now ≡ self.now.format }

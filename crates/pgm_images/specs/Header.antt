@@ -25,8 +25,8 @@ take_magic (a ∷ []) = None
 take_magic (a ∷ b ∷ text) =
     if (a == 80) && (b == 50) then Some (Plain, text) else if (a == 80) && (b == 53) then Some (Raw, text) else None
 
--- The text after the header, given the text after its maxval. One whitespace byte ends a header of
--- P5, and no comment may come before that byte.
+-- The text after the header, given the text after its maxval. A header of P5 ends with one
+-- whitespace byte right after the maxval.
 abbrev pub past_header : Encoding → List ℕ → Option (List ℕ)
 past_header Plain text = Some text
 past_header Raw [] = None

@@ -32,7 +32,7 @@ take_count take is_end zero text = if is_end text then Some [] else None
 take_count take is_end (suc count) text = then_take (take text) (λ number rest. option_map (λ numbers. number ∷ numbers) (take_count take is_end count rest))
 
 -- The `count` numbers in the text after a header, or None if the text has fewer numbers or doesn't
--- end after the last one. In a plain text each number comes after a gap, and whitespace and
+-- end after number `count`. In a plain text each number comes after a gap, and whitespace and
 -- comments may follow the last number.
 abbrev pub numbers_in : Encoding → (maxval count : ℕ) → List ℕ → Option (List ℕ)
 numbers_in Plain maxval count text = take_count take_next ends count text
@@ -63,13 +63,15 @@ pub record HoldsNumbers (maxval : ℕ) (high : Bool) (written : List ℤ) (numbe
 abbrev pub prepend : List ℕ → Option (List ℕ) → Option (List ℕ)
 prepend done o = option_map (λ others. done ++ others) o
 
--- The first numbers of a text have been read. The samples hold these numbers, unless one number is
--- above the maxval. The remaining `left` numbers are to be read from `rest`. `whole` is all
--- numbers, or None if `rest` doesn't have exactly the remaining numbers.
+-- The first numbers of a text have been read. `above` says whether one of these numbers is above
+-- the maxval. If none is, the samples hold these numbers. The remaining `left` numbers are to be
+-- read from `rest`. `whole` is all numbers, or None if `rest` doesn't have exactly the remaining
+-- numbers.
 abbrev pub LeftToFill : (take : List ℕ → BeginsWith ℕ) (is_end : List ℕ → Bool) (maxval : ℕ) (above : Bool) (samples : List ℤ) (left : ℕ) (rest : List ℕ) (whole : Option (List ℕ)) → Type 0
 LeftToFill take is_end maxval above samples left rest whole = (numbers : List ℕ) × HoldsNumbers maxval above samples numbers × (whole ≡ prepend numbers (take_count take is_end left rest))
 
--- The first numbers of a plain text have been read. The first `index` samples hold these numbers,
--- unless one number is above the maxval. The remaining numbers are to be read from `rest`.
+-- The first numbers of a plain text have been read. `above` says whether one of these numbers is
+-- above the maxval. If none is, the first `index` samples hold these numbers. The remaining numbers
+-- are to be read from `rest`.
 abbrev pub PlainUpTo : {T : Type 0} (value : T → ℤ) (maxval index : ℕ) (above : Bool) (samples : List T) (rest : List ℕ) (whole : Option (List ℕ)) → Type 0
 PlainUpTo value maxval index above samples rest whole = LeftToFill take_next ends maxval above (map value (take index samples)) (length samples - index) rest whole

@@ -26,7 +26,7 @@ abbrev pub picture_after : BeginsWith HeaderValue → Result PictureValue PgmFau
 picture_after None = Err InvalidFormat
 picture_after (Some taken) = picture_under taken.0 (header_description taken.0.width taken.0.height taken.0.maxval) taken.1
 
--- the picture that a text encodes, or its first fault
+-- the picture that a text encodes, or the text's first fault
 abbrev pub read_result : List ℕ → Result PictureValue PgmFault
 read_result text = picture_after (take_header text)
 
@@ -67,6 +67,7 @@ is_headed text = allowed (take_header text)
     allowed None = false
     allowed (Some taken) = without_fault (header_description taken.0.width taken.0.height taken.0.maxval)
 
--- why reading failed: the first fault of the text, or no memory for the samples
+-- why reading failed: the first fault of the text, or no memory for the samples after an accepted
+-- header
 pub record FailsFor (text : List ℕ) (e : PgmFault) : Type 0 where
   pub is : (fault text ≡ Some e) ⊎ ((e ≡ NoMemory) × (is_headed text ≡ true))

@@ -85,8 +85,9 @@ impl ShortNumbers {
         }
     }
 
-    /// Writes the block's numbers over the samples from `index` on. Returns the offset in the text
-    /// at which the last written number ends, and the index of the next sample.
+    /// Writes the block's numbers over the samples from `index` on, until the numbers or the
+    /// samples end. Returns the offset in the text at which the last written number ends, and the
+    /// index of the next sample.
     pub fn fill<T: TextSample>(
         &self,
         maxval: u16,

@@ -12,7 +12,7 @@ use vx_base::{Desc, Format};
 pub enum Encoding {
     /// P2: decimal numbers.
     Plain,
-    /// P5: one or two bytes each.
+    /// P5: one or two bytes for each sample.
     Raw,
 }
 
@@ -39,8 +39,8 @@ fn take_magic(text: &[u8]) -> Option<(Encoding, &[u8])>
     }
 }
 
-/// Returns the text after the header, given the text after the maxval. One whitespace byte ends a
-/// header of P5, and no comment may come before that byte.
+/// Returns the text after the header, given the text after the maxval. A header of P5 ends with one
+/// whitespace byte right after the maxval.
 fn past_header(encoding: Encoding, text: &[u8]) -> Option<&[u8]>
     ensures some { IfSome result (λ rest. past_header encoding text.now ≡ Some rest.now) }
     ensures none { IfNone result (past_header encoding text.now ≡ None) }

@@ -101,9 +101,9 @@ fn with_digit(number: u8, digit: u8, is_digit: bool) -> u8
 /// Reads a whitespace byte and a number of one to three digits from five bytes. Returns three
 /// values:
 ///
-/// 1. the number
-/// 2. the length in bytes of the whitespace byte and the number; 0 if `blank` isn't whitespace or no
-///    digit follows it, and if value 3 is true
+/// 1. the number, if value 2 isn't 0
+/// 2. the length in bytes of the whitespace byte and the number; 0 if `blank` isn't whitespace, if
+///    no digit follows it, or if value 3 is true
 /// 3. whether a slower function must read the bytes: the number has more than three digits or is
 ///    above the maxval, or `blank` is neither whitespace nor a digit
 ///

@@ -20,7 +20,7 @@ const SINGLES: usize = 16;
 
 /// Reads numbers one by one and writes them over the samples `from..to`. A number above the maxval
 /// is written as the maxval. Returns whether a number is above the maxval, and the text after the
-/// numbers. `None`: the text has fewer numbers.
+/// numbers. `None`: the text has too few numbers for these samples.
 fn read_singly<'a, T: TextSample>(
     maxval: u16,
     text: &'a [u8],
@@ -159,9 +159,10 @@ fn read_pairs<T: TextSample>(maxval: u16, bytes: &[u8], samples: &mut [T]) -> Re
 
 /// Reads one number for each sample from the text after a header, and writes it over the sample.
 /// The maxval must be 1 to 32767. The samples must be U8 if the maxval is below 256, else S16.
-/// After a fault the samples may have any value. `InvalidFormat`: the text has fewer numbers, or
-/// doesn't end after the last one. `InvalidValue`: a number is above the maxval, and there is no
-/// other fault. In a plain text, whitespace and comments may follow the last number.
+/// After a fault the samples may have any value. `InvalidFormat`: the text has too few numbers for
+/// the samples, or doesn't end after the last number read. `InvalidValue`: a number is above the
+/// maxval, and there is no other fault. In a plain text, whitespace and comments may follow the
+/// last number.
 pub fn read_samples(header: Header, text: &[u8], samples: &mut Samples) -> Result<(), PgmFault>
     requires maxval { IsTrue (is_maxval header.maxval) }
     requires format { samples_format samples.old ≡ format_up_to header.maxval }

@@ -14,7 +14,8 @@ use image_core::{Image, ImageMut, RowUpdate};
 use lane_rows::{Accumulated, OfSum, Squared, update_row};
 use vx_base::Rect;
 
-/// Adds `image` to an image of sums of the same size. `kernel` computes each new sum in `area`.
+/// Updates an image of sums from `image`, which has the same size. `kernel` computes each new sum
+/// in `area`.
 #[derive(Drop)]
 struct Added<'a, 'b, K> {
     kernel: &'a K,

@@ -56,7 +56,7 @@ pub record IsTrim (free : List ℕ) : Type 0 where
 abbrev pub IsFewer : List ℕ → List ℕ → Type 0
 IsFewer new old = (class : ℕ) → slice_index new class ≤ slice_index old class
 
--- a free block of the greatest class that had any was dropped
+-- a free block was dropped; its class was the greatest that had a free block
 pub record DropsLargest (old new : List ℕ) : Type 0 where
   pub class : ℕ
   pub free : HasFree old class

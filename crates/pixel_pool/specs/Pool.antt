@@ -47,8 +47,8 @@ Lends old new format = (f : Format) → lent_of new f ≡ lent_of old f + one_of
 abbrev pub KeepsOtherFree : Pool → Pool → Format → Type 0
 KeepsOtherFree old new format = (f : Format) → f ≢ format → free_of new f ≡ free_of old f
 
--- a block of the format for `count` samples was lent: a free one that fits, or if none does, a new
--- one
+-- a block of the format for `count` samples was lent: the smallest free one that fits, or if none
+-- does, a new one
 pub record LendsBlock (format : Format) (count : ℕ) (old new : Pool) : Type 0 where
   pub lends : Lends old new format
   pub smallest : LendsSmallest count (free_of old format) (free_of new format)

@@ -210,7 +210,7 @@ impl<T: Copy + Drop> Shelf<T> {
         self.free.len() <= KEPT_BLOCKS && self.capacity <= KEPT_CAPACITY
     }
 
-    /// Drops a free block of the greatest class that has any. The limits must be exceeded; then at
+    /// Drops a free block of the greatest class that has any. The limits must be exceeded, so at
     /// least one block is free.
     #[tactic(auto, using(crate::proofs::FreeLemmas::none_is_trim))]
     fn drop_largest(&mut self)

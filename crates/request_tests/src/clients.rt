@@ -180,8 +180,8 @@ fn a_graph_runs(rt: HostRuntime) -> Result<(), Fail> {
     Ok(())
 }
 
-/// Releases image 1, which a node of graph 3 uses. Returns whether the image is still held: no new
-/// node can use it, but it is still charged, and the graph still runs on it.
+/// Releases image 1, which a node of graph 3 uses. Returns whether no new node can use the image,
+/// and the image is still held: it is charged, and the graph runs on it.
 fn is_held(alloc: Global, runtime: &mut Runtime, making: &Request) -> Result<bool, Fail> {
     succeed(alloc, runtime, &Request::Release(1))?;
     let adding = adding(Function::NotBits, 1, 4)?;

@@ -119,8 +119,8 @@ fn holds(alloc: Global, runtime: &mut Runtime, writing: &[u8]) -> Result<bool, F
     Ok(replies.len() > 8 && replies[7] == 0 && &replies[8..] == read(writing))
 }
 
-/// Writes a picture in pieces of one size and reads it in pieces of another size. Returns whether
-/// the picture comes back unchanged.
+/// Writes a picture in pieces of `source_piece` bytes and reads it in pieces of `sink_piece` bytes.
+/// Returns whether the picture comes back unchanged.
 fn comes_back(
     alloc: Global,
     desc: Desc,
@@ -158,8 +158,8 @@ fn pictures_in_pieces(rt: HostRuntime) -> Result<(), Fail> {
 }
 
 /// Returns whether the image still has the first picture after two failed writes of the next
-/// picture. `part` is the beginning of the frame. In one write, the stream ends after `part`. In the
-/// other, a read within `part` fails.
+/// picture. `part` is the beginning of the next picture's frame. In one write, the stream ends
+/// after `part`. In the other, a read within `part` fails.
 fn stays(
     alloc: Global,
     runtime: &mut Runtime,

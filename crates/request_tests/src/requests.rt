@@ -10,9 +10,9 @@ use vx_base::{
 };
 use vx_requests::{Failed, ParseFault, StreamFault, fits_a_frame, parse, write_request};
 
-/// Writes a request of client 258 to a sink that takes at most seven bytes in each call, and fails
-/// after `good_writes` calls. Returns the result and the bytes that the sink took. The result is
-/// `BadLength` if the request fits no frame.
+/// Writes a request of client 258 to a sink. The sink takes at most seven bytes in each call, and
+/// fails after `good_writes` calls. Returns the result and the bytes that the sink took. The result
+/// is `BadLength` if the request fits no frame.
 fn write(alloc: Global, request: &Request, good_writes: u64) -> (Result<(), StreamFault>, Vec<u8>) {
     let mut sink = PiecewiseSink {
         bytes: Vec::new(alloc),

@@ -94,7 +94,8 @@ fn texts_in_pieces(rt: HostRuntime) -> Result<(), Fail> {
 }
 
 /// Serves 23 parts of the frame that writes the next text. Each part begins at the frame's start.
-/// Returns whether the image still has the first text each time.
+/// Returns whether serving fails with `Truncated` each time, and the image still has the first
+/// text.
 fn stays_after_parts(
     alloc: Global,
     runtime: &mut Runtime,

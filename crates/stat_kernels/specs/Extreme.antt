@@ -59,7 +59,7 @@ shift_down down l = record l { at = (l.at.0, l.at.1 + down) }
 abbrev pub shift_found : ℕ → Found → Found
 shift_found down f = record { least = shift_down down f.least; greatest = shift_down down f.greatest }
 
--- the extremes of the rows above a band, merged with the extremes of the band, whose pixels are
--- moved down by `down` rows
+-- the extremes of the rows above a band, merged with the band's extremes. Before the merge, the
+-- pixels of the band's extremes are moved down by `down` rows.
 abbrev pub added_extremes : ℕ → Extremes → Extremes → Extremes
 added_extremes down e band = extremes_of (merge_found (found_of e) (shift_found down (found_of band)))

@@ -27,7 +27,7 @@ pub record IsRowOf (part : ImageValue) (y : ℕ) (whole : ImageValue) (line : �
   pub valid : (x : ℕ) → has_pixel part.valid x y ≡ has_pixel whole.valid x line
   pub samples : (x : ℕ) → x < whole.width → pixel_at part x y ≡ pixel_at whole x line
 
--- a band's rows are the rows of another image from row `line` on
+-- the image `whole` has the rows of a band of `part`, from row `line` on
 pub record AreRowsOf (part : ImageValue) (rows : Band) (whole : ImageValue) (line : ℕ) : Type 0 where
   pub is : IsImage whole
   pub each : (k : ℕ) → k < rows.count → IsRowOf part (rows.start + k) whole (line + k)
@@ -48,7 +48,7 @@ sum_on image start above x y = pos (((if nat_le image.valid.y0 start then above 
 abbrev pub row_total : ImageValue → ℕ → ℕ → ℕ
 row_total image x y = sum_by unsigned_abs (run image.valid.x0 (x + 1 - image.valid.x0) (λ k. pixel_at image k y))
 
--- a sample of row y of an integral image, from the sum in the row above
+-- the sample in column x of row y of an integral image, computed from the sum in the row above
 abbrev pub next_sum : ImageValue → (ℕ → ℕ) → ℕ → ℕ → ℤ
 next_sum image above x y = pos ((above x + row_total image x y) % 2 ^ 32)
 

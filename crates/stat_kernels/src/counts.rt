@@ -13,8 +13,8 @@ use image_core::{Band, Image};
 use lane_rows::tally_row;
 use vx_base::Bins;
 
-/// Counts the valid samples of a band of a U8 image by value. The count of a value is the sum of
-/// its entries in the four arrays.
+/// Counts how often each value occurs among the valid samples of a band of a U8 image. The count of
+/// a value is the sum of its entries in the four arrays.
 #[tactic(auto, using(crate::proofs::BandLaws::few_samples))]
 fn count_values(
     image: &Image<'_>,

@@ -43,9 +43,9 @@ pub fn extremes_of_bands()
         ≡ extremes (valid_in (record { start = start; count = first + second }) image) }
 {}
 
-/// The extremes of two adjacent bands of `whole` can also be merged if another image, `part`, has
-/// the second band's rows. In `part` they form the band `rows`. Each such row y of `part` is row
-/// y + `down` of `whole`.
+/// The extremes of two adjacent bands of `whole` can also be merged if the second band's extremes
+/// are computed from another image, `part`, that has this band's rows. In `part` these rows form
+/// the band `rows`. Each such row y of `part` is row y + `down` of `whole`.
 pub fn extremes_of_parts()
     ensures { (part whole : ImageValue) (rows : Rows) (start first down : ℕ) →
         rows.start + down ≡ start + first → AreRowsOf part rows whole (start + first) →

@@ -69,8 +69,8 @@ pub fn row_above(before: &[u32], width: usize) -> Option<&[u32]>
 /// Writes a band of an integral image, continuing from `above`: the row above the band, or `None`
 /// at the top of an image. Reads only the band's rows of `image`. The clause `whole` is about
 /// another image, `whole`, that has these rows from row `line` on. If `above` is the row above row
-/// `line` in the integral image of `whole`, this function writes the band of that integral image
-/// that begins at row `line`.
+/// `line` in the integral image of `whole`, this function writes `rows.count` rows of that integral
+/// image, from row `line` on.
 pub fn integral_on(image: &Image<'_>, rows: Band, above: Option<&[u32]>, samples: &mut [u32])
     requires format { image.now.format ≡ U8 }
     requires rows { IsInRows image.now.height rows }

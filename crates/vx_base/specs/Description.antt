@@ -23,7 +23,7 @@ description width height format =
 abbrev pub sample_count : Description → ℕ
 sample_count d = d.height * d.width
 
--- the size of an image's samples in bytes
+-- the total size of an image's samples in bytes
 abbrev pub byte_count : Description → ℕ
 byte_count d = sample_count d * sample_bytes d.format
 

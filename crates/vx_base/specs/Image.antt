@@ -43,7 +43,7 @@ abbrev pub pixel_at : ImageValue → ℕ → ℕ → ℤ
 pixel_at image x y = slice_index_or image.samples (y * image.width + x) (pos 0)
 
 -- an image of permitted size, with a sample of its format for each pixel. The valid rectangle is
--- canonical and within the image, and the samples outside it are 0.
+-- canonical and within the image. The samples outside the rectangle are 0.
 pub record IsImage (image : ImageValue) : Type 0 where
   pub sides : IsDescription (description_of image)
   pub size : length image.samples ≡ image.height * image.width

@@ -15,7 +15,7 @@ use Rattle.vx_base.specs.Reference.{Reference, IsReference}
 abbrev pub is_nothing : Reference → Bool
 is_nothing cell = (cell.name == 0) && is_none cell.slot
 
--- whether an operand is absent, or is a reference other than name 0 without a slot
+-- whether an operand is absent, has a slot, or has a name other than 0
 abbrev pub is_named : Option Reference → Bool
 is_named None = true
 is_named (Some cell) = not (is_nothing cell)
@@ -71,7 +71,7 @@ outputs n = optional_cells n.out1 ++ optional_cells n.out2
 abbrev pub second_kind : Node → Kind
 second_kind n = unwrap_or (parameters n.function).second_input kind.Image
 
--- a reference with this kind, as a list; empty if the reference is not given
+-- a reference and this kind, as a list of one pair; empty if the reference is not given
 abbrev pub with_kind : Kind → Option Reference → List (Reference × Kind)
 with_kind k None = []
 with_kind k (Some cell) = (cell, k) ∷ []

@@ -68,7 +68,7 @@ object_format (ThresholdObject threshold) = Some threshold.format
 object_format (ConvolutionObject convolution) = Some S16
 object_format other = None
 
--- the size of an image's samples in bytes
+-- the total size of an image's samples in bytes
 abbrev pub image_bytes : ImageValue → ℕ
 image_bytes image = byte_count (description_of image)
 

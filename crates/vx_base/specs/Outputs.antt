@@ -54,8 +54,8 @@ written_to n output cell (Some first) second (Some old) = (cell, node_output n o
 written_to n output cell first second old = []
 
 -- an output's reference and the output's new value, as a list of at most one pair. `start` gives
--- the objects at the start of the run, `held` the present objects. The output's earlier value is
--- from `start`, and the inputs are from `held`.
+-- the objects at the start of the run. `held` gives the present objects. The output's earlier value
+-- is from `start`, and the inputs are from `held`.
 abbrev pub written_in : Node → Output → Option Reference → (Reference → Option ObjectValue) → (Reference → Option ObjectValue) → List (Reference × ObjectValue)
 written_in n output None start held = []
 written_in n output (Some cell) start held = written_to n output cell (held n.in1) (option_and_then held n.in2) (start cell)

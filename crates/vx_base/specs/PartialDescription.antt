@@ -16,7 +16,7 @@ abbrev pub may_be_side : Option ℕ → Bool
 may_be_side None = true
 may_be_side (Some n) = is_side n
 
--- the partial description with these parts, if its sides are permitted
+-- the partial description with these parts, if its given sides are permitted
 abbrev pub partial_description : Option ℕ → Option ℕ → Option Format → Option PartialDescription
 partial_description width height format =
     if may_be_side width && may_be_side height then Some (record { width = width; height = height; format = format }) else None

@@ -11,7 +11,7 @@ pub record Reference : Type 0 where
 abbrev pub reference_to : ℕ → Reference
 reference_to name = record { name = name; slot = None }
 
--- whether the slots of two references are equal; None is no slot
+-- whether the slots of two references are equal; None means that a reference has no slot
 abbrev pub same_slot : Option ℕ → Option ℕ → Bool
 same_slot None None = true
 same_slot (Some j) (Some k) = j == k
@@ -21,7 +21,7 @@ same_slot j k = false
 abbrev pub same_reference : Reference → Reference → Bool
 same_reference a b = (a.name == b.name) && same_slot a.slot b.slot
 
--- a reference whose name has 32 bits and whose slot is below 255
+-- a reference whose name has 32 bits and whose slot, if it has one, is below 255
 pub record IsReference (cell : Reference) : Type 0 where
   pub name : cell.name < 2 ^ 32
   pub slot : IfSome cell.slot (λ k. k < 255)

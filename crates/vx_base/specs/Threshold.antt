@@ -32,7 +32,8 @@ threshold format kind true_value false_value =
     then Some (record { format = format; kind = kind; true_value = true_value; false_value = false_value })
     else None
 
--- whether a sample passes: it is above the limit t, or in the range from lower to upper
+-- whether a sample passes. It passes a binary threshold if it is above t, and a range threshold if
+-- it is from `lower` to `upper`, both included.
 abbrev pub passes : ThresholdKind → ℤ → Bool
 passes (Binary t) a = int_lt t a
 passes (Range lower upper) a = int_le lower a && int_le a upper

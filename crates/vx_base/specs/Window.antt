@@ -22,7 +22,7 @@ use Rattle.vx_base.specs.Image.{ImageValue, pixel_at, image_from}
 abbrev pub holds : Rectangle → ℤ → ℤ → Bool
 holds r x y = (int_le (pos r.x0) x && int_lt x (pos r.x1)) && (int_le (pos r.y0) y && int_lt y (pos r.y1))
 
--- the number from low to high - 1 that is nearest to v
+-- the number from `low` to `high - 1` that is nearest to v, or `low` if there is none
 abbrev pub clamp_coordinate : ℕ → ℕ → ℤ → ℕ
 clamp_coordinate low high v = unsigned_abs (int_max (pos low) (int_min v (pos high -ℤ pos 1)))
 

@@ -114,7 +114,7 @@ impl Desc {
         usize::from(self.height) * usize::from(self.width)
     }
 
-    /// Returns the size of the samples in bytes.
+    /// Returns the total size of the samples in bytes.
     pub fn byte_count(self) -> usize
         ensures value { result ≡ byte_count self }
         ensures limit { result ≤ GREATEST_BYTES }

@@ -44,7 +44,8 @@ pub fn narrowed()
     ensures kept { narrow S16 Saturate (negsuc 99) ≡ negsuc 99 }
 {}
 
-/// Rectangles made from bounds, intersections of rectangles, and rectangles shrunk by radii.
+/// Bounds that make a rectangle, and bounds that don't. Intersections of rectangles, and rectangles
+/// shrunk by radii.
 pub fn rectangles()
     ensures proper { rectangle 1 0 3 1 ≡ Some (record { x0 = 1; y0 = 0; x1 = 3; y1 = 1 }) }
     ensures zeros { rectangle 0 0 0 0 ≡ Some empty_rectangle }
@@ -210,7 +211,7 @@ pub fn thresholds()
 {}
 
 /// Entries of tables that begin with 5, 6, 7. The other clauses show the kind of second input that
-/// two functions take.
+/// each of two functions takes.
 pub fn tables()
     ensures third { entry_for (record { format = U8; entries = pos 5 ∷ pos 6 ∷ pos 7 ∷ [] })
         (pos 2) ≡ pos 7 }
@@ -313,9 +314,9 @@ pub fn nodes()
     }) ≡ false }
 {}
 
-/// Four partial descriptions: one gets its open parts from another, one has an open part, one has
-/// none, and one is too wide. The other clauses show which format a function gives to an output of
-/// open format.
+/// Five partial descriptions: the first gets its open parts from the second, the third has an open
+/// part, the fourth has no open part, and the fifth is too wide. The other clauses show which
+/// format a function gives to an output of open format.
 pub fn partial_descs()
     ensures filled { with_defaults (record { width = Some 4; height = None; format = None })
         (record { width = Some 8; height = Some 2; format = Some U8 })

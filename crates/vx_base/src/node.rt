@@ -49,10 +49,12 @@ impl Model for NodeSpec {
 impl NodeSpec {
     ghost use Rattle.vx_base.specs.Node.{is_node, node_spec, IsNode};
 
-    /// Returns the node with these fields, or `None` if they don't suit its function. An input or
-    /// output that the function doesn't take must be `None`. If the function takes no policy, the
-    /// policy must be `Policy::Wrap`. If it takes no amount, the amount must be 0. An operand that
-    /// is name 0 without a slot suits no function. Every border suits every function.
+    /// Returns the node with these fields, or `None` if they don't suit its function. The
+    /// function's inputs and at least one of its outputs must be given. An operand that the
+    /// function doesn't take must be `None`. If the function takes no policy, the policy must be
+    /// `Policy::Wrap`. The amount must be at most the function's greatest amount, or 0 if the
+    /// function takes no amount. An operand that is name 0 without a slot suits no function. Every
+    /// border suits every function.
     pub fn new(node: Node) -> Option<NodeSpec>
         ensures { result ≡ node_spec node }
     {

@@ -6,7 +6,7 @@ use Rattle.std.specs.Str.Parse.{digits_value}
 use Rattle.client_model.specs.Limits.{LimitsValue, is_limit, limits_from}
 
 -- the number of bytes that a word spells, if the word has only digits and the number is 1 to 2^40;
--- an empty word spells 0
+-- an empty word spells 0, and so gives None
 abbrev pub parse_bytes : List ℕ → Option ℕ
 parse_bytes word = if all_ascii_digits word then (if is_limit (digits_value 10 word) then Some (digits_value 10 word) else None) else None
 

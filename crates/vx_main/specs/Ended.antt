@@ -22,15 +22,15 @@ fault_line ReadFailed = codes "read failed"
 fault_line WriteFailed = codes "write failed"
 fault_line ReaderWouldNotEnd = codes "reader would not end"
 
--- the exit status: 2 for a refused command line, `fault_status` for a fault of the stream, 5 for a
--- status code
+-- the exit status: 2 for a refused command line, `fault_status` for a fault of the stream, 5 for
+-- `Refused`, whatever its code
 abbrev pub ended_status : Ended → ℕ
 ended_status (CommandLine text) = 2
 ended_status (Stream fault) = fault_status fault
 ended_status (Refused code) = 5
 
 -- the text on standard error: the refusal's text for a refused command line, `fault_line` for a
--- fault of the stream, the name for a status code
+-- fault of the stream, the code's name for `Refused`
 abbrev pub ended_line : Ended → List ℕ
 ended_line (CommandLine text) = string_bytes text
 ended_line (Stream fault) = fault_line fault

@@ -44,7 +44,7 @@ pub enum Asked {
 
 /// Returns what the words tell the program to do: `serve`, optionally with a quota and work bytes;
 /// or `apply` with a function, optionally with a border. The error holds the text of a refusal, of
-/// the help or of the version.
+/// the help or of the version, or says that memory was refused.
 pub fn read_words(alloc: Global, words: &[&str]) -> Result<Asked, Error> {
     let program = Command::new(alloc, "vx_main")
         .version(VERSION)

@@ -12,7 +12,7 @@ use vx_requests::StreamFault;
 pub enum Ended {
     /// The command line was refused, with this text.
     CommandLine(String),
-    /// Reading the input or writing the output failed.
+    /// Reading the input or writing the output ended with this fault.
     Stream(StreamFault),
     /// `apply` failed with this code, or memory was refused while the program started.
     Refused(Code),

@@ -376,7 +376,7 @@ fn refuses_texts(rt: HostRuntime) {
     }
 }
 
-/// A reader that gives some bytes, and then fails.
+/// A reader that gives `bytes`, and then fails.
 #[derive(Drop)]
 struct FailingReader<'a> {
     bytes: &'a [u8],
@@ -407,7 +407,7 @@ fn tells_a_text_that_is_too_long(rt: HostRuntime) {
     ends(&rt, rt.alloc(), failing, 5, "NO_RESOURCES");
 }
 
-/// A writer that takes some bytes and then fails, or takes all and fails to flush them.
+/// A writer that takes at most `room` bytes. Further writes fail, and so does each flush.
 #[derive(Drop)]
 struct FailingWriter {
     room: usize,

@@ -7,7 +7,8 @@ ghost use Rattle.vx_requests.specs.Frame.Frames.{IsLength};
 ghost use Rattle.vx_requests.specs.Serving.Clients.{spelled_frame};
 ghost use Rattle.vx_wire.specs.Replies.{said_of};
 
-/// The least and the greatest length of a frame, and the two lengths that are just out of range.
+/// The least and the greatest length of a request frame, and the two lengths that are just out of
+/// range.
 pub fn lengths()
     ensures least { IsLength 3 }
     ensures greatest { IsLength 536870912 }

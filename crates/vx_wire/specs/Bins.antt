@@ -6,7 +6,7 @@ use Rattle.vx_base.specs.Statistics.{BinsValue}
 use Rattle.vx_wire.specs.declared.body_fault.BodyFault.TheVariants.{InvalidValue}
 use Rattle.vx_wire.specs.Fields.{FieldResult, and_then, allowed_or_fault, take_short}
 
--- whether a number of bins or a range is 1 to 256
+-- whether `n` is from 1 to 256, as a number of bins or a range must be
 abbrev pub is_up_to_256 : ℕ → Bool
 is_up_to_256 n = nat_le 1 n && nat_le n 256
 

@@ -21,12 +21,12 @@ format_numbered n = with_number format_number (U8 ∷ S16 ∷ U32 ∷ []) n
 abbrev pub take_format : List ℕ → FieldResult Format
 take_format body = and_then (take_byte body) (λ n rest. allowed_or_fault InvalidFormat (format_numbered n) rest)
 
--- the number of a format; an open format is 0
+-- the number of a format; 0 if the format is open
 abbrev pub open_format_number : Option Format → ℕ
 open_format_number None = 0
 open_format_number (Some format) = format_number format
 
--- the format with this number; 0 is an open format
+-- the format with this number; 0 means that the format is open
 abbrev pub open_format_numbered : ℕ → Option (Option Format)
 open_format_numbered n = with_number open_format_number (None ∷ Some U8 ∷ Some S16 ∷ Some U32 ∷ []) n
 

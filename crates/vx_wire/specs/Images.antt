@@ -23,8 +23,8 @@ query_image_in body = one_field take_reference QueryImage body
 abbrev pub write_image_in : List ℕ → Result Request BodyFault
 write_image_in body = two_fields take_reference take_picture WriteImage body
 
--- The request WriteImage for an image and a picture with this description. The list of bytes
--- encodes the picture's samples.
+-- The request WriteImage that writes a picture to this image. The picture has the description `d`,
+-- and `bytes` encodes the picture's samples.
 abbrev pub write_image_of : Reference → Description → List ℕ → Request
 write_image_of image d bytes = WriteImage image (record { description = d; samples = decoded_samples d.format (sample_count d) bytes })
 

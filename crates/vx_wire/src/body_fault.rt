@@ -21,6 +21,6 @@ pub enum BodyFault {
     /// - a rectangle with a bound other than 0 has x0 >= x1 or y0 >= y1
     /// - the number of slots of a delay isn't 1 to 16
     /// - the exponent of a convolution is above 31
-    /// - the number of bins or their range isn't 1 to 256, or the offset of the bins is above 255
+    /// - the number of bins or their `range` isn't 1 to 256, or their `offset` is above 255
     InvalidValue,
 }

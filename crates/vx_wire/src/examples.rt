@@ -317,8 +317,8 @@ pub fn virtual_images_made()
     ensures no_name { request_of 19 (0 ∷ 0 ∷ 0 ∷ []) ≡ Err InvalidParameters }
 {}
 
-/// Adding to graph 258 a Not node, which reads image 1 and writes image 2; and invalid nodes. The
-/// graph's name is read before the node.
+/// Adding a Not node to graph 258. The node reads image 1 and writes image 2. Then invalid nodes.
+/// The graph's name is read before the node.
 pub fn nodes_added()
     ensures added { request_of 20 (0 ∷ 0 ∷ 1 ∷ 2 ∷ 4 ∷ 0 ∷ 0 ∷ 0 ∷ 0 ∷ 0 ∷ 0 ∷ 0 ∷ 1 ∷ 255 ∷ 0 ∷ 0
         ∷ 0 ∷ 0 ∷ 255 ∷ 0 ∷ 0 ∷ 0 ∷ 2 ∷ 255 ∷ 0 ∷ 0 ∷ 0 ∷ 0 ∷ 255 ∷ [])

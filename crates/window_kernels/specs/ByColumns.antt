@@ -7,7 +7,7 @@ use Rattle.std.proofs.lemmas.Int.{ints}
 use Rattle.vx_base.specs.Window.{least_of, greatest_of, gradient_x, gradient_y, box_mean, gaussian_mean}
 use Rattle.lane_rows.specs.Threes.{IsUpTo}
 
--- for an associative operation whose inner operands can be exchanged
+-- `op` is associative, and y and z can be exchanged in (x op y) op (z op u)
 module _ (op : ℤ → ℤ → ℤ) (assoc : (x y z : ℤ) → op x (op y z) ≡ op (op x y) z) (turned : (x y z u : ℤ) → op (op x y) (op z u) ≡ op (op x z) (op y u)) where
   in_rows : (a b c d e f g h i : ℤ) → op (op (op (op a d) g) (op (op b e) h)) (op (op c f) i) ≡ op (op (op (op a b) c) (op (op d e) f)) (op (op g h) i)
   in_rows a b c d e f g h i =

@@ -9,7 +9,7 @@ use Rattle.image_core.specs.declared.image_mut.ImageMut.{ImageMut}
 use Rattle.image_core.specs.Fits.{HaveSameSize}
 use Rattle.image_core.specs.Target.{target_image, IsTarget}
 
--- a U8 input, and an output of the input's size in the format `output`
+-- a U8 input, and an output with the input's size and the format `output`
 pub record WindowFits (output : Format) (a : ImageValue) (out : ImageMut) : Type 0 where
   pub target : IsTarget out
   pub size : HaveSameSize (target_image out) a

@@ -56,7 +56,8 @@ fn write_pair(first: i16, second: i16, out: &mut [i16])
     out.copy_from_slice(&[a, b, a, b, a, b, a, b, a, b, a, b, a, b, a, b]);
 }
 
-/// Writes the tables of all rows of a matrix: five coefficient pairs for each row.
+/// Writes the tables of all rows of a matrix: five coefficient pairs for each row, each pair eight
+/// times.
 fn write_tables(convolution: &Convolution, tables: &mut [i16])
     requires { length tables.old ≡ convolution.now.rows * 80 }
     ensures value { tables.new ≡ rotated_tables convolution.now }

@@ -72,8 +72,8 @@ pub fn gradients()
     ensures { from_nine S16 gradient_x Undefined three_by_three ≡ at_centre S16 (pos 8) }
 {}
 
-/// A matrix with 1 in its upper left corner and 0 elsewhere gives each pixel the sample to its
-/// lower right.
+/// A matrix with 1 in its upper left corner and 0 elsewhere gives the image's centre pixel the
+/// sample to its lower right.
 pub fn rotated_matrix()
     ensures { from_matrix U8 upper_left Undefined three_by_three ≡ at_centre U8 (pos 9) }
 {}

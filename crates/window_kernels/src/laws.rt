@@ -19,7 +19,8 @@ pub fn valid_pixels()
         sample_or_border image border (pos x) (pos y) ≡ pixel_at image x y }
 {}
 
-/// `clamp_coordinate` gives the number from `low` to `high - 1` that is nearest to `v`.
+/// If `low < high`, `clamp_coordinate` gives the number from `low` to `high - 1` that is nearest to
+/// `v`.
 pub fn nearest_number()
     ensures within { (low high : ℕ) (v : ℤ) → low < high → (low ≤ clamp_coordinate low high v) ×
         (clamp_coordinate low high v < high) }
@@ -27,8 +28,8 @@ pub fn nearest_number()
         distance v (pos (clamp_coordinate low high v)) ≤ distance v (pos n) }
 {}
 
-/// Nine numbers have exactly one median: one of the nine such that at most four are smaller and at
-/// most four are greater.
+/// The median of nine numbers is one of the nine. It is the only number with at most four of the
+/// nine below it and at most four above it.
 pub fn median_of_nine()
     ensures among { (a b c d e f g h i : ℤ) →
         let zs = a ∷ b ∷ c ∷ d ∷ e ∷ f ∷ g ∷ h ∷ i ∷ [] in Contains zs (median zs) }

@@ -183,9 +183,9 @@ pub const SIDE: usize = GREATEST_SIDE as usize;
 /// Makes a call with a slice of items on the stack.
 ///
 /// `with_scratch!(count, [item; most], row => call)` binds the slice to `row`. Initializing the
-/// items takes time, so a small image gets a short slice. For a count of at most 64 the slice has
-/// 64 items, for a count of at most 512 it has 512, and otherwise `most`. With `[item; small,
-/// middle, most]` these lengths are `small`, `middle` and `most`.
+/// items takes time, so a narrow image gets a short slice. If `count` is at most 64, the slice has
+/// 64 items. If `count` is 65 to 512, the slice has 512 items. For a greater `count` it has `most`
+/// items. With `[item; small, middle, most]` the three lengths are `small`, `middle` and `most`.
 macro_rules! with_scratch {
     ($count:expr, [$item:expr; $most:expr], $row:ident => $call:expr) => {
         with_scratch!($count, [$item; 64, 512, $most], $row => $call)

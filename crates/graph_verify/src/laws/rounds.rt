@@ -20,9 +20,9 @@ pub fn once_through_an_order<V>()
 {}
 
 /// If a graph can run, running as many rounds as there are nodes gives the graph's only solution.
-/// In a solution, each written object has the value that its writer computes, and every other
-/// object is unchanged. The law assumes that a node's values depend only on the objects that the
-/// node reads.
+/// In a solution, each written object has the value that its writer computes from the solution
+/// itself, and every other object is unchanged. The law assumes that a node's values depend only on
+/// the objects that the node reads.
 pub fn only_solution<V>()
     ensures solves { (value : Node → (Reference → V) → Reference → V) (work : ℕ)
         (is : Reference → Operand)

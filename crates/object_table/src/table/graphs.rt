@@ -138,7 +138,7 @@ fn begin_uses(entries: &mut BTreeMap<u32, Entry>, node: &Node)
     begin_use(entries, node.out2);
 }
 
-/// Adds one use for an operand of a node; `None` if the node has no such operand.
+/// Adds one use for an operand of a node. `operand` is `None` if the node has no such operand.
 fn begin_use(entries: &mut BTreeMap<u32, Entry>, operand: Option<ObjRef>)
     requires { All (λ e. e.1.uses < 4294967295) entries.old.entries }
     ensures { entries.new.entries ≡ used_more (map (λ cell. cell.name) (optional_cells operand))
@@ -170,8 +170,8 @@ fn end_uses(entries: &mut BTreeMap<u32, Entry>, charge: u64, node: &Node, pool: 
     end_use(entries, charge, node.out2, pool)
 }
 
-/// Removes one use for an operand of a node; `None` if the node has no such operand. Drops objects
-/// and returns the charge as `end_uses` does.
+/// Removes one use for an operand of a node. `operand` is `None` if the node has no such operand.
+/// Drops objects and returns the charge as `end_uses` does.
 #[tactic(auto, using(crate::proofs::KeptLemmas::end_steps))]
 fn end_use(
     entries: &mut BTreeMap<u32, Entry>,

@@ -20,8 +20,8 @@ BreaksIn ReadFailed left = Unit {0}
 BreaksIn ReaderWouldNotEnd left = Unit {0}
 BreaksIn e left = ⊥
 
--- reading stopped with this fault; `rest` has the bytes read after the last whole frame, `left` the
--- bytes left in the source
+-- reading stopped with this fault; `rest` has the bytes read after the last whole frame, and `left`
+-- has the bytes that remain in the source
 abbrev pub BreaksOff : StreamFault → (rest : List ℕ) (left : Option (List ℕ)) → Type 0
 BreaksOff Truncated rest left = IsTruncated rest × IsAtEnd left
 BreaksOff BadLength rest left = (length rest ≡ 4) × (IsLength (said_length rest) → ⊥)
@@ -61,7 +61,7 @@ pub record KeepsCount {S T : Type 0} (reads failures : S → ℕ) (old new : Rea
   pub counted : CountsReads (reads old.source.now) (reads new.source.now) old.budget new.budget result
   pub failed : failures new.source.now ≡ failures old.source.now + read_failures result
 
--- the samples were read, in this format; or reading failed before all bytes of the samples were
+-- the samples were read, in this format; or reading stopped before all bytes of the samples were
 -- read
 pub record ReadsOver {S : Type 0} (left : S → Option (List ℕ)) (reads failures : S → ℕ) (old new : Reader S) (format : Format) (samples : List ℤ) (result : Result ⊤ StreamFault) : Type 0 where
   pub ok : OnOk result (ReadsSamples (left old.source.now) (left new.source.now) format samples)

@@ -7,13 +7,13 @@ use Rattle.vx_requests.specs.declared.serving.summary.Summary.{Summary}
 use Rattle.vx_requests.specs.Frame.Frames.{ReplyFrame, reply_bytes, joined_replies}
 use Rattle.vx_requests.specs.Frame.Reading.{BreaksOff}
 
--- all replies were written, the last one possibly only in part
+-- all replies except the last were written, and a prefix of the last
 abbrev pub AppendsMost : Option (List ℕ) → Option (List ℕ) → List ReplyFrame → Type 0
 AppendsMost old new replies = (earlier : List ReplyFrame) × (last : ReplyFrame) × (front : List ℕ) × (back : List ℕ)
     × (replies ≡ earlier ++ last ∷ []) × (reply_bytes last ≡ front ++ back) × Appends old new (joined_replies earlier ++ front)
 
--- `serve` ended with this fault; `rest` has the bytes read after the last whole frame, `left` the
--- bytes left in the source
+-- `serve` ended with this fault; `rest` has the bytes read after the last whole frame, and `left`
+-- has the bytes that remain in the source
 abbrev pub EndsBy : StreamFault → (rest : List ℕ) (left taken_old taken_new : Option (List ℕ)) (replies : List ReplyFrame) → Type 0
 EndsBy WriteFailed rest left old new replies = (rest ≡ []) × AppendsMost old new replies
 EndsBy e rest left old new replies = BreaksOff e rest left × Appends old new (joined_replies replies)

@@ -18,7 +18,8 @@ use Rattle.vx_requests.specs.Serving.Lost.{MayBeLost}
 use Rattle.vx_requests.specs.Frame.Reading.{BreaksOff, ReadsPart}
 use Rattle.vx_wire.specs.Replies.{Said, said_of}
 
--- the reply to a frame that was kept or lost, and the clients' states after the frame
+-- the reply to a frame, and the clients' states after the frame; the frame was lost only if
+-- `MayBeLost` allows it
 pub record IsReply (limits : LimitsValue) (f : Frame) (old new : ℕ → State) (reply : ReplyFrame) : Type 0 where
   pub lost : Bool
   pub may : lost ≡ true → MayBeLost f

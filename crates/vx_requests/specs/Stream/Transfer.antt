@@ -28,8 +28,8 @@ abbrev pub CountsReads : {T : Type 0} → (reads_old reads_new budget_old budget
 CountsReads reads_old reads_new budget_old budget_new result =
     (reads_new + budget_new ≡ reads_old + budget_old) × (budget_new ≤ budget_old) × IfErr result (λ e. e ≡ ReaderWouldNotEnd → budget_new ≡ 0)
 
--- `count` bytes were read into the front of the buffer; fewer than the buffer's length only if the
--- stream has ended
+-- `count` bytes were read into the front of the buffer; `count` is below the buffer's length only
+-- if the stream has ended
 abbrev pub Fills : Option (List ℕ) → Option (List ℕ) → List ℕ → ℕ → Type 0
 Fills old new buf count = (count ≤ length buf) × Consumes old new (take count buf) × (count < length buf → IsAtEnd new)
 

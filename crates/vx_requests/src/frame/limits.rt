@@ -4,11 +4,12 @@ ghost use Rattle.vx_requests.specs.Frame.Frames.{fits_a_frame};
 
 use client_model::Request;
 
-/// The greatest length of a frame: 2^29. The length counts the bytes after the length field.
+/// The greatest length of a request frame: 2^29. The length counts the bytes after the length
+/// field.
 pub const GREATEST_LENGTH: u32 = 536_870_912;
 
-/// The most bytes of a text in a frame. The frame's length also counts the 8 bytes of the client,
-/// the op and the reference before the text.
+/// The most bytes of a text in a request frame. The frame's length also counts the 8 bytes of the
+/// client, the op and the reference before the text.
 pub const GREATEST_TEXT: usize = GREATEST_LENGTH as usize - 8;
 
 /// Returns whether a request fits a frame. Only a request with a text of more than 536,870,904

@@ -256,7 +256,8 @@ fn head_before(count: usize, client: u16, op: u8) -> [u8; 8]
     [a, b, c, d, e, f, op, 0]
 }
 
-/// Returns the bytes before the first count in the frame of a reply that has `count` counts.
+/// Returns the bytes before a distribution's counts in a reply frame. `count` is the number of
+/// bins.
 fn head_and_number(client: u16, op: u8, count: usize) -> [u8; 10]
     requires { 4 * count + 6 < 2 ^ 64 }
     ensures { result ≡ reply_head (4 * count + 6) client op 0 ++ to_be_bytes w16 count }

@@ -8,7 +8,8 @@ use crate::body_fault::BodyFault;
 use crate::fields::Fields;
 use vx_base::Bins;
 
-/// Reads the number of bins, or their range: 1 to 256. `InvalidValue`: out of range.
+/// Reads the number of bins, or their range: a number from 1 to 256. `InvalidValue`: another
+/// number.
 fn take_up_to_256(fields: &mut Fields) -> Result<u16, BodyFault>
     ensures taken { Takes take_up_to_256 fields.old fields.new result }
     ensures allowed { IfOk result (λ n. IsTrue (is_up_to_256 n)) }

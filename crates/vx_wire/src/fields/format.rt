@@ -59,7 +59,7 @@ pub fn format_number(format: Format) -> u8
     }
 }
 
-/// Returns the number of a format; an open format is 0.
+/// Returns the number of a format, or 0 if the format is open.
 pub fn open_format_number(format: Option<Format>) -> u8
     ensures { result ≡ open_format_number format }
 {
