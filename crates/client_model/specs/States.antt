@@ -36,7 +36,7 @@ holds_operand objects graph operand =
 abbrev pub NodesStand : List NamedObject → NamedObject → Type 0
 NodesStand objects o = All (λ n. All (λ operand. IsTrue (holds_operand objects o.name operand)) (operands n)) (nodes_in o.object)
 
--- The invariant of a context. Objects are valid. Their names are distinct and below the next name,
+-- The invariant of a context. Objects are valid. Their names ascend and are below the next name,
 -- which is at most 2^32. Each object is held, and nodes find their operands. There are at most
 -- 1,024 objects, and their charge is within the quota.
 pub record KeepsLimits (limits : LimitsValue) (c : Context) : Type 0 where

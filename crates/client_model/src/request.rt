@@ -46,7 +46,7 @@ pub enum Request {
     ReadMinMax(u32),
     /// Creates a graph without nodes.
     CreateGraph,
-    /// Creates a virtual image of the graph with this name. The image's width, height and format
+    /// Creates a virtual image in the graph with this name. The image's width, height and format
     /// may be open.
     CreateVirtualImage(u32, PartialDesc),
     /// Adds a node to the graph with this name.

@@ -65,7 +65,7 @@ AreNear objects high radius nodes = (n : Node) → In n nodes → Covers (node_r
 
 -- ---- planes
 
--- references to the client's images
+-- references to the client's images that the nodes read or write
 abbrev pub client_cells : List Node → List VirtualOutput → List Reference
 client_cells steps outs = drop (length outs) (graph_cells steps outs)
 

@@ -10,7 +10,7 @@ use Rattle.vx_wire.specs.Fields.{FieldResult, and_then, allowed_or_fault}
 use Rattle.vx_wire.specs.Reference.{take_reference, reference_bytes}
 
 -- The operand that a reference encodes. There is no result if a required operand is absent, or if
--- an operand is given that the function doesn't have.
+-- the function has no such operand but the reference names one.
 abbrev pub operand : Presence → Reference → Option (Option Reference)
 operand Required cell = if is_nothing cell then None else Some (Some cell)
 operand Absent cell = if is_nothing cell then Some None else None
