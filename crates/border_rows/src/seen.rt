@@ -68,7 +68,7 @@ fn load_samples<T: Loaded>(samples: &[u8], out: &mut [T])
     }
 }
 
-/// Writes `left` to the first `before` items, then the samples, then `right` to all later items.
+/// Fills `out` with `before` copies of `left`, then the samples, then copies of `right`.
 fn load_between<T: Loaded>(left: u8, before: usize, samples: &[u8], right: u8, out: &mut [T])
     requires { before + length samples.now ≤ length out.old }
     ensures { map T.value out.new ≡ replicate before (pos left)

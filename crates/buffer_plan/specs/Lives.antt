@@ -13,7 +13,7 @@ abbrev pub is_node_operand : List Node → Reference → Bool
 is_node_operand nodes cell = list_any (λ n. reads n cell || writes n cell) nodes
 
 -- whether an operand is live at a step: this step or an earlier one writes the operand, and this
--- step or a later one uses it
+-- step or a later one reads or writes it
 abbrev pub is_live : List Node → Reference → ℕ → Bool
 is_live steps cell step = is_written (take step steps) cell && is_node_operand (drop (step - 1) steps) cell
 

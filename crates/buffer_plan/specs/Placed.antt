@@ -55,9 +55,10 @@ pub record IsReached (lives : List Life) (count step : ℕ) : Type 0 where
   pub there : count ≤ count_in step lives
   pub fewer_before : (earlier : ℕ) → earlier < step → count_in earlier lives < count
 
--- lives with their slots, and the size of each slot. If the lives are in the order of their first
--- steps, and each ends no earlier than it begins, overlapping lives have different slots. In that
--- case the peak step is the first step at which as many images are live as there are slots.
+-- lives with their slots, and the sample count of each slot. If the lives are in the order of their
+-- first steps, and each ends no earlier than it begins, then overlapping lives have different
+-- slots. In that case the peak step is the first step at which as many images are live as there are
+-- slots.
 pub record ArePlaced (lives : List Life) (p : Places) : Type 0 where
   pub each : map (λ q. q.life) p.placed.items ≡ lives
   pub below : (q : Placed) → In q p.placed.items → q.slot < length p.samples.items

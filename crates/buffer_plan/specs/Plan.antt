@@ -19,7 +19,7 @@ pub record PlanView : Type 0 where
   pub peak_step : Format → Option ℕ
 
 -- a valid plan with a slot for each image and for nothing else. The number of slots of a format is
--- the number of its images that are live at the format's peak. The sample count of a slot is the
+-- the greatest number of its images that are live at one step. The sample count of a slot is the
 -- greatest sample count of the images that share the slot.
 pub record IsPlan (steps : List Node) (images : List VirtualOutput) (p : PlanView) : Type 0 where
   pub once : has_twice (map (λ o. o.cell) images) ≡ false

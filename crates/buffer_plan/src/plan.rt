@@ -56,7 +56,7 @@ impl Plan {
     }
 
     /// Returns the slot of a virtual image; the slots of each format are counted from 0. Returns
-    /// `None` if the operand isn't virtual, or no node of the graph writes it.
+    /// `None` if `cell` isn't a virtual image, or no node of the graph writes it.
     pub fn slot_of(&self, cell: ObjRef) -> Option<usize>
         ensures { result ≡ (plan_view self.now).slot_of cell }
     {

@@ -94,8 +94,9 @@ fn peak_after(before: Option<usize>, life: &Life, is_new: bool) -> Option<usize>
 }
 
 /// Gives each image the first free slot, or a new slot if none is free. If the lives are in the
-/// order of their first steps, and each ends no earlier than it begins, no valid assignment has
-/// fewer slots. An error means that there is no memory for the result.
+/// order of their first steps, and each ends no earlier than it begins, then images that are live
+/// at the same step get different slots, and the number of slots is the least possible. An error
+/// means that there is no memory for the result.
 pub fn place(alloc: Global, lives: &[Life]) -> Result<Places, AllocError>
     ensures { IfOk result (λ places. ArePlaced lives.now places) }
 {

@@ -1,4 +1,4 @@
--- The effect of a call of apply.
+-- The effect of a call of `apply`.
 use Rattle.std.specs.Prelude.{◌≡◌, ◌≢◌, ℕ, Result, IfOk, OnOk, OnErr}
 use Rattle.client_model.specs.declared.request.Request.{Request}
 use Rattle.client_model.specs.declared.reply.Reply.{Reply}
@@ -8,7 +8,7 @@ use Rattle.client_model.specs.Answer.{answer_to}
 use Rattle.client_contexts.specs.Kept.{KeepsVerified}
 use Rattle.client_contexts.specs.World.{World, state_of, verified_of}
 
--- the effect of a call of apply. If the result is Ok, the reply and the client's new state are
+-- the effect of a call of `apply`. If the result is Ok, the reply and the client's new state are
 -- those of the model. If there is no memory, no state changes. The states of other clients never
 -- change.
 pub record Applies (client : ℕ) (request : Request) (old new : World) (result : Result Reply NoMemory) : Type 0 where
@@ -19,7 +19,7 @@ pub record Applies (client : ℕ) (request : Request) (old new : World) (result 
   pub no_memory : OnErr result ((each : ℕ) → state_of each new ≡ state_of each old)
   pub takes : OnErr result (TakesMemory request)
 
--- the effect of a call of apply on the client's cache of verified graphs; the caches of other
+-- the effect of a call of `apply` on the client's cache of verified graphs; the caches of other
 -- clients don't change
 pub record AppliesToKept (client : ℕ) (request : Request) (old new : World) (result : Result Reply NoMemory) : Type 0 where
   pub own : KeepsVerified old.limits.work request (verified_of client old) (verified_of client new) result

@@ -1,4 +1,4 @@
--- Sequences of calls of apply.
+-- Sequences of calls of `apply`.
 use Rattle.std.specs.Prelude.{ℕ, ◌≡◌, List, [], ◌∷◌, Result}
 use Rattle.client_model.specs.declared.request.Request.{Request}
 use Rattle.client_model.specs.declared.reply.Reply.{Reply}

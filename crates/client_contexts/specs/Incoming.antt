@@ -18,7 +18,7 @@ use Rattle.client_contexts.specs.Lookup.{refusal_for}
 use Rattle.client_contexts.specs.World.{World}
 use Rattle.client_contexts.specs.Applies.{Applies, AppliesToKept, IsAnswered}
 
--- `fills` is the effect of a call of fill. The arguments of `fills` are the source before and
+-- `fills` is the effect of a call of `fill`. The arguments of `fills` are the source before and
 -- after, the format of the samples, the samples after, and the result.
 module _ {S E : Type 0} (fills : S → S → Format → List ℤ → Result ⊤ E → Type 0) (d : Description) (old new : S) where
   -- p has this description, and its samples are those that the source gave, or any samples if the
@@ -44,6 +44,7 @@ module _ {S E : Type 0} (fills : S → S → Format → List ℤ → Result ⊤ 
 abbrev pub IsRefusedFor : Context → Reference → Description → Code → Type 0
 IsRefusedFor c cell d code = (refusal : Refusal) × (code ≡ refusal_code refusal) × (refusal_for (image_of c.objects cell) d ≡ Some refusal)
 
--- a client's request to write any picture of this description is refused with this code
+-- a client's request to write any picture of this description to this reference is refused with
+-- this code
 abbrev pub IsRefused : ℕ → Reference → Description → World → Code → Type 0
 IsRefused client cell d world code = (p : PictureValue) → p.description ≡ d → IsAnswered client (WriteImage cell p) world (reply.Refused code)

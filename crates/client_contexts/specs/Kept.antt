@@ -23,8 +23,8 @@ use Rattle.client_contexts.specs.declared.memory.NoMemory.{NoMemory}
 
 -- A valid cache entry under a name. If a graph is held under the name, the entry has the graph's
 -- verification, and the graph can run within the entry's limit on work bytes. The plan gives slots
--- to the virtual images, for a run in the order of the verified steps. The schedule fits a run on
--- the objects that the nodes name.
+-- to the virtual images, for a run in the verification's order. The schedule fits a run on the
+-- objects that the nodes name.
 pub record IsKept (c : Context) (name : ℕ) (k : KeptGraph) : Type 0 where
   pub below : name < c.next
   pub ready : IfSome (object_held c.objects name) (λ object. IsReady c.objects (nodes_in object) k.verified)
@@ -46,8 +46,7 @@ runs_graph (VerifyGraph graph) = true
 runs_graph (ProcessGraph graph) = true
 runs_graph other = false
 
--- the cache after a request, without the graph whose nodes the request changes or whose name it
--- releases
+-- the cache without the graph, if any, whose nodes a request changes or whose name it releases
 abbrev pub forgotten_by : Request → List (ℕ × KeptGraph) → List (ℕ × KeptGraph)
 forgotten_by (AddNode graph n) kept = remove_entry (is_at (nat_cmp graph)) kept
 forgotten_by (RemoveNode graph number) kept = remove_entry (is_at (nat_cmp graph)) kept
@@ -70,8 +69,8 @@ IsKeptWithin work graph verified = lookup (is_at (nat_cmp graph)) verified ≡ S
 abbrev pub StayKept : ℕ → List (ℕ × ℕ) → List (ℕ × ℕ) → Type 0
 StayKept work old new = (graph : ℕ) → IsKeptWithin work graph old → IsKeptWithin work graph new
 
--- whether a request, unless it is refused, drops a graph from the cache: the request changes the
--- graph's nodes, or releases the graph or the context
+-- whether a request, if it succeeds, drops the graph with this name from the cache: the request
+-- changes the graph's nodes, or releases the graph or the context
 abbrev pub ends_verification : Request → ℕ → Bool
 ends_verification ReleaseContext name = true
 ends_verification (Release released) name = released == name

@@ -71,7 +71,8 @@ abbrev pub WantsMemory : RequestFault → Type 0 → Type 0
 WantsMemory (Refused refusal) takes = ⊤
 WantsMemory NoMemory takes = takes
 
--- the fault of a text that can't be written: the text encodes no picture, or there is no memory
+-- the fault of a request whose text can't be read: the text encodes no picture, or there is no
+-- memory
 abbrev pub text_fault : PgmFault → RequestFault
 text_fault fault.NoMemory = NoMemory
 text_fault other = Refused (fault_refusal other)
@@ -83,13 +84,13 @@ table_fault table.InvalidReference = Refused InvalidReference
 table_fault table.NoResources = Refused NoResources
 table_fault table.InvalidValue = Refused InvalidValue
 
--- the fault of a graph that can't be changed
+-- the fault of a request for which a call on a graph fails
 abbrev pub graph_fault : GraphFault → RequestFault
 graph_fault graph.NoMemory = NoMemory
 graph_fault graph.NoResources = Refused NoResources
 graph_fault graph.InvalidReference = Refused InvalidReference
 
--- the fault of a graph that can't be verified
+-- the fault of a request for which the verification of a graph fails
 abbrev pub verify_fault : VerifyFault → RequestFault
 verify_fault verified.NoMemory = NoMemory
 verify_fault (verified.Refused verdict) = Refused (Rejected verdict)
@@ -101,8 +102,8 @@ abbrev pub refusal_in : {A : Type 0} → Result A Refusal → Option Refusal
 refusal_in (Ok value) = None
 refusal_in (Err refusal) = Some refusal
 
--- the reason, if any, why a name can't be used: no object has the name, or the object is of another
--- kind
+-- the reason, if any, why a name can't be used: no object has the name, or the object isn't of the
+-- wanted kind
 abbrev pub name_refusal : Kind → Option ObjectValue → Option Refusal
 name_refusal wanted None = Some InvalidReference
 name_refusal wanted (Some object) = if same_kind wanted (object_kind object) then None else Some InvalidType

@@ -35,7 +35,7 @@ pub fn create_delay(
     hold_images(table, pool, limits, Object::new(Content::Delay(delay)))
 }
 
-/// Ages a delay: each image moves to the next slot, and the last image to slot 0.
+/// Ages a delay: each image moves to the next slot, and the image in the last slot to slot 0.
 #[tactic(auto, using(crate::proofs::BlockLemmas::age_keeps_blocks))]
 pub fn age_delay(table: &mut Table, name: u32) -> Result<Reply, Refusal>
     requires { IsContext table.old }
@@ -62,8 +62,8 @@ pub fn register_auto_aging(table: &mut Table, graph: u32, delay: u32) -> Result<
     Ok(Reply::Empty)
 }
 
-/// Checks that these are the names of a graph and of a delay. Names that aren't live are refused
-/// first, then objects of another kind.
+/// Checks that `graph` names a graph and `delay` a delay. Names that aren't live are refused first,
+/// then objects of the wrong kind.
 fn find_graph_and_delay(table: &Table, graph: u32, delay: u32) -> Result<(), Refusal>
     ensures ok { OnOk result (NameGraphAndDelay table.now.objects graph delay) }
     ensures err { IfErr result (λ refusal.

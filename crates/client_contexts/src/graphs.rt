@@ -93,7 +93,8 @@ pub fn remove_node(
 /// with its verdict.
 ///
 /// A verified graph stays in the cache until its nodes change or its name is released. Until then,
-/// the same request with the same limit on work bytes verifies nothing and allocates nothing.
+/// VerifyGraph of this graph with the same limit on work bytes verifies nothing and allocates
+/// nothing.
 pub fn verify_graph(
     table: &Table,
     kept: &mut BTreeMap<u32, KeptGraph>,

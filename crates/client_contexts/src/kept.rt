@@ -21,8 +21,8 @@ pub struct KeptGraph {
     pub schedule: Schedule,
 }
 
-/// Drops the cache entry of the graph whose nodes the request has changed, or whose name the
-/// request has released.
+/// Drops the cache entry of the graph, if any, whose nodes the request has changed or whose name
+/// the request has released.
 pub fn forget(kept: &mut BTreeMap<u32, KeptGraph>, request: &Request)
     ensures forgotten { kept.new.entries ≡ forgotten_by request.now kept.old.entries }
     ensures stay { (name : ℕ) → ends_verification request.now name ≡ false →

@@ -78,8 +78,8 @@ fn slot_refusal(
 }
 
 /// Returns the object with a reference's name (the delay, if the reference has a slot). Refused if
-/// the name isn't live, the slot doesn't exist, or the cell isn't of the wanted kind. If `scope` is
-/// a graph's name, a virtual image of another graph is also refused.
+/// the name isn't live, if the slot doesn't exist, or if the cell isn't of the wanted kind. If
+/// `scope` is a graph's name, a virtual image of another graph is also refused.
 pub fn find(
     table: &Table,
     reference: ObjRef,
@@ -99,8 +99,8 @@ pub fn find(
     }
 }
 
-/// Returns the object with this name. Refused if the name isn't live, or if its object is of
-/// another kind.
+/// Returns the object with this name. Refused if the name isn't live, or if its object isn't of the
+/// wanted kind.
 pub fn find_named(table: &Table, name: u32, kind: Kind) -> Result<&Object, Refusal>
     ensures ok { IfOk result (λ object. IsNamed table.now.objects name kind object.now) }
     ensures err { refusal_in result ≡ name_refusal kind (object_named table.now.objects name) }

@@ -21,8 +21,8 @@ use object_table::{InsertFault, Object, Table};
 use pixel_pool::Pool;
 
 /// Checks that a client can hold one more object with `bytes` bytes of samples. Refused with
-/// `NoResources` if all names are used, 1,024 objects are held, or the quota would be exceeded.
-/// `bytes` must be at most the byte count of 16 images of the greatest size.
+/// `NoResources` if all names are used, if 1,024 objects are held, or if the quota would be
+/// exceeded. `bytes` must be at most the byte count of 16 images of the greatest size.
 pub fn require_capacity(table: &Table, limits: Limits, bytes: usize) -> Result<(), Refusal>
     requires { bytes ≤ GREATEST_SLOTS * GREATEST_BYTES }
     ensures { result ≡ (if has_capacity limits table.now bytes then Ok tt else Err NoResources) }

@@ -136,7 +136,7 @@ impl Runtime {
     /// The result is `NoMemory` only if an allocation failed; then no state is changed. A graph
     /// that was verified or has run stays in the client's cache until its nodes change, or its name
     /// or context is released. While a graph is in the cache, VerifyGraph of this graph takes no
-    /// memory. At the end, free blocks beyond the pool's limits are dropped.
+    /// memory. Before `apply` returns, free blocks beyond the pool's limits are dropped.
     pub fn apply(
         &mut self,
         alloc: Global,
@@ -314,8 +314,8 @@ impl Runtime {
         }
     }
 
-    /// Releases the context of a client, if the client has one. Drops all objects of the context,
-    /// and gives the blocks of their images back to the pool.
+    /// Releases the context of a client: drops all objects of the context, and gives the blocks of
+    /// their images back to the pool. Refused if the client has no context.
     fn release_context(&mut self, client: u16) -> Reply
         ensures applies { Applies client ReleaseContext self.old self.new (Ok result) }
         ensures kept { AppliesToKept client ReleaseContext self.old self.new (Ok result) }

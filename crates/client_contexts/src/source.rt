@@ -15,8 +15,8 @@ pub trait FillsSamples {
     /// The source can be read.
     ghost can_fill: { Self → Type 0 };
 
-    /// The effect of a call of `fill`. The arguments are the source before and after, the format of
-    /// the samples, the samples after, and the result.
+    /// The effect of a call of `fill`. The arguments of `fills` are the source before and after,
+    /// the format of the samples, the samples after, and the result.
     ghost fills: { Self → Self → Format → List ℤ → Result ⊤ Self.Fault → Type 0 };
 
     /// Replaces all samples with samples from the source. After a fault the samples may have any

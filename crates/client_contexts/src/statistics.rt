@@ -68,8 +68,8 @@ pub fn create_min_max(table: &mut Table, limits: Limits) -> Result<Reply, Reques
     hold(table, limits, Object::new(Content::Extremes(extremes)))
 }
 
-/// Returns the extremes with this name. Refused if the name isn't live, or if its object is of
-/// another kind.
+/// Returns the extremes with this name. Refused if the name isn't live, or if its object isn't of
+/// kind `Extremes`.
 pub fn read_min_max(table: &Table, name: u32) -> Result<Reply, Refusal>
     ensures { ComesTo (read_min_max table.now name) table.now table.now result }
 {

@@ -19,8 +19,8 @@ abbrev pub at_begin : List Node → List NamedObject → List NamedObject
 at_begin nodes objects = map (named_at_start (resolved_operand (operand_held objects) nodes) nodes) objects
 
 -- The run of a graph with these nodes. The objects at the end of the run are the graph's only
--- solution. Running the nodes one by one gives the same objects, in every order that puts each node
--- after the nodes whose outputs it reads. After the run, virtual images have no samples again.
+-- solution. Running the nodes one by one, in any order that puts each node after the nodes whose
+-- outputs it reads, gives the same objects. After the run, virtual images have no samples again.
 pub record IsTheRun (nodes : List Node) (before later : List NamedObject) : Type 0 where
   pub at_end : List NamedObject
   pub solves : Solves nodes (at_begin nodes before) at_end

@@ -30,12 +30,11 @@ pub fn what_verifies_runs()
         ≡ (answer_to limits state (VerifyGraph name)).0 }
 {}
 
-/// A successful ProcessGraph leaves the only solution of the graph. In the solution, each image,
-/// distribution and extremes that a node writes is the result of the node's function. The
-/// function's arguments are the node's inputs at the end of the run. A function that adds to an
-/// output also takes that output as it was before the run. Inputs and outputs include virtual
-/// images. Objects that no node writes are unchanged. After the run, virtual images have no samples
-/// again, and the graph's registered delays age.
+/// A successful ProcessGraph leaves the only solution of the graph. In the solution, the outputs of
+/// each node are the results of the node's function. The function's arguments are the node's inputs
+/// at the end of the run. A function that adds to an output also takes that output as it was before
+/// the run. Inputs and outputs include virtual images. Objects that no node writes are unchanged.
+/// After the run, virtual images have no samples again, and the graph's registered delays age.
 #[tactic(auto, using(crate::proofs::RunLaws::run_is))]
 pub fn a_run_is_the_only_solution()
     ensures { (limits : LimitsValue) (c later : Context) (name : ℕ) → KeepsLimits limits c →
@@ -47,11 +46,11 @@ pub fn a_run_is_the_only_solution()
 ///
 /// - `written`: the outputs of a node are the results of its function. The function's arguments are
 ///   the node's inputs after the run. A function that adds to an output also takes that output as
-///   it was before the run. The law covers nodes that name no virtual image and no delay that ages
-///   with the graph.
-/// - `others`: an object that no node writes is unchanged. The law covers a slot of a delay, if the
-///   delay doesn't age with the graph. The law doesn't cover whole delays, since a delay changes
-///   when one of its slots is written.
+///   it was before the run. The law covers only nodes that name no virtual image and no delay that
+///   ages with the graph.
+/// - `others`: an object that no node writes is unchanged. The law also covers a slot of a delay,
+///   if the delay doesn't age with the graph. The law doesn't cover whole delays, since a delay
+///   changes when one of its slots is written.
 /// - `virtual_images`: a virtual image is unchanged.
 #[tactic(auto, using(crate::proofs::RunLaws::what_a_run_leaves))]
 pub fn what_a_run_leaves()
@@ -79,8 +78,8 @@ pub fn what_a_run_leaves()
 {}
 
 /// If a graph runs, it would also run with its nodes added in another order, and leave the same
-/// result. Any other graph with the same nodes, in any order, and the same registered delays would
-/// also run and leave this result.
+/// result. Any other graph with the same nodes, in any order, and the same list of registered
+/// delays would also run and leave this result.
 #[tactic(auto, using(crate::proofs::OrderLaws::any_order))]
 pub fn nodes_in_any_order()
     ensures had { (limits : LimitsValue) (c later : Context) (name : ℕ) (graph other : GraphValue) →

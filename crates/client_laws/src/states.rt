@@ -37,10 +37,10 @@ pub fn limits_are_kept()
         IfSome (state_after limits None requests) (KeepsLimits limits) }
 {}
 
-/// As long as an object is held, no request of its client except ReleaseContext changes the
-/// object's skeleton: the kind, sizes, formats, slots and bins. The skeleton of a lookup table, a
-/// threshold, a convolution or a virtual image is the whole object. A graph keeps its nodes until a
-/// node is added or removed. It follows that:
+/// As long as an object is held, no request of its client changes the object's skeleton: the kind,
+/// sizes, formats, slots and bins. (ReleaseContext drops the object.) The skeleton of a lookup
+/// table, a threshold, a convolution or a virtual image is the whole object. A graph keeps its
+/// nodes until a node is added or removed. It follows that:
 ///
 /// - while an object is held under a name, references to that name denote the same operand
 /// - the verdict on a graph is the same until the graph's nodes change

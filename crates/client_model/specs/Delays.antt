@@ -26,14 +26,14 @@ create_like limits c (Ok image) slots = create limits c (DelayObject (new_delay 
 abbrev pub create_delay : LimitsValue → Context → Reference → ℕ → Outcome
 create_delay limits c cell slots = create_like limits c (image_of c.objects cell) slots
 
--- the delay of this name with each image moved to the next slot, the last image to slot 0; or the
--- refusal
+-- the delay of this name with each image moved to the next slot, and the image in the last slot to
+-- slot 0; or the refusal
 abbrev pub age_named : Context → ℕ → Option ObjectValue → Outcome
 age_named c name None = Err InvalidReference
 age_named c name (Some (DelayObject images)) = Ok (Empty, Some (with_objects c (with_object c.objects (record { name = name; slot = None }) (DelayObject (aged_images images)))))
 age_named c name (Some other) = Err InvalidType
 
--- AgeDelay: each image moves to the next slot, the last image to slot 0
+-- AgeDelay: each image moves to the next slot, and the image in the last slot to slot 0
 abbrev pub age_delay : Context → ℕ → Outcome
 age_delay c name = age_named c name (object_named c.objects name)
 

@@ -46,13 +46,13 @@ create_virtual_in (Ok graph) limits c name declared = create limits c (VirtualOb
 abbrev pub create_virtual_image : LimitsValue → Context → ℕ → PartialDescription → Outcome
 create_virtual_image limits c name declared = create_virtual_in (graph_named c.objects name) limits c name declared
 
--- the graph with one more node, under the graph's next number; or the refusal
+-- the graph with one more node, under the graph's next node number; or the refusal
 abbrev pub add_to : Result GraphValue Refusal → Context → ℕ → Node → Outcome
 add_to (Err refusal) c name n = Err refusal
 add_to (Ok graph) c name n =
     if can_add graph then Ok (reply.Node graph.next, Some (with_objects c (with_graph c.objects name (with_node graph n)))) else Err NoResources
 
--- AddNode: the node is appended, under the graph's next number
+-- AddNode: the node is appended, under the graph's next node number
 abbrev pub add_node : Context → ℕ → Node → Outcome
 add_node c name n =
     refused_or (operands_refusal (Some name) c.objects ((reference_to name, kind.Graph) ∷ operands n)) (add_to (graph_named c.objects name) c name n)
@@ -72,7 +72,7 @@ remove_node c name number = remove_from (graph_named c.objects name) c name numb
 abbrev pub graph_verdict : LimitsValue → List NamedObject → GraphValue → Option Verdict
 graph_verdict limits objects graph = verdict limits.work (operand_held objects) (nodes_of graph)
 
--- the reply for the verdict on a graph, or the refusal
+-- an empty reply if the verdict on a graph is SUCCESS; otherwise the refusal
 abbrev pub verify_found : Result GraphValue Refusal → LimitsValue → Context → Outcome
 verify_found (Err refusal) limits c = Err refusal
 verify_found (Ok graph) limits c = reply_unless (option_map Rejected (graph_verdict limits c.objects graph)) Empty c

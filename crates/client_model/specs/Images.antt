@@ -27,7 +27,7 @@ use Rattle.object_table.specs.Context.{Context, with_new, with_objects}
 use Rattle.client_model.specs.Refusal.{Outcome, reply_unless}
 use Rattle.client_model.specs.Operands.{is_unknown, is_of_other_kind, image_of}
 
--- the creation of an object under the next name; refused if the limits don't allow it
+-- the creation of an object under the next name; refused if there is no capacity for the object
 abbrev pub create : LimitsValue → Context → ObjectValue → Outcome
 create limits c object = if has_capacity limits c (object_bytes object) then Ok (Name c.next, Some (with_new c object)) else Err NoResources
 
@@ -65,7 +65,7 @@ query_of (Ok found) c = Ok (reply.Described found, Some c)
 abbrev pub query_image : Context → Reference → Outcome
 query_image c cell = query_of (described_in c.objects cell) c
 
--- why a picture can't be written to an image: another format, or else another size
+-- why a picture can't be written to an image: their formats differ, or else their sizes
 abbrev pub picture_refusal : Description → Description → Option Refusal
 picture_refusal image picture =
     if not (same_format image.format picture.format) then Some InvalidFormat

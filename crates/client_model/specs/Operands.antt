@@ -17,7 +17,8 @@ use Rattle.client_model.specs.declared.refusal.Refusal.TheVariants.{InvalidRefer
 abbrev pub is_unknown : List NamedObject → Reference → Bool
 is_unknown objects cell = is_none (object_named objects cell.name)
 
--- the kind of a reference: the kind of the named object, or Image for a slot of a delay
+-- the kind of a reference: the kind of the named object, or Image for a slot of a delay; None for a
+-- slot of any other object, or if the name isn't live
 abbrev pub kind_of : List NamedObject → Reference → Option Kind
 kind_of objects cell = option_and_then (slot_kind cell.slot) (object_named objects cell.name)
 
@@ -40,7 +41,7 @@ is_of_other_kind objects operand = not (is_kind operand.1 (kind_of objects opera
 abbrev pub holds_nothing : List NamedObject → Reference → Bool
 holds_nothing objects cell = is_none (object_at objects cell)
 
--- whether an object is a virtual image of another graph
+-- whether an object is a virtual image of another graph than this one
 abbrev pub is_of_other_graph : ℕ → Option ObjectValue → Bool
 is_of_other_graph graph (Some (VirtualObject image)) = not (image.graph == graph)
 is_of_other_graph graph other = false

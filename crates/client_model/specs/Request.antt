@@ -44,7 +44,7 @@ IsRequest (CreateDelay cell slots) = IsReference cell × IsTrue (is_slot_count s
 IsRequest (AgeDelay name) = name < 2 ^ 32
 IsRequest (RegisterAutoAging graph delay) = (graph < 2 ^ 32) × (delay < 2 ^ 32)
 
--- the request may allocate memory, and so may fail with NoMemory
+-- computing a `Reply` to the request may allocate memory, and so may fail with NoMemory
 abbrev pub TakesMemory : Request → Type 0
 TakesMemory OpenContext = ⊤
 TakesMemory ReleaseContext = ⊥

@@ -56,15 +56,16 @@ state_after limits state (request ∷ requests) = state_after limits (answer_to 
 
 -- ---- what requests don't change
 
--- a client's context after these requests of its own, none of which is ReleaseContext
+-- `c` is a client's context, for which the invariant holds, and `later` is the context after these
+-- requests of the client. None of the requests is ReleaseContext.
 pub record IsLater (limits : LimitsValue) (c : Context) (requests : List Request) (later : Context) : Type 0 where
   pub keeps : KeepsLimits limits c
   pub are : All IsRequest requests
   pub unreleased : All (λ request. request ≢ ReleaseContext) requests
   pub state : state_after limits (Some c) requests ≡ Some later
 
--- if an object is held under a name afterwards, it was held before, and this part of it is
--- unchanged
+-- if an object is held under this name in `after`, it is also held in `before`, and this part of it
+-- is the same in both
 abbrev pub Stays : {X : Type 0} → (ObjectValue → X) → List NamedObject → List NamedObject → ℕ → Type 0
 Stays part before after name = IfSome (object_held after name) (λ object. option_map part (object_held before name) ≡ Some (part object))
 

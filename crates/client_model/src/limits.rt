@@ -4,10 +4,10 @@ ghost use Rattle.client_model.specs.Limits.{limits_from};
 
 use std::marker::Model;
 
-/// The greatest value of each limit in bytes: 2^40.
+/// The greatest value of each limit: 2^40 bytes.
 pub const GREATEST_LIMIT: u64 = 1_099_511_627_776;
 
-/// The default of each limit in bytes: 2^28.
+/// The default of each limit: 2^28 bytes.
 pub const DEFAULT_LIMIT: u64 = 268_435_456;
 
 /// Limits on sample bytes. `quota` is the limit for a client's images, and `work` is the limit for

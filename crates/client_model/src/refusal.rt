@@ -34,8 +34,8 @@ pub enum Refusal {
     InvalidScope,
     /// The request names a virtual image, but can't take one.
     OptimizedAway,
-    /// All names are used, 1,024 objects are held, a new object would exceed the quota, or the
-    /// graph can't take another node.
+    /// All names are used up, 1,024 objects are held, a new object would raise the charge above the
+    /// quota, or the graph can't take another node.
     NoResources,
     /// A graph, or the node of an Immediate, can't run. The verdict says why.
     Rejected(Verdict),

@@ -26,7 +26,7 @@ pub enum Request {
     ReadImage(ObjRef),
     /// Asks for all samples of a U8 image, as a PGM text.
     ReadImagePgm(ObjRef),
-    /// Sets the valid rectangle of an image, and the samples outside the rectangle to 0.
+    /// Sets the valid rectangle of an image. The samples outside the rectangle become 0.
     SetValid(ObjRef, Rect),
     /// Releases the name of an object. The object is dropped once no node uses it.
     Release(u32),
@@ -64,10 +64,11 @@ pub enum Request {
     /// Creates a delay with this number of slots. The slots hold new images, with the size and
     /// format of the referenced image.
     CreateDelay(ObjRef, SlotCount),
-    /// Ages the delay with this name: each image moves to the next slot, the last image to slot 0.
+    /// Ages the delay with this name: each image moves to the next slot, and the image in the last
+    /// slot to slot 0.
     AgeDelay(u32),
-    /// Registers the delay of the second name with the graph of the first name. The delay then ages
-    /// after each run of the graph.
+    /// Registers a delay with a graph. The delay then ages after each run of the graph. The first
+    /// field is the graph's name, and the second is the delay's name.
     RegisterAutoAging(u32, u32),
 }
 

@@ -23,7 +23,7 @@ AreAllApart (c ∷ cells) = ((p : Reference) → In p cells → AreApart p c) ×
 abbrev pub without_samples : ImageValue → ImageValue
 without_samples image = image_over (description_of image) image.valid []
 
--- the references, each with its image without samples
+-- the references, each with its image after the samples are taken away
 abbrev pub bare_images : List NamedObject → List Reference → List (Reference × ObjectValue)
 bare_images objects [] = []
 bare_images objects (c ∷ cells) = (c, ImageObject (without_samples (image_held objects c))) ∷ bare_images objects cells
@@ -43,7 +43,8 @@ plane_objects [] planes = []
 plane_objects (c ∷ cells) [] = []
 plane_objects (c ∷ cells) (p ∷ planes) = (c, ImageObject (block_image p)) ∷ plane_objects cells planes
 
--- there is a plane for each reference, with the description and format of the reference's image
+-- there is a plane for each reference, with the description of the reference's image, and with a
+-- block of the image's format
 abbrev pub AreFor : List NamedObject → List Reference → List PlaneValue → Type 0
 AreFor objects [] planes = ⊤
 AreFor objects (c ∷ cells) [] = ⊥

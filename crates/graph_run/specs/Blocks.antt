@@ -30,8 +30,8 @@ blocks_of_format blocks format = sum_by (λ b. one_of (samples_format b) format)
 abbrev pub capacity_count : List (Format × ℕ) → Format → ℕ
 capacity_count capacities format = sum_by (λ r. one_of r.0 format) capacities
 
--- the number of samples in a band of `size` rows of an image, with `rows` rows of halo above and
--- below; at most the number in the whole image
+-- the number of samples in a band of `size` rows of an image, with `rows` rows of halo above and as
+-- many below; at most the number in the whole image
 abbrev pub band_samples : ℕ → ℕ → Description → ℕ
 band_samples size rows desc = min desc.height (size + rows + rows) * desc.width
 

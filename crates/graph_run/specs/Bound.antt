@@ -17,7 +17,8 @@ use Rattle.graph_run.specs.Turns.{HoldsKind}
 
 -- ---- tables
 
--- whether nodes read objects of this kind as tables: lookup tables, thresholds and matrices
+-- whether nodes read objects of this kind as tables; true for lookup tables, thresholds and
+-- matrices
 abbrev pub is_lent : Kind → Bool
 is_lent kind.Lut = true
 is_lent kind.Threshold = true

@@ -4,7 +4,7 @@ use Rattle.vx_base.specs.declared.format.Format.TheVariants.{U8, S16}
 use Rattle.vx_base.specs.Object.{ImageObject, VirtualObject}
 use Rattle.object_table.specs.NamedObject.{NamedObject}
 
--- a valid U8 image of one pixel
+-- a U8 image of one valid pixel
 abbrev pub pixel : ℕ → ℕ → NamedObject
 pixel name sample =
     record {
@@ -13,7 +13,7 @@ pixel name sample =
       object = ImageObject (record { width = 1; height = 1; format = U8; valid = record { x0 = 0; y0 = 0; x1 = 1; y1 = 1 }; samples = pos sample ∷ [] });
     }
 
--- a valid S16 image of one pixel
+-- an S16 image of one valid pixel
 abbrev pub short_pixel : ℕ → ℕ → NamedObject
 short_pixel name sample =
     record {

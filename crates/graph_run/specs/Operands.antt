@@ -36,7 +36,7 @@ pub record CellsStand (is : Reference → Operand) (nodes : List Node) (objects 
   pub found : (n : Node) (cell : Reference) → In n nodes → names_cell n cell ≡ true → HoldsOperand objects cell (is cell)
   pub kinds : (n : Node) (cell : Reference) → In n nodes → writes n cell ≡ true → StandsFor (is cell) (parameters n.function).output
 
--- the operand that a reference in a node of a graph names; Missing if the reference names no object
+-- the object that a reference names, as an operand; Missing if the reference names no object
 abbrev pub operand_held : List NamedObject → Reference → Operand
 operand_held objects cell = unwrap_or (option_map operand_of (object_at objects cell)) Missing
 

@@ -18,23 +18,24 @@ use Rattle.graph_run.specs.Lasting.{lasting_named}
 use Rattle.graph_run.specs.Operands.{HoldsOperand}
 
 -- the samples of the image that a reference names are in this plane; the image in the table has
--- none
+-- no samples
 pub record IsInPlane (objects : List NamedObject) (cell : Reference) (p : PlaneValue) : Type 0 where
   pub left : object_at objects cell ≡ Some (ImageObject (without_samples (block_image p)))
   pub whole : p ≡ image_plane (block_image p)
 
--- if there is a plane, it has the samples of the image that the output names
+-- if there is a plane, the output is given and its samples are in the plane
 abbrev pub IsInPlaneIf : List NamedObject → Option Reference → Option PlaneValue → Type 0
 IsInPlaneIf objects output plane = IfSome plane (λ p. IsSomeAnd output (λ cell. IsInPlane objects cell p))
 
--- the objects after the image of a plane, if there is one, is back in the table
+-- the objects after a plane's image is put back in the table; the same objects if there is no
+-- plane, or the output isn't given
 abbrev pub with_plane : List NamedObject → Option Reference → Option PlaneValue → List NamedObject
 with_plane objects output None = objects
 with_plane objects None (Some p) = objects
 with_plane objects (Some cell) (Some p) = with_object objects cell (ImageObject (block_image p))
 
--- the objects after the images of a node's output planes are back in the table. The second output's
--- image is put back after the first's.
+-- the objects after the images of a node's output planes are put back in the table. The second
+-- output's image is put back after the first's.
 abbrev pub with_planes : List NamedObject → Node → OutputPlanes → List NamedObject
 with_planes objects n planes = with_plane (with_plane objects n.out1 planes.first) n.out2 planes.second
 
@@ -44,7 +45,7 @@ pub record AreInPlanes (objects : List NamedObject) (n : Node) (planes : OutputP
   pub first : IsInPlaneIf objects n.out1 planes.first
   pub second : IsInPlaneIf (with_plane objects n.out1 planes.first) n.out2 planes.second
 
--- an output without a plane isn't an image
+-- if `wanted` is Image and the output is given, there is a plane
 abbrev pub HasPlaneFor : Kind → Option Reference → Option PlaneValue → Type 0
 HasPlaneFor wanted output plane = IfSome output (λ _. IfNone plane (wanted ≢ kind.Image))
 
@@ -62,7 +63,7 @@ abbrev pub IsLiveOutput : List NamedObject → Kind → Option Reference → Des
 IsLiveOutput objects wanted output d = (wanted ≡ kind.Image) × IsSomeAnd output (λ cell. IsLiveImage objects cell d)
 
 -- if there is a plane, `wanted` is Image and the output is a live image with the plane's
--- description; if there is none, `wanted` isn't Image or the output isn't a live image
+-- description; if there is no plane, `wanted` isn't Image or the output isn't a live image
 abbrev pub IsPlaneOf : List NamedObject → Kind → Option Reference → Option PlaneValue → Type 0
 IsPlaneOf objects wanted output plane =
     MatchOption plane ((d : Description) → ¬ IsLiveOutput objects wanted output d) (λ p. IsLiveOutput objects wanted output p.desc)

@@ -55,7 +55,7 @@ tables_of objects nodes k = slice_index_or (map (node_table objects) nodes) k No
 abbrev pub node_radius : List NamedObject → Node → Option ℕ
 node_radius objects n = step_radius n.function (matrix_in (option_and_then (object_at objects) n.in2))
 
--- a node's radius in images of at most this height; the height if its function writes no image
+-- a node's radius in images of at most `high` rows; `high` if the node's function writes no image
 abbrev pub radius_of : List NamedObject → ℕ → Node → ℕ
 radius_of objects high n = unwrap_or (node_radius objects n) high
 
@@ -78,8 +78,8 @@ planes_of objects steps outs virtuals = virtuals ++ image_planes objects (client
 abbrev pub virtual_description : List VirtualOutput → ℕ → Description
 virtual_description outs k = slice_index_or (map (λ o. o.desc) outs) k no_plane.desc
 
--- the blocks of the virtual images before a run: the last image in each slot has the slot's block,
--- and the other images have empty blocks
+-- the formats and sizes of the virtual images' blocks before a run: the last image in each slot has
+-- the slot's block, and the other images have empty blocks
 abbrev pub first_blocks : List ℕ → (ℕ → Format × ℕ) → List (Format × ℕ)
 first_blocks slots slot_capacity = map (block_at slots slot_capacity 0) (range_with_len 0 (length slots))
 

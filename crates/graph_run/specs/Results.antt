@@ -27,8 +27,8 @@ use Rattle.graph_run.specs.Operands.{operand_held}
 abbrev pub first_objects : List NamedObject → List Node → List NamedObject
 first_objects objects nodes = map (named_at_start (resolved_operand (operand_held objects) nodes) nodes) objects
 
--- the objects after the last round of a run: a virtual image that a node writes is still an image
--- with samples
+-- the objects after the last round of a run, when the virtual images that nodes write still have
+-- samples
 abbrev pub last_objects : List NamedObject → List Node → List NamedObject
 last_objects objects nodes = rounds_of_nodes nodes (length nodes) (first_objects objects nodes)
 
@@ -54,7 +54,7 @@ tally_cell other n = unwrap_or n.out1 n.in1 ∷ []
 abbrev pub tally_cells : List Node → List Reference
 tally_cells nodes = flat_map (λ n. tally_cell (parameters n.function).output n) nodes
 
--- the references, each with its tally
+-- the references, each with its tally as an object
 abbrev pub tally_objects : List Reference → List Tally → List (Reference × ObjectValue)
 tally_objects [] tallies = []
 tally_objects (c ∷ cells) [] = []

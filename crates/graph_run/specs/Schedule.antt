@@ -39,11 +39,11 @@ pub record IsSchedule (objects : List NamedObject) (v : Verified) (p : PlanView)
   pub clients : All (λ c. (image_held objects c).height ≤ s.high) (client_cells v.steps v.virtual_outputs)
   pub tally_cells : s.tally_cells.items ≡ tally_cells v.steps
 
--- references to the client's images
+-- the schedule's references to the client's images
 abbrev pub schedule_clients : Verified → Schedule → List Reference
 schedule_clients v s = drop (length v.virtual_outputs) s.cells.items
 
--- references to the client's images, each with the image of its plane
+-- the schedule's references to the client's images, each with the image of its plane
 abbrev pub schedule_objects : Verified → Schedule → List PlaneValue → List (Reference × ObjectValue)
 schedule_objects v s planes = plane_objects (schedule_clients v s) (drop (length v.virtual_outputs) planes)
 
@@ -64,8 +64,8 @@ pub record CanRunBy (objects : List NamedObject) (v : Verified) (s : Schedule) :
 abbrev pub bare_objects : List NamedObject → Verified → Schedule → List NamedObject
 bare_objects objects v s = with_written objects (bare_images objects (schedule_clients v s))
 
--- the planes before the tasks run: the planes of virtual images over the blocks of their slots, and
--- then the planes of the client's images
+-- the planes before the tasks run: first the planes of virtual images, which have the slots'
+-- blocks, then the planes of the client's images
 pub record ArePlanes (objects : List NamedObject) (v : Verified) (s : Schedule) (blocks : List Samples) (planes : List PlaneValue) : Type 0 where
   pub virtuals : List PlaneValue
   pub descs : map (λ q. q.desc) virtuals ≡ map (λ o. o.desc) v.virtual_outputs

@@ -6,8 +6,8 @@ use Rattle.vx_base.specs.declared.format.Format.TheVariants.{U8, S16, U32}
 use Rattle.graph_verify.specs.declared.known.VirtualOutput.{VirtualOutput}
 use Rattle.buffer_plan.specs.Plan.{PlanView}
 
--- the index of a format's slot among the slots of all formats: the slots of U8 come first, then the
--- slots of S16, then the slots of U32
+-- the index of slot k of a format among the slots of all formats: the slots of U8 come first, then
+-- the slots of S16, then the slots of U32
 abbrev pub slot_index : PlanView → Format → ℕ → ℕ
 slot_index p U8 k = k
 slot_index p S16 k = p.slot_count U8 + k

@@ -38,12 +38,12 @@ form_of other = skeleton other
 abbrev pub form_held : List NamedObject → Reference → Option ObjectValue
 form_held objects cell = option_map form_of (object_at objects cell)
 
--- an object's name, and whether it is live
+-- an object's name, and whether the name is live
 abbrev pub label_of : NamedObject → ℕ × Bool
 label_of o = (o.name, o.live)
 
 -- the objects after a run solve the equations of the nodes. Each output is what its node computes
--- from the objects after the run; an accumulating node adds to the object as it was before the run.
+-- from the objects after the run; an accumulating node adds to its output as it was before the run.
 -- All other objects, and all labels and forms, are as before.
 pub record Solves (nodes : List Node) (before after : List NamedObject) : Type 0 where
   pub labels : map label_of after ≡ map label_of before

@@ -52,15 +52,15 @@ abbrev pub is_at : ℕ → Option ℕ → Bool
 is_at k None = false
 is_at k (Some j) = j == k
 
--- the format and size of a virtual image's block after `count` virtual images are written: the
--- slot's block if the image has it, else an empty block
+-- the format and size of a virtual image's block after the first `count` virtual images are
+-- written: the slot's block if the image has it, else an empty block
 abbrev pub block_at : List ℕ → (ℕ → Format × ℕ) → ℕ → ℕ → Format × ℕ
 block_at slots slot_capacity count at =
     let block = slot_capacity (slice_index_or slots at 0) in
     (block.0, (if is_at at (holder slots (slice_index_or slots at 0) count) then block.1 else 0))
 
--- the blocks of all planes after `count` virtual images are written: first the blocks of virtual
--- images, then the blocks of the client's images
+-- the formats and sizes of all planes' blocks after the first `count` virtual images are written;
+-- the planes of virtual images come first, then the planes of the client's images
 abbrev pub blocks_at : List ℕ → (ℕ → Format × ℕ) → List (Format × ℕ) → ℕ → List (Format × ℕ)
 blocks_at slots slot_capacity clients count = map (block_at slots slot_capacity count) (range_with_len 0 (length slots)) ++ clients
 
@@ -102,7 +102,7 @@ abbrev pub tally_after : ℕ → Kind → ℕ
 tally_after tally kind.Image = tally
 tally_after tally other = tally + 1
 
--- the tasks of these nodes; the first node has index `at` in the order
+-- the tasks of these nodes; the first node has index `at` in the order of the run
 abbrev pub tasks_from : List Reference → List ℕ → (Node → ℕ) → ℕ → ℕ → List Node → List Task
 tasks_from cells slots radius at tally [] = []
 tasks_from cells slots radius at tally (n ∷ nodes) =
@@ -171,8 +171,8 @@ pub record HaveTasks (steps : List Node) (outs : List VirtualOutput) (p : PlanVi
   -- a node that accumulates writes a client's image
   pub adds : (n : Node) → In n steps → accumulates n.function ≡ true → (c : Reference) → In c (outputs n) → is_virtual c ≡ false
 
--- references to the images of a graph, each image once: first these virtual images, then the other
--- images that these nodes read or write
+-- references to the images of a graph, each image once: first the virtual images in `outs`, then
+-- the other images that the nodes in `steps` read or write
 abbrev pub graph_cells : List Node → List VirtualOutput → List Reference
 graph_cells steps outs = with_cells (map (λ o. o.cell) outs) (images_named steps)
 

@@ -15,8 +15,8 @@ use Rattle.graph_run.specs.Operands.{operand_held}
 abbrev pub HoldsKind : List NamedObject → Reference × Kind → Type 0
 HoldsKind objects operand = option_map object_kind (object_at objects operand.0) ≡ Some operand.1
 
--- the node can run now: each operand is an object of the kind that the function expects there, and
--- the node's verdict is None
+-- the node can run now: each operand is an object of the kind that the node's function expects,
+-- and the node's verdict is None
 pub record CanRunNow (objects : List NamedObject) (n : Node) : Type 0 where
   pub node : IsNode n
   pub kinds : All (HoldsKind objects) (operands n)

@@ -79,7 +79,8 @@ pub fn capacities_of(
 }
 
 /// Adds an entry for each slot of a format: the format and the slot's number of samples. The list
-/// must already have an entry for each slot of the earlier formats.
+/// must already have an entry for each slot of the formats that precede this one in the order U8,
+/// S16, U32.
 fn add_capacities(
     capacities: &mut Vec<(Format, usize)>,
     plan: &Plan,
@@ -129,7 +130,7 @@ fn most_of(most: usize, counts: bool, samples: usize) -> usize
 }
 
 /// Returns the number of samples in a band of `size` rows of an image, with `halo` rows above and
-/// below; at most the number in the whole image.
+/// as many below; at most the number in the whole image.
 fn band_samples(size: u16, halo: u16, desc: Desc) -> usize
     ensures { result ≡ band_samples size halo desc }
 {
@@ -137,7 +138,7 @@ fn band_samples(size: u16, halo: u16, desc: Desc) -> usize
     usize::from(desc.height()).min(rows) * usize::from(desc.width())
 }
 
-/// Returns the index of a format's slot among the slots of all formats.
+/// Returns the index of slot `slot` of a format among the slots of all formats.
 fn slot_index(plan: &Plan, format: Format, slot: usize) -> usize
     requires { slot_index (plan_view plan.now) format slot < 2 ^ 64 }
     ensures { result ≡ slot_index (plan_view plan.now) format slot }

@@ -46,8 +46,8 @@ fn add_images(cells: &mut Vec<ObjRef>, node: &Node) -> Result<(), AllocError>
     add_given(cells, parameters.output, node.out2)
 }
 
-/// Adds the reference of an operand of this kind, if the operand is given and is an image. A
-/// reference that is in the list isn't added again.
+/// Adds the reference of an operand, if the operand is given and its kind is `Image`. A reference
+/// that is in the list isn't added again.
 fn add_given(cells: &mut Vec<ObjRef>, kind: Kind, cell: Option<ObjRef>) -> Result<(), AllocError>
     ensures { OnOk result (cells.new.items ≡ with_cells cells.old.items (image_given kind cell)) }
 {

@@ -7,8 +7,8 @@ ghost use Rattle.graph_run.specs.Graph.{run_of_graph};
 ghost use Rattle.graph_run.specs.Examples.{pixel, short_pixel, open_image};
 
 /// A run of two nodes: Bitwise Not from image 1 to virtual image 2, and from image 2 to image 3.
-/// After the run image 3 equals image 1, in whichever order the nodes were added. Image 2 is again
-/// a virtual image.
+/// After the run image 3 equals image 1, in whichever order the nodes were added. Virtual image 2
+/// is as it was before the run.
 pub fn two_nodes()
     ensures in_order { run_of_graph (λ _. Image (record { width = 1; height = 1; format = U8 }))
         (not_to 1 2 ∷ not_to 2 3 ∷ []) (pixel 1 10 ∷ open_image 2 ∷ pixel 3 0 ∷ [])

@@ -22,7 +22,7 @@ ghost use Rattle.graph_run.specs.Operands.{CellsStand};
 ghost use Rattle.graph_run.specs.Solution.{WritesNo, ReadImages, Solves};
 
 /// If no object has two writers, running each node once, after the nodes that feed it, gives the
-/// result of the rounds.
+/// same result as the rounds of a run. In each round all nodes write at the same time.
 #[tactic(auto, using(crate::proofs::OrderLaws::order_gives_rounds))]
 pub fn once_in_order()
     ensures { (nodes steps : List Node) (objects : List NamedObject) → IsOrder feeds nodes steps →
@@ -31,8 +31,8 @@ pub fn once_in_order()
         rounds_of_nodes nodes (length nodes) objects ≡ one_by_one steps objects }
 {}
 
-/// If a graph has no cycle and no object has two writers, then the result of the rounds is the only
-/// solution of the nodes' equations.
+/// If a graph has no cycle and no object has two writers, then the result of the rounds of a run is
+/// the only solution of the nodes' equations.
 #[tactic(auto, using(crate::proofs::SolutionLaws::only_solution))]
 pub fn rounds_solve()
     ensures solves { (nodes : List Node) (before : List NamedObject) → two_writers nodes ≡ false →
@@ -83,7 +83,7 @@ pub fn each_at_its_turn()
         (one_by_one before (map (named_at_start (resolved_operand is nodes) nodes) objects)) }
 {}
 
-/// If a graph's verdict is `None`, a run gives the same result as running each node once, in an
+/// If a graph's verdict is `None`, a run gives the same result as running each node once, in any
 /// order in which the nodes can run. After the run the virtual images are as they were before it.
 #[tactic(auto, using(crate::proofs::TurnLaws::run_in_order))]
 pub fn runs_in_order()

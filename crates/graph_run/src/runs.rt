@@ -50,9 +50,9 @@ use vx_base::{Node, ObjRef};
 ///
 /// The nodes run in the order of the verification. On large images, each node runs once for each
 /// band of rows. The virtual images that the nodes write share blocks of the pool, by the slots of
-/// the plan. At the end these blocks are given back, and the virtual images are as before. All
-/// memory is allocated first, so after an error the objects are as before; only the pool's free
-/// blocks may differ.
+/// the plan. At the end these blocks are given back, and the virtual images are as before the run.
+/// All memory is allocated first, so after an error the objects are unchanged; only the pool's free
+/// blocks may have changed.
 pub fn run(
     alloc: Global,
     verified: &Verified,
@@ -86,8 +86,8 @@ pub fn run(
     run_scheduled(alloc, verified, &schedule, &mut lists, table, pool)
 }
 
-/// Runs a verified graph as `run` does, by a schedule. `schedule_of` must have made this schedule
-/// for the graph.
+/// Runs a verified graph as `run` does, but by a given schedule. `schedule_of` must have made this
+/// schedule for the graph.
 ///
 /// `lists` may be left from an earlier run, of this graph or another. If the lists are large enough
 /// and the pool has free blocks that fit, the run needs no new memory.
@@ -161,9 +161,9 @@ fn prove_descriptions(verified: &Verified)
     }
 }
 
-/// Fills the list of planes, which must be empty. First come the planes of the virtual images, over
-/// the blocks of their slots, and then the planes of the client's images. The samples of the
-/// client's images are taken from the table. The tasks can then run.
+/// Fills the list of planes, which must be empty: first the planes of virtual images, which get the
+/// slots' blocks, then the planes of the client's images. The samples of the client's images are
+/// taken from the table. The tasks can then run.
 fn fill_planes(
     alloc: Global,
     verified: &Verified,

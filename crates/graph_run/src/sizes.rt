@@ -24,11 +24,11 @@ const LEAST_SAMPLES: usize = 131_072;
 /// computing the halo rows twice costs as much as bands gain.
 const LEAST_SAMPLES_WITH_HALO: usize = 500_000;
 
-/// The wanted number of samples of an image in a band, so that the bands of a few images fit in the
-/// cache together.
+/// The wanted number of samples in a band of one image, so that the bands of a few images fit in
+/// the cache together.
 const BAND_SAMPLES: u32 = 65_536;
 
-/// The greatest number of samples of an image in a band, whatever the halo.
+/// The greatest number of samples in a band of one image, whatever the halo.
 const GREATEST_BAND_SAMPLES: u32 = 2_097_152;
 
 /// The least number of rows of a band. With fewer rows, the calls of the steps cost too much time.
@@ -191,7 +191,7 @@ fn add_once(tasks: &[Task], halos: &[u16]) -> bool
     true
 }
 
-/// Returns whether a task doesn't read its own output, or writes each row once, to a block of all
+/// Returns whether a task, if it reads its own output, writes each row once, to a block of all
 /// rows.
 fn adds_once(task: &Task, halos: &[u16]) -> bool
     ensures { result ≡ true → (s : StepValue) → task.now ≡ Write s →

@@ -78,8 +78,8 @@ fn add_tasks(
     }
 }
 
-/// Returns the index of the next tally after a node's tasks are added. `tally` is this index before
-/// they are added.
+/// Returns the index of the next tally when a node's tasks have been added. `tally` is this index
+/// before they are added.
 fn tally_after(tally: usize, node: &Node) -> usize
     requires { tally + 1 < 2 ^ 64 }
     ensures { result ≡ tally_after tally (parameters node.now.function).output }
@@ -149,8 +149,8 @@ fn source(cells: &[ObjRef], at: usize, node: &Node) -> SecondSource
 
 // ---- radii
 
-/// Returns a node's radius: the number of input rows that it reads above an output row. It reads
-/// the same number of rows below. Returns `high` if the node's function writes no image.
+/// Returns a node's radius: the number of input rows that the node reads above an output row. It
+/// reads the same number of rows below. Returns `high` if the node's function writes no image.
 pub fn radius_of(table: &Table, high: u16, node: &Node) -> u16
     ensures { result ≡ radius_of table.now.objects high node.now }
 {

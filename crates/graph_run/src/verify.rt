@@ -19,7 +19,7 @@ use vx_base::{Node, Numbered, ObjRef};
 
 /// Verifies a graph whose nodes name objects of a table. Returns the nodes in an order in which
 /// they can run, and the virtual images that they write. The first input of each node must be an
-/// image.
+/// image, virtual or not.
 ///
 /// `work` is the limit in bytes for the virtual images that the graph writes. An error means that
 /// there is no memory, or that the graph can't run. If the graph can't run, the error holds the
@@ -90,8 +90,8 @@ fn operand_held_if(table: &Table, cell: Option<ObjRef>) -> Option<Operand>
     }
 }
 
-/// Returns the operand that a reference in a node names, even if the object's name has been
-/// released. Returns `Missing` if the table holds no object for the reference.
+/// Returns the operand that a node's reference names, whether the reference's name is live or not.
+/// Returns `Missing` if the table holds no object for the reference.
 #[tactic(auto, using(crate::proofs::FoundLemmas::operand_steps))]
 pub fn operand_held(table: &Table, cell: ObjRef) -> Operand
     ensures { result ≡ operand_held table.now.objects cell }

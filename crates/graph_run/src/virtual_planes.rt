@@ -14,8 +14,8 @@ use pixel_pool::Block;
 use std::alloc::Global;
 use vx_base::{Format, Samples};
 
-/// Adds planes for virtual images to the list, which must be empty. The last image in a slot gets
-/// the slot's block. Every other image gets an empty block.
+/// Adds planes for virtual images to `planes`, which must be empty. The last image in each slot
+/// gets the slot's block. The other images get empty blocks.
 pub fn add_virtual(
     alloc: Global,
     images: &[VirtualOutput],
@@ -42,9 +42,9 @@ pub fn add_virtual(
     }
 }
 
-/// Returns the block that the virtual image at index `k` has before a run. For the last image in a
-/// slot, this is the slot's block, which is taken out of `blocks`. Every other image has an empty
-/// block.
+/// Returns the block that the virtual image at index `k` has before a run. For the last image in
+/// each slot, this is the slot's block, which is taken out of `blocks`. The other images have empty
+/// blocks.
 #[tactic(auto, using(crate::proofs::VirtualLemmas::first_taken))]
 fn first_block(alloc: Global, slots: &[usize], k: usize, blocks: &mut [Block]) -> Samples
     requires there { k < length slots.now }
@@ -83,8 +83,8 @@ fn empty_block(alloc: Global, format: Format) -> Samples
     }
 }
 
-/// Moves each slot's block back from the plane of the slot's last image. After a run, the block is
-/// in that plane.
+/// Moves each slot's block back into `blocks`. A run leaves the block in the plane of the slot's
+/// last image.
 pub fn return_blocks(slots: &[usize], blocks: &mut [Block], planes: &mut [Plane])
     requires count { length slots.now ≤ length planes.old }
     requires within { (k : ℕ) → k < length slots.now →

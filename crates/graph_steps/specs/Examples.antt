@@ -24,7 +24,7 @@ use Rattle.graph_steps.specs.Planes.{PlaneValue}
 abbrev pub no_tables : ℕ → Option ObjectValue
 no_tables k = None
 
--- an image of 1 x 4 pixels
+-- the description of an image of 1 x 4 pixels
 abbrev pub small_image_desc : Description
 small_image_desc = record { width = 1; height = 4; format = U8 }
 

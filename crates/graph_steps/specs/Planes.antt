@@ -29,11 +29,11 @@ rows_of_block width top rows samples = take (rows.count * width) (drop ((rows.st
 abbrev pub plane_image : PlaneValue → ImageValue
 plane_image p = image_over_rows p.desc p.valid p.rows (rows_of_block p.desc.width p.top p.rows p.samples)
 
--- the image over all samples of the plane's block; the block of a client's image has all rows
+-- the image over all samples of the plane's block, which has all rows if the image is a client's
 abbrev pub block_image : PlaneValue → ImageValue
 block_image p = image_over p.desc p.valid p.samples
 
--- the plane with other readable rows
+-- the plane, with these rows as its readable rows
 abbrev pub with_read_rows : Band → PlaneValue → PlaneValue
 with_read_rows rows p = record p { rows = rows }
 
@@ -49,7 +49,7 @@ abbrev pub with_rows : Band → ImageValue → PlaneValue → PlaneValue
 with_rows rows image p =
     record { desc = p.desc; valid = image.valid; top = p.top; rows = rows; format = p.format; samples = written_among p.top rows image p.samples }
 
--- the plane of a client's image, which has all rows
+-- the plane of a client's image, with all rows
 abbrev pub whole_plane : Description → Rectangle → Samples → PlaneValue
 whole_plane d valid block =
     record { desc = d; valid = valid; top = 0; rows = all_rows d.height; format = samples_format block; samples = values block }
@@ -59,7 +59,7 @@ abbrev pub virtual_plane : Description → Samples → PlaneValue
 virtual_plane d block =
     record { desc = d; valid = empty_rectangle; top = 0; rows = all_rows 0; format = samples_format block; samples = values block }
 
--- the plane with another block, which begins with row `top`, and an empty valid rectangle
+-- the plane with this block, which begins with row `top`; the valid rectangle becomes empty
 abbrev pub with_block : Format → List ℤ → ℕ → PlaneValue → PlaneValue
 with_block format samples top p =
     record { desc = p.desc; valid = empty_rectangle; top = top; rows = p.rows; format = format; samples = samples }

@@ -36,7 +36,7 @@ HaveOneWriter [] = Unit {0}
 HaveOneWriter (Write s ∷ later) = IsUnwritten later s.output × HaveOneWriter later
 HaveOneWriter (Reduce r ∷ later) = HaveOneWriter later
 
--- no step's input is a plane that this step or a later step writes
+-- each plane that a step reads is written neither by this step nor by a later step
 abbrev pub AreInOrder : List Task → Type 0
 AreInOrder [] = Unit {0}
 AreInOrder (Write s ∷ later) = ((c : ℕ) → ReadsPlane s c → IsUnwritten (Write s ∷ later) c) × AreInOrder later
@@ -76,12 +76,12 @@ after_tasks tables halos rows (t ∷ later) planes = after_tasks tables halos ro
 
 -- ---- blocks
 
--- the plane at this index keeps its block, as a client's image does: no step takes the block away,
--- or gives the plane another block
+-- the plane at this index keeps its block, as a client's image does: no step takes this block, and
+-- no step that writes the plane takes a block
 abbrev pub KeepsBlock : ℕ → List Task → ℕ → Type 0
 KeepsBlock count tasks c = (c < count) × ((s : Step) → IsStepOf s tasks → (t : ℕ) → s.takes ≡ Some t → (t ≢ c) × (s.output ≢ c))
 
--- the plane's present rows are still needed: a task reads them before a step writes the plane, or
+-- the plane's present rows are still needed: a task reads them before any step writes the plane, or
 -- no step writes the plane and the plane is in `kept`
 abbrev pub IsLive : (ℕ → Type 0) → List Task → ℕ → Type 0
 IsLive kept [] c = kept c
@@ -96,7 +96,7 @@ AreFree kept (Reduce r ∷ later) = AreFree kept later
 AreFree kept (Write s ∷ later) = ((t : ℕ) → s.takes ≡ Some t → t ≢ s.output → IsLive kept later t → ⊥) × AreFree kept later
 
 -- the block has the image's format and is large enough for a band of `size` rows with `more` rows
--- of halo above and below
+-- of halo above and as many below
 abbrev pub HoldsRows : ℕ → ℕ → Description → Format × ℕ → Type 0
 HoldsRows size more d block = (block.0 ≡ d.format) × (min d.height (size + more + more) * d.width ≤ block.1)
 
@@ -177,6 +177,6 @@ steps_in_turn tables (Reduce r ∷ later) images = steps_in_turn tables later im
 abbrev pub IsWritten : List Task → ℕ → Type 0
 IsWritten tasks c = (s : Step) × IsStepOf s tasks × (s.output ≡ c)
 
--- each plane belongs to a client's image, or a step writes it
+-- each plane belongs to a client's image, or is written by a step
 abbrev pub AreFilled : ℕ → List Task → Type 0
 AreFilled count tasks = (c : ℕ) → c < count → KeepsBlock count tasks c ⊎ IsWritten tasks c

@@ -50,11 +50,11 @@ image_from_inputs s first second own = node_image s.node s.which own.format firs
 abbrev pub kernel_image : Kernel → ImageValue → ImageValue
 kernel_image k own = image_from_inputs k.step.now k.first.now (second_object k.second.now) own
 
--- the image with the rows of an output, and 0 in all other rows
+-- the image with the samples of an output's band, and 0 in all other rows
 abbrev pub held_image : ImageMut → ImageValue
 held_image out = image_over_rows out.desc out.valid out.rows (target_image out).samples
 
--- the image that a step computes from the images of its planes
+-- the image that a step computes from its inputs in `images` and `tables`, given the old output
 abbrev pub step_image : (ℕ → Option ObjectValue) → Step → (ℕ → ImageValue) → ImageValue → ImageValue
 step_image tables s images own = image_from_inputs s (images s.first) (second_in tables images s.second) own
 
@@ -112,7 +112,7 @@ abbrev pub Covers : Option ℕ → ℕ → ℕ → Type 0
 Covers (Some rows) radius high = rows ≤ radius
 Covers None radius high = high ≤ radius
 
--- an image for statements that depend on the description alone
+-- an image with this description, for premises that depend on the description alone
 abbrev pub blank_image : Description → ImageValue
 blank_image d = image_over d empty_rectangle []
 

@@ -31,13 +31,14 @@ pub struct Step {
     /// The index of the plane whose block the output takes over; this may be the output's own
     /// plane. `None` if the output is a client's image, whose block has all rows.
     pub takes: Option<usize>,
-    /// The number of input rows that the step reads above an output row, and as many below.
+    /// The number of input rows that the step reads above an output row. It reads the same number
+    /// of rows below.
     pub radius: u16,
 }
 
-/// Returns the radius of a step: the number of input rows that it reads above an output row, and as
-/// many below. Integral has radius 0, since it computes each row from one input row and from the
-/// output row above. Returns `None` if the function writes no image.
+/// Returns the radius of a step: the number of input rows that the step reads above an output row.
+/// It reads the same number of rows below. Integral has radius 0, since it computes each row from
+/// one input row and from the output row above. Returns `None` if the function writes no image.
 pub fn step_radius(function: Function, matrix: Option<&Convolution>) -> Option<u16>
     ensures { result ≡ step_radius function (option_copied matrix.entry) }
 {

@@ -15,7 +15,8 @@ use Rattle.graph_run.specs.Lasting.{Lasts}
 abbrev pub box_to : ℕ → ℕ → Node
 box_to input output = node_to Box Wrap input None output
 
--- the graph with one more Box node for each pair of images, from the first image to the second
+-- the graph with one more Box node for each listed pair of images, from the pair's first image to
+-- the pair's second
 abbrev pub with_boxes : GraphValue → List (ℕ × ℕ) → GraphValue
 with_boxes g [] = g
 with_boxes g (l ∷ links) = with_boxes (with_node g (box_to l.0 l.1)) links
@@ -37,7 +38,7 @@ abbrev pub linked_by : GraphValue → ImageValue → ImageValue → PartialDesc 
 linked_by graph a b declared = live 1 (ImageObject a) ∷ live 2 (ImageObject b) ∷ live 3 (GraphObject graph) ∷ live 4 (chain_image declared)
     ∷ live 5 (chain_image declared) ∷ live 6 (chain_image declared) ∷ live 7 (chain_image declared) ∷ live 8 (chain_image declared) ∷ []
 
--- the objects are well-formed, and are those of a chain except for the parts that a write or a run
--- may change
+-- the objects are well-formed, and are those of `linked_by six_boxes` except for the parts that a
+-- write or a run may change
 abbrev pub IsChain : List NamedObject → Type 0
 IsChain objects = (a : ImageValue) × (b : ImageValue) × (declared : PartialDesc) × Lasts (linked_by six_boxes a b declared) objects

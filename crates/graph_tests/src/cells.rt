@@ -32,7 +32,7 @@ pub fn picture(alloc: Global, samples: [u8; 2]) -> Result<Picture, Fail>
     Ok(Picture::new(small()?, Samples::U8(samples)))
 }
 
-/// Returns whether the samples are `wanted`.
+/// Returns whether the samples equal `wanted`.
 pub fn are(samples: &Samples, wanted: [u8; 2]) -> bool {
     match samples {
         Samples::U8(samples) => samples.as_slice() == wanted.as_slice(),

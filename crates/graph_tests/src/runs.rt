@@ -215,7 +215,8 @@ fn chain(alloc: Global, input: Stored, output: Stored, declared: PartialDesc) ->
     Ok(table)
 }
 
-/// Runs the graph of a chain, and returns the number of U8 blocks that the pool then has.
+/// Runs graph 3, a chain of six Box nodes, and returns the number of U8 blocks that the pool then
+/// has.
 fn run_chain(alloc: Global, table: &mut Table, pool: &mut Pool) -> Result<usize, Fail>
     requires { IsChain table.old.objects }
     ensures { OnOk result (IsChain table.new.objects) }

@@ -117,8 +117,8 @@ fn counts_of(table: &Table, name: u32) -> Option<&[u32]> {
     }
 }
 
-/// Sets the counts of the distribution of this name, if it exists and has one bin for each count.
-/// Returns whether the counts were set.
+/// Sets the counts of the distribution of this name, if it exists and has one bin for each of
+/// `counts`. Returns whether the counts were set.
 fn set_counts(table: &mut Table, name: u32, counts: &[u32]) -> bool {
     match table.get_held(name).map(|object| object.content()) {
         Some(Content::Distribution(held)) if held.counts().len() == counts.len() => {}

@@ -3,9 +3,9 @@ use Rattle.std.specs.Prelude.{◌≡◌, ℕ, zero, suc, Bool, true, false, not,
 use Rattle.std.specs.List.{filter, list_any}
 use Rattle.graph_verify.specs.Members.{AllIn}
 
--- `feeds a b`: node a writes an object that node b reads
+-- `feeds a b`: node `a` writes an object that node `b` reads
 
--- a path from `a` over the nodes of the list to `b`, along which each node feeds the next
+-- a path from `a` through all nodes of the list, in order, to `b`; each node feeds the next
 abbrev pub Chain : {N : Type 0} → (N → N → Bool) → N → List N → N → Type 0
 Chain feeds a [] b = feeds a b ≡ true
 Chain feeds a (c ∷ cs) b = (feeds a c ≡ true) × Chain feeds c cs b

@@ -18,11 +18,11 @@ writes n cell = list_any (same_reference cell) (outputs n)
 abbrev pub feeds : Node → Node → Bool
 feeds m n = list_any (reads n) (outputs m)
 
--- whether a reference occurs twice in the list
+-- whether any reference occurs twice in the list
 abbrev pub has_twice : List Reference → Bool
 has_twice [] = false
 has_twice (cell ∷ cells) = list_any (same_reference cell) cells || has_twice cells
 
--- whether a node of the list writes an object
+-- whether an object is written by any node of the list
 abbrev pub is_written : List Node → Reference → Bool
 is_written nodes cell = list_any (λ n. writes n cell) nodes

@@ -39,8 +39,8 @@ operand_kind Graph = Some kind.Graph
 operand_kind (Virtual declared) = Some kind.VirtualImage
 operand_kind Missing = None
 
--- the format of an image's samples, of a table's entries, of the samples that a threshold tests, or
--- of a convolution's coefficients; None for a virtual image and for any other operand
+-- the format of an image's samples, of a lookup table's entries, of the samples that a threshold
+-- tests, or of a convolution's coefficients; None for a virtual image and for any other operand
 abbrev pub operand_format : Operand → Option Format
 operand_format (Image d) = Some d.format
 operand_format (Lut format) = Some format

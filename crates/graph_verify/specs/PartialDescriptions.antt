@@ -39,13 +39,14 @@ written_partial_desc is n known cell = with_defaults (operand_partial_desc (is c
 abbrev pub partial_descs : (Reference → Operand) → List Node → Reference → PartialDescription
 partial_descs is nodes = rounds writes (written_partial_desc is) nodes (length nodes) (λ cell. operand_partial_desc (is cell))
 
--- an image of the full description, or a virtual image of the partial description if no full
--- description is given
+-- an image with the full description, if one is given; otherwise a virtual image with the partial
+-- description
 abbrev pub virtual_or_image : PartialDescription → Option Description → Operand
 virtual_or_image known None = Virtual known
 virtual_or_image known (Some d) = Image d
 
--- an operand with this resolved description; only a virtual image changes
+-- a resolved operand: a virtual image gets this description, and becomes an image if no part of the
+-- description is open; other operands don't change
 abbrev pub as_known : Operand → PartialDescription → Operand
 as_known (Virtual declared) known = virtual_or_image known (full_description known)
 as_known other known = other

@@ -59,8 +59,8 @@ known_operands known l =
 abbrev pub described_output : ResolvedOutput → Option VirtualOutput
 described_output k = option_map (λ d. record { cell = k.cell; desc = d }) (full_description k.partial_desc)
 
--- the virtual images that nodes write, in the order of writing, each with its description after all
--- rounds of resolution
+-- `known` has the virtual images that the nodes write, in the order of writing, each with its
+-- description after all rounds of resolution
 pub record AreResolved (is : Reference → Operand) (nodes : List Node) (known : List ResolvedOutput) : Type 0 where
   pub cells : map (λ k. k.cell) known ≡ virtual_outputs is nodes
   pub each : All (λ k. k.partial_desc ≡ partial_descs is nodes k.cell) known

@@ -63,7 +63,7 @@ verdict_on n o =
 
 -- ---- graphs
 
--- whether an object is written by two nodes, or as both outputs of one node
+-- whether any object is written by two nodes, or as both outputs of one node
 abbrev pub two_writers : List Node → Bool
 two_writers nodes = has_twice (flat_map outputs nodes)
 
@@ -79,12 +79,11 @@ reads_unwritten is nodes n = list_any (is_unwritten_image is nodes) (inputs n)
 abbrev pub adds_to_virtual : (Reference → Operand) → Node → Bool
 adds_to_virtual is n = accumulates n.function && list_any (λ cell. is_virtual (is cell)) (outputs n)
 
--- whether a node reads a virtual image that no node writes, or accumulates into a virtual image
+-- whether any node accumulates into a virtual image, or reads a virtual image that no node writes
 abbrev pub has_unwritten_input : (Reference → Operand) → List Node → Bool
 has_unwritten_input is nodes = list_any (λ n. reads_unwritten is nodes n || adds_to_virtual is n) nodes
 
--- the fault of the first node in the list that has a fault; the nodes are in the order in which
--- they were added
+-- the fault of the first node that has a fault; the nodes are in the order in which they were added
 abbrev pub first_fault : (Reference → Operand) → List Node → Option Verdict
 first_fault is [] = None
 first_fault is (n ∷ nodes) = option_or (node_fault n.function (operands_of is n)) (first_fault is nodes)

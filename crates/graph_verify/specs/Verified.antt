@@ -26,8 +26,8 @@ pub record VerifiedValue : Type 0 where
   pub virtual_outputs : List VirtualOutput
   pub order : List ℕ
 
--- `v` has the nodes in an order in which they can run, and the virtual images that they write, with
--- their resolved descriptions
+-- `v` has the nodes in an order in which they can run, and each virtual image that the nodes write,
+-- with its resolved description
 pub record IsVerified (is : Reference → Operand) (nodes : List Node) (v : VerifiedValue) : Type 0 where
   pub order : IsOrder feeds nodes v.steps
   pub cells : map (λ o. o.cell) v.virtual_outputs ≡ virtual_outputs is v.steps
@@ -37,7 +37,7 @@ pub record IsVerified (is : Reference → Operand) (nodes : List Node) (v : Veri
 abbrev pub VerifiesNodes : List Linked → VerifiedValue → Type 0
 VerifiesNodes nodes v = (is : Reference → Operand) → AreOperands is nodes → IsVerified is (linked_nodes nodes) v
 
--- the steps are these nodes in some order, with their numbers
+-- `v` has these nodes in some order, and their numbers in the same order
 abbrev pub ReordersNodes : List Linked → VerifiedValue → Type 0
 ReordersNodes nodes v = IsPermutation (map (λ l. (l.number, l.node)) nodes) (zip v.order v.steps)
 

@@ -144,7 +144,7 @@ pub fn sums()
 {}
 
 /// If two nodes are faulty, the verdict is the fault of the node that was added first, even if that
-/// node runs last.
+/// node would run last.
 pub fn earliest_added()
     ensures { verdict 9 example_operand (and_to 6 5 2 ∷ not_to 4 3 ∷ not_to 1 6 ∷ [])
         ≡ Some InvalidDimension }

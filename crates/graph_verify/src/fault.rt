@@ -7,10 +7,10 @@ pub enum GraphFault {
     /// There is no memory for the node.
     #[error("no memory")]
     NoMemory,
-    /// The graph has 256 nodes, or all numbers have been used.
+    /// The graph has 256 nodes, or all node numbers have been used.
     #[error("no more nodes can be added")]
     NoResources,
-    /// No node of the graph has this number.
+    /// No node of the graph has the given number.
     #[error("the graph has no such node")]
     InvalidReference,
 }

@@ -67,8 +67,8 @@ impl Graph {
         &self.nodes
     }
 
-    /// Checks whether one more node can be added: an unused number remains, and there are fewer than
-    /// 256 nodes.
+    /// Checks whether one more node can be added: an unused number remains, and there are fewer
+    /// than 256 nodes.
     pub fn can_add(&self) -> bool
         ensures { result ≡ can_add self.now }
     {

@@ -94,8 +94,8 @@ fn given_partial_desc(function: Function, first: PartialDesc) -> PartialDesc
     PartialDesc::new(first.width(), first.height(), format).unwrap()
 }
 
-/// Adds an output to the resolved images, if the output is a virtual image. Open parts of its
-/// description are filled in from `given`.
+/// Adds an output to `known`, if the output is a virtual image. Open parts of its description are
+/// filled in from `given`.
 fn learn_cell(
     known: &mut Vec<ResolvedOutput>,
     cell: ObjRef,
@@ -133,7 +133,7 @@ fn learn_output(
     }
 }
 
-/// Adds each output of a node to the resolved images, if the output is a virtual image.
+/// Adds each output of a node to `known`, if the output is a virtual image.
 fn learn(known: &mut Vec<ResolvedOutput>, linked: &Linked) -> Result<(), AllocError>
     ensures resolved { OnOk result (known.new.items
         ≡ known.old.items ++ resolved_by known.old.items linked.now) }
@@ -146,7 +146,8 @@ fn learn(known: &mut Vec<ResolvedOutput>, linked: &Linked) -> Result<(), AllocEr
     learn_output(known, node.out2, operands.out2, given)
 }
 
-/// Returns an operand with its resolved description; only a virtual image changes.
+/// Returns a resolved operand: a virtual image gets its resolved description, and becomes an image
+/// if no part of the description is open; other operands don't change.
 fn known_operand(known: &[ResolvedOutput], cell: ObjRef, operand: Operand) -> Operand
     ensures { result ≡ known_operand known.now cell operand }
 {

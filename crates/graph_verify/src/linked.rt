@@ -68,7 +68,7 @@ fn shares_output(others: &[Linked], node: &Node) -> bool
     writes_twice(node) || is_given_written(others, node.out1) || is_given_written(others, node.out2)
 }
 
-/// Checks whether an object is written by two nodes, or as both outputs of one node.
+/// Checks whether any object is written by two nodes, or as both outputs of one node.
 pub fn has_two_writers(nodes: &[Linked]) -> bool
     ensures { result ≡ two_writers (linked_nodes nodes.now) }
 {
@@ -124,8 +124,8 @@ fn has_virtual_sum(linked: &Linked) -> bool
         && (is_given_virtual(operands.out1) || is_given_virtual(operands.out2))
 }
 
-/// Checks whether a node reads a virtual image that no node writes, or accumulates into a virtual
-/// image.
+/// Checks whether any node accumulates into a virtual image, or reads a virtual image that no node
+/// writes.
 pub fn has_unwritten_input(nodes: &[Linked]) -> bool
     ensures { (is : Reference → Operand) → AreOperands is nodes.now →
         result ≡ has_unwritten_input is (linked_nodes nodes.now) }

@@ -10,7 +10,7 @@ pub enum Operand {
     Image(Desc),
     /// A lookup table of samples of this format.
     Lut(Format),
-    /// A threshold of samples of this format.
+    /// A threshold for samples of this format.
     Threshold(Format),
     /// A delay itself, which no function takes. Each slot of a delay is an image.
     Delay,
@@ -65,7 +65,7 @@ impl Operand {
         matches!(self, Operand::Virtual(_))
     }
 
-    /// Returns the format of an image's samples, of a table's entries, of the samples that a
+    /// Returns the format of an image's samples, of a lookup table's entries, of the samples that a
     /// threshold tests, or of a convolution's coefficients. `None` for a virtual image and for any
     /// other operand.
     pub fn format(self) -> Option<Format>

@@ -36,8 +36,8 @@ impl<'a> Model for Waiting<'a> {
 }
 
 impl<'a> Waiting<'a> {
-    /// Returns an unordered node, with the inputs for which it waits. `nodes` are all unordered
-    /// nodes, including this one.
+    /// Returns `linked`, an unordered node, with the inputs for which it waits. `nodes` has all
+    /// unordered nodes, including `linked`.
     fn among(nodes: &[Linked], linked: &'a Linked) -> Waiting<'a>
         ensures { result ≡ waiting_among (linked_nodes nodes.now) linked.now }
     {

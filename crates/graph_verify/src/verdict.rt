@@ -22,7 +22,7 @@ pub enum Verdict {
     /// There is a cycle: each of its nodes writes an object that the next one reads, and the last
     /// one writes an object that the first one reads.
     InvalidGraph,
-    /// A node reads a virtual image that no node writes, or accumulates into a virtual image.
+    /// A node accumulates into a virtual image, or reads a virtual image that no node writes.
     InvalidLink,
     /// A node's function doesn't take the formats of its operands.
     InvalidFormat,

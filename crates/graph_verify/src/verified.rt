@@ -88,7 +88,7 @@ impl Verified {
         &self.virtual_outputs
     }
 
-    /// Returns the numbers of the nodes in their graph, in the order of the steps.
+    /// Returns each node's number in the graph, in the order of the steps.
     pub fn order(&self) -> &[u32]
         ensures order { result.now ≡ self.now.order }
         ensures count { length result.now ≡ length self.now.steps }
@@ -145,7 +145,7 @@ fn nodes_of(alloc: Global, linked: &[Linked]) -> Result<Vec<Node>, AllocError>
     Ok(nodes)
 }
 
-/// Returns the numbers of the nodes.
+/// Returns each node's number in the graph.
 fn numbers_of(alloc: Global, linked: &[Linked]) -> Result<Vec<u32>, AllocError>
     ensures { IfOk result (λ numbers. numbers.items ≡ map (λ l. l.number) linked.now) }
 {
@@ -193,10 +193,10 @@ fn verify_ordered(
     })
 }
 
-/// Verifies a graph of at most 256 nodes. `nodes` has the nodes with their operands, in the order
-/// in which they were added. The first input of each node must be an image, virtual or not. `work`
-/// is the greatest number of bytes that the virtual images may take. `Refused` if the graph can't
-/// run, `NoMemory` if there is no memory for the result.
+/// Verifies a graph of at most 256 nodes. `nodes` has the nodes in the order in which they were
+/// added, each with its operands. The first input of each node must be an image, virtual or not.
+/// `work` is the greatest number of bytes that the virtual images may take. `Refused` if the graph
+/// can't run, `NoMemory` if there is no memory for the verification.
 pub fn verify(alloc: Global, nodes: &[Linked], work: u64) -> Result<Verified, VerifyFault>
     requires count { length nodes.now ≤ GREATEST_NODES }
     requires images { All (λ l. IsTrue (is_image l.operands.in1)) nodes.now }

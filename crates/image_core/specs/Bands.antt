@@ -27,7 +27,7 @@ abbrev pub image_over_rows : Description → Rectangle → Band → List ℤ →
 image_over_rows d valid rows samples =
     image_over d valid (zero_rows d.width rows.start ++ (samples ++ zero_rows d.width (d.height - (rows.start + rows.count))))
 
--- the image with the samples outside the band's rows set to 0
+-- the image, with all samples outside the band's rows set to 0
 abbrev pub zero_outside_rows : Band → ImageValue → ImageValue
 zero_outside_rows rows image = image_over_rows (description_of image) image.valid rows (band image.width rows.start rows.count (pixel_at image))
 

@@ -13,13 +13,13 @@ use Rattle.image_core.specs.Target.{target_image, IsTarget}
 abbrev pub HaveSameSize : ImageValue → ImageValue → Type 0
 HaveSameSize a b = IsTrue (same_size (description_of a) (description_of b))
 
--- a second input that is an image has the first input's size
+-- if the second input is an image, it has the first input's size
 abbrev pub SecondHasSize : ImageValue → Option ObjectValue → Type 0
 SecondHasSize a (Some (ImageObject b)) = HaveSameSize b a
 SecondHasSize a other = ⊤
 
 -- The function takes the formats of the inputs and of the output. The output has the first input's
--- size, and so does a second input that is an image.
+-- size. If the second input is an image, it also has this size.
 pub record Fits (function : Function) (a : ImageValue) (second : Option ObjectValue) (out : ImageMut) : Type 0 where
   pub target : IsTarget out
   pub size : HaveSameSize (target_image out) a

@@ -11,7 +11,7 @@ slice_format (U8 samples) = format.U8
 slice_format (S16 samples) = format.S16
 slice_format (U32 samples) = format.U32
 
--- the samples as numbers
+-- the samples in a slice, as integers
 abbrev pub slice_values : Slice → List ℤ
 slice_values (U8 samples) = map pos samples.now
 slice_values (S16 samples) = samples.now

@@ -14,7 +14,7 @@ pub record IsTarget (image : ImageMut) : Type 0 where
   pub size : length (target_image image).samples ≡ image.rows.count * image.desc.width
   pub rows : IsInRows image.desc.height image.rows
 
--- the output is over the same band and the same slices as before
+-- the output has the same band and the same slices as before
 pub record SameSlices (old new : ImageMut) : Type 0 where
   pub rows : new.rows ≡ old.rows
   pub bytes : new.bytes.ghost_name ≡ old.bytes.ghost_name

@@ -18,7 +18,7 @@ pub trait Formula<T: Number> {
     fn area(&self) -> Rect
         ensures { result ≡ area self.now };
 
-    /// Writes the samples of row `y` from column `x` on.
+    /// Fills `out` with the samples of row `y`, from column `x` on.
     fn fill(&self, x: u16, y: u16, out: &mut [T])
         requires in_rows { ((area self.now).y0 ≤ y) × (y < (area self.now).y1) }
         requires in_columns { ((area self.now).x0 ≤ x) × (x + length out.old ≤ (area self.now).x1) }
@@ -51,8 +51,8 @@ pub trait RowFormula<T: Number, S> {
         ensures value { result ≡ most self.now }
         ensures some { 1 ≤ result };
 
-    /// Writes the samples of row `y` from column `x` on. `out` must have at least one item, and at
-    /// most `most` items.
+    /// Fills `out` with the samples of row `y`, from column `x` on. `out` must have at least one
+    /// item, and at most `most` items.
     fn fill(&self, x: u16, y: u16, scratch: &mut [S], out: &mut [T])
         requires in_rows { ((area self.now).y0 ≤ y) × (y < (area self.now).y1) }
         requires in_columns { ((area self.now).x0 ≤ x) ×

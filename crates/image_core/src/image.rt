@@ -16,7 +16,7 @@ use vx_base::{Desc, Rect};
 pub struct Image<'a> {
     desc: Desc,
     valid: Rect,
-    /// The band whose samples are in the slice.
+    /// The band whose samples are in `samples`.
     rows: Band,
     samples: Slice<'a>,
 }

@@ -15,7 +15,8 @@ use crate::whole::Whole;
 use vx_base::{Desc, Format, Rect};
 
 /// An output image: the mutably borrowed samples of an image or of a band of its rows, in row-major
-/// order. Only the slice of the image's format is used; the other two are empty.
+/// order. The output has a slice for each of the three formats. Only the slice of the image's
+/// format is used; the other two are empty.
 #[derive(Drop)]
 pub struct ImageMut<'a> {
     pub(crate) desc: Desc,
@@ -29,9 +30,9 @@ pub struct ImageMut<'a> {
 impl<'a> ImageMut<'a> {
     ghost use Rattle.image_core.specs.Target.{target_image, IsTarget, SameSlices, Writes};
 
-    /// Returns an output over these samples, one for each pixel, with an empty valid rectangle. The
-    /// clause `same_slice` tells the prover that the output's slice is `samples`. So the prover
-    /// knows the contents of `samples` when the borrow ends.
+    /// Returns an output over these samples, one for each pixel. The output's valid rectangle is
+    /// empty. The clause `same_slice` tells the prover that the output's slice is `samples`. So the
+    /// prover knows the contents of `samples` when the borrow ends.
     pub fn new<T: Sample>(desc: Desc, samples: &'a mut [T]) -> ImageMut<'a>
         requires format { desc.format ≡ T.format }
         requires size { length samples.old ≡ sample_count desc }
@@ -44,9 +45,9 @@ impl<'a> ImageMut<'a> {
         T::lend_mut(desc, Band::whole(desc), samples)
     }
 
-    /// Returns an output over the samples of a band, one for each of the band's pixels, with an
-    /// empty valid rectangle. `desc` describes the whole image. A kernel writes only the band's
-    /// rows.
+    /// Returns an output over the samples of a band, one for each of the band's pixels. The
+    /// output's valid rectangle is empty. `desc` describes the whole image. A kernel writes only
+    /// the band's rows.
     pub fn of_rows<T: Sample>(desc: Desc, rows: Band, samples: &'a mut [T]) -> ImageMut<'a>
         requires format { desc.format ≡ T.format }
         requires rows { IsInRows desc.height rows }

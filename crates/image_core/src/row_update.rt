@@ -20,7 +20,7 @@ pub trait RowUpdate<T: Number> {
     fn area(&self) -> Rect
         ensures { result ≡ area self.now };
 
-    /// Updates the samples of row `y` from column `x` on.
+    /// Updates `row`, a part of row `y` that begins at column `x`.
     fn update(&self, x: u16, y: u16, row: &mut [T])
         requires in_rows { ((area self.now).y0 ≤ y) × (y < (area self.now).y1) }
         requires in_columns { ((area self.now).x0 ≤ x) ×
@@ -63,7 +63,7 @@ pub trait RowChange<T: Number, S> {
     fn area(&self) -> Rect
         ensures { result ≡ area self.now };
 
-    /// Changes the samples of row `y` from column `x` on.
+    /// Changes `row`, a part of row `y` that begins at column `x`.
     fn change(&self, x: u16, y: u16, scratch: &mut [S], row: &mut [T])
         requires in_rows { ((area self.now).y0 ≤ y) × (y < (area self.now).y1) }
         requires in_columns { ((area self.now).x0 ≤ x) ×
@@ -73,7 +73,7 @@ pub trait RowChange<T: Number, S> {
             map T.value row.new ≡ run x (length row.old) (λ k. next self.now k y (before k)) };
 }
 
-/// A formula as a change that ignores the old samples.
+/// A `RowFormula` as a `RowChange` that ignores the old samples.
 #[derive(Drop)]
 pub struct Written<'a, F> {
     pub formula: &'a F,
@@ -90,7 +90,7 @@ impl<T: Number, S, F: RowFormula<T, S>> RowChange<T, S> for Written<'_, F> {
         self.formula.area()
     }
 
-    /// Writes the row piece by piece, from left to right. Each piece is at most as wide as the
+    /// Writes `row` piece by piece, from left to right. Each piece is at most as wide as the
     /// formula allows.
     fn change(&self, x: u16, y: u16, scratch: &mut [S], row: &mut [T]) {
         self.formula.area().prove_bounds();
@@ -105,7 +105,7 @@ impl<T: Number, S, F: RowFormula<T, S>> RowChange<T, S> for Written<'_, F> {
     }
 }
 
-/// An update as a change that needs no scratch memory.
+/// A `RowUpdate` as a `RowChange` that needs no scratch memory.
 #[derive(Drop)]
 pub struct Updated<'a, U> {
     pub update: &'a U,

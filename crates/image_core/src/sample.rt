@@ -74,7 +74,7 @@ pub trait Sample: Number {
 /// The number of samples in the longest row.
 const LONGEST_ROW: usize = GREATEST_SIDE as usize;
 
-/// A row of zeros for each number type, as long as the longest row.
+/// A row of zeros, as long as the longest row. There is one for each number type.
 static ZERO_BYTES: [u8; LONGEST_ROW] = [0; LONGEST_ROW];
 
 static ZERO_SHORTS: [i16; LONGEST_ROW] = [0; LONGEST_ROW];
@@ -95,7 +95,7 @@ macro_rules! image_mut {
     };
 }
 
-/// Unwraps the samples from a slice of this format.
+/// Unwraps the samples from a `Slice` of the format `$format`.
 macro_rules! lent_as {
     ($samples:expr, $format:ident) => {
         match $samples {

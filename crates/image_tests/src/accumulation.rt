@@ -59,8 +59,8 @@ fn sums_where_both_are_valid(rt: HostRuntime) -> Result<(), Fail> {
     Ok(())
 }
 
-/// Adds to `sums` the squares of four samples, each divided by 2^amount. Returns the new sums. All
-/// samples and sums are valid.
+/// Adds to `sums` the squares of four samples, each square divided by 2^amount. Returns the new
+/// sums. All samples and sums are valid.
 fn add_squares(amount: u8, mut sums: [i16; 4]) -> Option<[i16; 4]>
     requires { amount ≤ 15 }
 {

@@ -79,7 +79,7 @@ fn sums_go_on(rt: HostRuntime) {
 
 /// Adds the two lower rows of `SAMPLES` to a histogram of three bins. Merges the extremes of these
 /// rows into `above`, as if the rows were 4 rows further down. Returns the histogram and the
-/// extremes.
+/// merged extremes.
 fn merge_others(above: Extremes) -> Option<([u32; 3], Extremes)>
     requires least { above.min_count < 2 ^ 16 }
     requires greatest { above.max_count < 2 ^ 16 }

@@ -14,8 +14,8 @@ use window_kernels::{box3, convolve, dilate3, erode3, gaussian3, median3, sobel3
 /// The samples of a 3 by 3 image.
 const SAMPLES: [u8; 9] = [1, 2, 9, 3, 4, 8, 5, 6, 7];
 
-/// Returns the medians and the means of `SAMPLES` with this valid rectangle, and the medians' own
-/// valid rectangle.
+/// Returns the medians and the means of `SAMPLES`, and the medians' valid rectangle. `SAMPLES` is
+/// valid in `valid`.
 fn smoothed(valid: Rect, border: Border) -> ([u8; 9], [u8; 9], Rect)
     requires { IsWithin valid 3 3 }
 {

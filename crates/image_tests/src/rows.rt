@@ -117,7 +117,7 @@ macro_rules! assert_sums {
 }
 
 /// Calls a kernel of two rows that narrows the formula's value, under each policy and at each
-/// length. `wrapped` narrows the value under Wrap, and `nearest` under Saturate.
+/// length. `$wrapped` gives the expected item under Wrap, and `$nearest` under Saturate.
 macro_rules! assert_narrowed {
     ($rt:expr, $numbers:expr, $blank:expr, $wrapped:ident, $nearest:ident;
         |$first:ident, $second:ident, $policy:ident, $out:ident| $call:expr;

@@ -38,8 +38,8 @@ fn pieces_meet_in_a_row(rt: HostRuntime) {
 }
 
 /// Returns two horizontal gradients of the same row as in `smoothed`, in columns 1021 to 1027. The
-/// first is from Sobel. The second is from a matrix that subtracts the left neighbour from the right
-/// one.
+/// first is from Sobel. The second is from a matrix that subtracts the left neighbour from the
+/// right one.
 fn changes() -> Option<([i16; 7], [i16; 7])> {
     let desc = Desc::new(1030, 1, Format::U8)?;
     let wide = Desc::new(1030, 1, Format::S16)?;

@@ -117,7 +117,7 @@ fn three_of<'a>(
     }
 }
 
-/// Returns the first `count` windows of nine rows.
+/// Returns the windows at the first `count` indices of nine rows.
 fn windows(rows: &[[u8; LONGEST]; 9], count: usize) -> Nine<'_>
     requires { count ≤ 65 }
     ensures { window_count result ≡ count }
@@ -151,8 +151,8 @@ fn are_of_nine<T: Copy + Into<i32>>(
     true
 }
 
-/// Returns whether a kernel of nine rows writes the function's first `count` results, and nothing
-/// more.
+/// Returns whether a function's kernel of nine rows writes the first `count` results of `formula`,
+/// and nothing more.
 fn bytes_of_nine(function: Function, count: usize) -> bool
     requires { count ≤ 65 }
 {
@@ -285,7 +285,7 @@ fn shorts_of(case: &Case, function: Function, to: &mut [i16]) -> Option<Rect> {
     Some(target.valid())
 }
 
-/// Returns whether a row has the function's samples inside the valid rectangle, and 0 outside it.
+/// Returns whether a row has the function's samples inside `found`, and 0 outside it.
 fn are_of_row<T: Copy + Into<i32>>(
     case: &Case,
     function: Function,
@@ -309,7 +309,7 @@ fn are_of_row<T: Copy + Into<i32>>(
     true
 }
 
-/// Returns whether an image has the function's samples, and the expected valid rectangle.
+/// Returns whether an image has both the function's samples and the expected valid rectangle.
 fn are_of_image<T: Copy + Into<i32>>(
     case: &Case,
     function: Function,

@@ -36,16 +36,16 @@ second_of_pair table j = slice_index_or table (16 * j + 1) (pos 0)
 abbrev pub IsPairTable : ℕ → List ℤ → Type 0
 IsPairTable n table = (j : ℕ) → j < n → chunk (16 * j) 16 table ≡ alternation 8 (first_of_pair table j) (second_of_pair table j)
 
--- the sum of a row's samples times the coefficients of n pairs, from index p on. Pair j applies to
--- the samples at p + 2 j and p + 2 j + 1
+-- the dot product of a row's samples, from index p on, with the coefficients of n pairs. Pair j
+-- applies to the samples at p + 2 j and p + 2 j + 1
 abbrev pub row_sum : List ℤ → List ℤ → ℕ → ℕ → ℤ
 row_sum row table n p = sum_of_first n (λ j. pair_at row (first_of_pair table j) (second_of_pair table j) (p + 2 * j))
 
--- `after` is `before` with the values of g added at 16 indices, modulo 2 ^ 32
+-- `after` is `before` with g 0 to g 15 added to its 16 items, modulo 2 ^ 32
 abbrev pub AreAdded : (ℕ → ℤ) → List ℤ → List ℤ → Type 0
 AreAdded g before after = (f : ℕ → ℤ) → before ≡ run 0 16 (λ i. int_wrap w32 (f i)) → after ≡ run 0 16 (λ i. int_wrap w32 (f i +ℤ g i))
 
--- row l of items that hold rows of length `line`
+-- row l of `items`, which holds rows of `line` items
 abbrev pub line_of : List ℤ → ℕ → ℕ → List ℤ
 line_of items line l = chunk (l * line) line items
 

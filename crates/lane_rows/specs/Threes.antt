@@ -23,6 +23,6 @@ abbrev pub zip3 : {A B : Type 0} → (A → A → A → B) → List A → List A
 zip3 f (x ∷ xs) (y ∷ ys) (z ∷ zs) = f x y z ∷ zip3 f xs ys zs
 zip3 f xs ys zs = []
 
--- the choice from the three bytes at an index of three rows
+-- the number that `op` chooses from the three bytes at an index of three rows
 abbrev pub chosen_at : (ℤ → ℤ → ℤ) → Three → ℕ → ℤ
 chosen_at op rows i = op (op (number_at (map pos rows.left.now) i) (number_at (map pos rows.middle.now) i)) (number_at (map pos rows.right.now) i)

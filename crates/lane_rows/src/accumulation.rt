@@ -12,7 +12,7 @@ use crate::kernel::OfSum;
 use crate::rows::update_row;
 use std::simd::prelude::*;
 
-/// Adds each of 16 numbers to the sum in its lane. A sum above 32,767 becomes 32,767.
+/// Adds each of 16 numbers to the sum at its index. A sum above 32,767 becomes 32,767.
 ///
 /// Each number is first limited to 32,767 minus the old sum. That difference fits in an unsigned
 /// number of 16 bits.

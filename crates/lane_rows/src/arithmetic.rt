@@ -39,8 +39,8 @@ pub trait Arithmetic {
         ensures fits { Each1 (FitsSigned w16) result };
 }
 
-/// The kernel of an arithmetic function. It maps two U8 rows to a U8 row. It also maps two rows to
-/// an S16 row, where each input row is U8 or S16.
+/// The kernel of an arithmetic function. It maps two U8 rows to a U8 row. It also maps two rows,
+/// each U8 or S16, to an S16 row.
 #[derive(Drop)]
 pub struct OfSamples<'a, K>(pub &'a K);
 
@@ -57,7 +57,7 @@ impl<K: Arithmetic> OfPair<u8, u8, u8> for OfSamples<'_, K> {
     }
 }
 
-/// Writes the kernel's results for 16 items of each row.
+/// Writes the S16 results for 16 items of each row.
 fn write_sixteen<A: Short, B: Short, K: Arithmetic>(
     kernel: &K,
     first: &[A],

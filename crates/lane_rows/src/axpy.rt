@@ -29,8 +29,8 @@ impl OfSum<u8, i32> for Axpy {
     }
 }
 
-/// Adds the coefficient times each byte to the sum at its index. The caller must pass sums from
-/// -2,139,127,807 to 2,139,127,807, so that no new sum overflows.
+/// Adds `k` times each byte to the sum at its index. The caller must pass sums from -2,139,127,807
+/// to 2,139,127,807, so that no new sum overflows.
 pub fn axpy_i32(row: &[u8], k: i16, sums: &mut [i32])
     requires len { length row.now ≡ length sums.old }
     requires limit { Each1 FitsProduct sums.old }

@@ -77,7 +77,7 @@ pub fn widen(row: &[u8], out: &mut [i16])
     map_row(&ShiftedUp { amount: 0 }, row, out);
 }
 
-/// Writes the items times 2^amount.
+/// Writes the items multiplied by 2^amount.
 pub fn shift_up(row: &[u8], amount: u8, out: &mut [i16])
     requires len { length row.now ≡ length out.old }
     requires amount { amount ≤ 7 }

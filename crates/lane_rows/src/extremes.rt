@@ -10,7 +10,7 @@ use crate::item::Short;
 use crate::rows::zip_rows;
 use std::simd::prelude::*;
 
-/// The smaller of the items.
+/// The smaller of two items.
 #[derive(Drop)]
 pub struct Smaller;
 
@@ -35,7 +35,7 @@ impl Arithmetic for Smaller {
     }
 }
 
-/// The greater of the items.
+/// The greater of two items.
 #[derive(Drop)]
 pub struct Greater;
 

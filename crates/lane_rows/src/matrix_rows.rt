@@ -82,7 +82,8 @@ impl MatrixRows<'_> {
         sums
     }
 
-    /// Writes the results at the indices from `index` on. `out` must have at most 32 items.
+    /// Writes the results of `write` for the indices from `index` on. `out` must have at most 32
+    /// items.
     fn write_block<T: Clamped>(&self, index: usize, out: &mut [T])
         requires few { length out.old ≤ 32 }
         requires room { index + 41 ≤ self.now.line }
@@ -102,7 +103,7 @@ impl MatrixRows<'_> {
     }
 
     /// Writes the sums divided by 2^exponent, rounded toward zero and clamped. The rows must be at
-    /// least 48 items longer than `out`, since a block reads beyond the items that it writes.
+    /// least 48 items longer than `out`, since a block reads beyond the last index that it writes.
     pub fn write<T: Clamped>(&self, out: &mut [T])
         requires { length out.old + 48 ≤ self.now.line }
         ensures { map T.value out.new ≡ run 0 (length out.old) (λ i.

@@ -21,7 +21,7 @@ pub trait OfNine<T: Item> {
     fn item(&self, above: ThreeItems, here: ThreeItems, below: ThreeItems) -> T
         ensures { T.value result ≡ formula self.now (nine_of above here below) };
 
-    /// Writes the results of 32 windows, from `index` on.
+    /// Writes the results of the 32 windows from `index` on.
     fn lanes(&self, nine: &Nine<'_>, index: usize, out: &mut [T])
         requires room { index + 32 ≤ window_count nine.now }
         requires out_len { length out.old ≡ 32 }

@@ -13,8 +13,8 @@ pub struct Three<'a> {
 }
 
 /// Nine rows of equal length. The nine items at an index are the samples of one window, in
-/// row-major order. The nine rows may be slices of three rows: three slices of each row, one column
-/// apart.
+/// row-major order. The nine rows may be slices of three longer rows: three slices of each, one
+/// column apart.
 #[derive(Clone, Copy)]
 pub struct Nine<'a> {
     pub above: Three<'a>,

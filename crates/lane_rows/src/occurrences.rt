@@ -26,7 +26,7 @@ pub fn count_of<T: Compared>(row: &[T], item: T) -> u32
     count
 }
 
-/// Returns an index from which a search for the item may start. The item doesn't occur before that
+/// Returns an index from which a search for `item` may start. `item` doesn't occur before that
 /// index.
 fn without<T: Compared>(row: &[T], item: T) -> usize
     ensures room { result ≤ length row.now }

@@ -12,12 +12,12 @@ ghost use Rattle.lane_rows.specs.Pairs.{AreAdded, IsPairTable, alternation, pair
 
 use std::simd::prelude::*;
 
-/// Returns a sum for each of eight indices: every second index from `index` on. The sum is the
-/// sample at the index times one coefficient, plus the next sample times another, modulo 2^32.
+/// Returns a sum for each of eight indices: every second index from `index` on. Each sum is the
+/// sample at its index times one coefficient, plus the next sample times another, modulo 2^32.
 ///
-/// The two coefficients alternate in the 16 items of `table` from `at` on. They are read from the
-/// table here. If a caller loaded them into vectors before its loop, the compiler would widen those
-/// vectors, and then need a multiplication for each product.
+/// The two coefficients alternate in the 16 items of `table` from `at` on. This function reads them
+/// from the table. If a caller loaded them into vectors before its loop, the compiler would widen
+/// those vectors, and then need a multiplication for each product.
 fn eight_pairs(row: &[i16], index: usize, table: &[i16], at: usize) -> i32x8
     requires room { index + 16 ≤ length row.now }
     requires fit { Each1 (FitsSigned w16) row.now }

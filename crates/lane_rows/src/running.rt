@@ -7,10 +7,10 @@ use std::simd::prelude::*;
 
 /// Returns the running sums of 16 items.
 ///
-/// Each lane starts as the sum of a pair of neighbours. The first two steps work within each half
-/// of the lanes. The first step adds to each lane the lane before it, and the second step adds the
-/// lane two before it. The third step adds the last lane of the first half to each lane of the
-/// second half. Now each lane is the sum up to the end of a pair. The sum up to the middle of a
+/// Each of eight lanes starts as the sum of a pair of neighbours. The first two steps work within
+/// each half of the lanes. The first step adds to each lane the lane before it, and the second step
+/// adds the lane two before it. The third step adds the last lane of the first half to each lane of
+/// the second half. Now each lane is the sum up to the end of a pair. The sum up to the middle of a
 /// pair is the sum up to the pair's end minus the pair's second item.
 fn running(items: u8x16) -> u32x16
     ensures { result ≡ map (λ k. sum (take k items)) (range_with_len 1 16) }

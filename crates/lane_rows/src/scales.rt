@@ -62,11 +62,11 @@ pub trait Clamped: Item {
     /// The format of the samples.
     ghost format: { Format };
 
-    /// Returns the item nearest to a number.
+    /// Returns the sample nearest to a number.
     fn nearest(number: i32) -> Self
         ensures { Self.value result ≡ clamp format number };
 
-    /// Writes the item nearest to each of 16 numbers.
+    /// Writes the sample nearest to each of 16 numbers.
     fn store_nearest(numbers: i32x16, out: &mut [Self])
         requires len { length numbers ≡ 16 }
         requires fits { Each1 (FitsSigned w32) numbers }

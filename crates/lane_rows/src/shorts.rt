@@ -15,11 +15,11 @@ use crate::scales::scaled_lanes;
 use std::simd::prelude::*;
 use vx_base::Policy;
 
-/// Returns the product of each pair, with the second and third quarters of the lanes exchanged.
+/// Returns the products of the lanes of `a` and `b`, with the second and third quarters exchanged.
 ///
-/// The low and high halves of each product are computed separately. A processor multiplies numbers
-/// of 16 bits and joins the halves faster than it widens the numbers and multiplies them in 32
-/// bits. In registers of 32 bytes it joins halves within each 16 bytes, which gives the order with
+/// The low and high halves of each product are computed separately. Multiplying numbers of 16 bits
+/// and joining the halves is faster than widening the numbers and multiplying them in 32 bits. In
+/// registers of 32 bytes, a processor joins halves within each 16 bytes, which gives the order with
 /// exchanged quarters.
 pub fn products(a: i16x16, b: i16x16) -> i32x16
     requires a_len { length a ≡ 16 }

@@ -88,7 +88,7 @@ trait OfThree<T: SumItem> {
         requires limit { (a ≤ limit) × (b ≤ limit) × (c ≤ limit) }
         ensures { T.value result ≡ formula (pos a) (pos b) (pos c) };
 
-    /// Returns the results for three numbers in each of 32 lanes.
+    /// Returns, for each of 32 lanes, the result for its three numbers.
     fn of_three_lanes(a: u16x32, b: u16x32, c: u16x32) -> u16x32
         requires len { (length a ≡ 32) × (length b ≡ 32) × (length c ≡ 32) }
         requires limit { Each1 (λ n. n ≤ limit) a × Each1 (λ n. n ≤ limit) b
@@ -99,7 +99,7 @@ trait OfThree<T: SumItem> {
     ghost small: { nat_le limit 8191 ≡ true };
 }
 
-/// A kernel's results for three rows.
+/// A kernel's result for each index of three rows.
 #[derive(Drop)]
 struct ThreeAt<'a, A: Addend, T: SumItem, K: OfThree<T>> {
     kernel: PhantomData<(T, K)>,

@@ -96,7 +96,7 @@ impl Tested for i16 {
     }
 }
 
-/// The true value if an item is above the limit, and the false value if not.
+/// `true_value` if an item is above the limit, else `false_value`.
 #[derive(Drop)]
 pub struct Above<A> {
     pub limit: A,
@@ -129,7 +129,7 @@ impl<A: Tested> LanesOfItem<A, u8> for Above<A> {
     }
 }
 
-/// The true value if an item is from `lower` to `upper`, both included, and the false value if not.
+/// `true_value` if an item is from `lower` to `upper`, both included, else `false_value`.
 #[derive(Drop)]
 pub struct Between<A> {
     pub lower: A,

@@ -18,8 +18,9 @@ use Rattle.vx_base.specs.Rectangle.{whole_rectangle}
 abbrev pub column : ℕ → ℕ → ℕ → ℕ → ImageValue
 column a b c d = record { width = 1; height = 4; format = U8; valid = whole_rectangle 1 4; samples = pos a ∷ pos b ∷ pos c ∷ pos d ∷ [] }
 
--- a 3x5 matrix whose only non-zero coefficient is a 1 in the middle of its top row. Convolution
--- turns the matrix by 180 degrees, so each output sample is the input sample two rows below.
+-- a matrix of 3 columns and 5 rows whose only non-zero coefficient is a 1 in the middle of its top
+-- row. Convolution turns the matrix by 180 degrees, so each output sample is the input sample two
+-- rows below.
 abbrev pub upper_row : ConvolutionValue
 upper_row =
     record {

@@ -31,9 +31,8 @@ pub fn results_are_alike()
         AreAlike (node_image n output format a second) (node_image n output format b other) }
 {}
 
-/// An output row is decided by the rows of the first input within the vertical radius, whatever the
-/// border and the valid rectangles are. A second image, or the accumulator, is read in the same row
-/// only.
+/// For every border and valid rectangle, an output row is decided by the rows of the first input
+/// within the vertical radius. A second image, or the accumulator, is read in the same row only.
 pub fn rows_in_radius_decide()
     ensures { (n : Node) (output : Output) (format : Format) (a b : ImageValue)
         (second other : Option ObjectValue) (rows x y : ℕ) → IsImage a → IfSome second IsObject →

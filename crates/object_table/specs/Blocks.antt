@@ -25,7 +25,7 @@ object_blocks other format = 0
 abbrev pub blocks_in : List NamedObject → Format → ℕ
 blocks_in objects format = sum_by (λ o. object_blocks o.object format) objects
 
--- of each format, at least `blocks format` blocks are lent
+-- the number of lent blocks of each format is at least `blocks format`
 abbrev pub LendsAtLeast : Pool → (Format → ℕ) → Type 0
 LendsAtLeast pool blocks = (format : Format) → blocks format ≤ lent_of pool format
 

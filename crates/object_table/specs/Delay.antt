@@ -35,8 +35,8 @@ with_slot None new object = new
 with_slot (Some k) (ImageObject image) (DelayObject images) = DelayObject (slice_set images k image)
 with_slot slot new object = object
 
--- for a slot of a delay: Image, whether the slot exists or not; for a slot of another object: None;
--- without a slot: the kind of the object itself
+-- the kind of the object in a slot: Image for a slot of a delay, whether the slot exists or not;
+-- None for a slot of another object; without a slot, the kind of the object itself
 abbrev pub slot_kind : Option ℕ → ObjectValue → Option Kind
 slot_kind None object = Some (object_kind object)
 slot_kind (Some k) (DelayObject images) = Some kind.Image

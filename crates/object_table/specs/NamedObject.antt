@@ -15,12 +15,12 @@ pub record NamedObject : Type 0 where
 abbrev pub object_held : List NamedObject → ℕ → Option ObjectValue
 object_held objects name = option_map (λ o. o.object) (find (λ o. o.name == name) objects)
 
--- the object that a reference names: an object, or an image in a slot of a delay
+-- the object that a reference names: a whole object, or an image in a slot of a delay
 abbrev pub object_at : List NamedObject → Reference → Option ObjectValue
 object_at objects cell = option_and_then (in_slot cell.slot) (object_held objects cell.name)
 
--- the objects after a write, which replaces what the reference names: an object, or an image in a
--- slot of a delay
+-- the objects after a write, which replaces what the reference names: a whole object, or an image
+-- in a slot of a delay
 abbrev pub with_object : List NamedObject → Reference → ObjectValue → List NamedObject
 with_object [] cell object = []
 with_object (o ∷ objects) cell object =

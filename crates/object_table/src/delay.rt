@@ -89,7 +89,8 @@ impl Delay {
         self.images.len() * self.desc.byte_count()
     }
 
-    /// Moves each image to the next slot, and the last image to slot 0. Allocates nothing.
+    /// Moves each image to the next slot, and the image in the last slot to slot 0. Allocates
+    /// nothing.
     pub fn age(&mut self)
         ensures value { self.new ≡ aged_images self.old }
         ensures bytes { sum_by image_bytes self.new ≡ sum_by image_bytes self.old }
@@ -111,7 +112,8 @@ impl Delay {
         image.write(picture);
     }
 
-    /// Sets the valid rectangle of the image in a slot, and each sample outside the rectangle to 0.
+    /// Sets the valid rectangle of the image in a slot, and sets each sample outside the rectangle
+    /// to 0.
     pub fn set_valid(&mut self, k: u8, valid: Rect)
         requires within { k < length self.old }
         requires image { IsImage (image_in self.old k) }

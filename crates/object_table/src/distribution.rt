@@ -51,7 +51,7 @@ impl Distribution {
         &self.counts
     }
 
-    /// Replaces the counts. There must be one count for each bin. Allocates nothing.
+    /// Replaces the counts. `counts` must have one count for each bin. Allocates nothing.
     pub fn set_counts(&mut self, counts: &[u32])
         requires { length counts.now ≡ self.old.bins.bins }
         ensures { self.new ≡ record { bins = self.old.bins; counts = counts.now } }

@@ -120,7 +120,7 @@ impl Object {
         }
     }
 
-    /// Returns whether the object is a delay that has the slot; always true without a slot.
+    /// Returns whether the object is a delay that has the slot. Without a slot, returns true.
     pub fn has_slot(&self, slot: Option<u8>) -> bool
         ensures { result ≡ is_some (in_slot slot self.now) }
     {
@@ -143,8 +143,8 @@ impl Object {
         }
     }
 
-    /// Returns the number of bytes that a client is charged for the object: the bytes of its
-    /// images' samples.
+    /// Returns the number of bytes that a client is charged for the object: the bytes of the
+    /// samples of the object's images.
     pub fn bytes(&self) -> usize
         ensures value { result ≡ object_bytes self.now }
         ensures limit { result ≤ GREATEST_SLOTS * GREATEST_BYTES }
@@ -188,8 +188,8 @@ impl Object {
         }
     }
 
-    /// Sets the valid rectangle of the image that `image(slot)` returns, and each sample outside
-    /// the rectangle to 0.
+    /// Sets the valid rectangle of the image that `image(slot)` returns, and sets each sample
+    /// outside the rectangle to 0.
     pub fn set_valid(&mut self, slot: Option<u8>, valid: Rect)
         requires there { HasImage slot self.old }
         requires object { IsObject self.old }
@@ -252,7 +252,7 @@ impl Object {
         }
     }
 
-    /// Replaces the counts of a distribution. There must be one count for each bin. Allocates
+    /// Replaces the counts of a distribution. `counts` must have one count for each bin. Allocates
     /// nothing.
     pub fn set_counts(&mut self, counts: &[u32])
         requires kind { object_kind self.old ≡ kind.Distribution }
@@ -327,7 +327,8 @@ impl Object {
         }
     }
 
-    /// Replaces the list of delays that age with a graph. No name may occur twice in `delays`.
+    /// Replaces a graph's list of delays registered for auto-aging. No name may occur twice in
+    /// `delays`.
     pub fn set_delays(&mut self, delays: Vec<u32>)
         requires kind { object_kind self.old ≡ kind.Graph }
         requires distinct { AllPairs (λ a b. a ≢ b) delays.items }

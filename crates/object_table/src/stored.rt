@@ -13,7 +13,7 @@ use std::alloc::{AllocError, Global};
 use std::marker::Model;
 use vx_base::{Desc, Picture, Rect, Samples};
 
-/// An image whose samples are a block of a pool. The samples may be taken out while nodes run.
+/// An image whose samples are in a block of a pool. The samples may be taken out while nodes run.
 #[derive(Drop)]
 pub struct Stored {
     desc: Desc,
@@ -116,7 +116,7 @@ impl Stored {
         self.block.put(samples);
     }
 
-    /// Sets the valid rectangle, and each sample outside the rectangle to 0.
+    /// Sets the valid rectangle. Each sample outside the rectangle becomes 0.
     pub fn set_valid(&mut self, valid: Rect)
         requires image { IsImage self.old }
         requires inside { IsWithin valid self.old.width self.old.height }
@@ -151,7 +151,7 @@ impl Stored {
     }
 }
 
-/// Clears the samples of a band that lie outside a rectangle.
+/// Sets a band's samples outside the valid rectangle to 0.
 fn clear_outside(samples: &mut Samples, valid: Rect, width: u16, rows: Band)
     requires rows { rows.start + rows.count < 2 ^ 16 }
     requires size { length (values samples.old) ≡ rows.count * width }

@@ -214,8 +214,8 @@ impl Table {
         entry.object.write(cell.slot(), picture);
     }
 
-    /// Sets the valid rectangle of the image that a reference names, and each sample outside the
-    /// rectangle to 0.
+    /// Sets the valid rectangle of the image that a reference names. Each sample outside the
+    /// rectangle becomes 0.
     pub fn set_valid(&mut self, cell: ObjRef, valid: Rect)
         requires there { HoldsImage self.old.objects cell }
         requires object { IsObject (object_under self.old.objects cell.name) }
@@ -313,7 +313,8 @@ impl Table {
         entry.object.age();
     }
 
-    /// Replaces the counts of the distribution under a name. There must be one count for each bin.
+    /// Replaces the counts of the distribution under a name. `counts` must have one count for each
+    /// bin.
     pub fn set_counts(&mut self, name: u32, counts: &[u32])
         requires kind { IsUnder self.old.objects kind.Distribution name }
         requires size { length counts.now

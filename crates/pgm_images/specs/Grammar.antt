@@ -29,7 +29,8 @@ pub record IsBlanks (text : List ℕ) : Type 0 where
   pub each : All IsBlank parts
   pub spelled : text ≡ flat_map (λ part. part) parts
 
--- a gap of at least one whitespace byte or comment, and then a number of at least one decimal digit
+-- a gap of at least one whitespace byte or comment, and then the number `n` in one or more decimal
+-- digits
 pub record IsSpaced (text : List ℕ) (n : ℕ) : Type 0 where
   pub gap : List ℕ
   pub digits : List ℕ

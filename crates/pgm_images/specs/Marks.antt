@@ -5,12 +5,12 @@ use Rattle.std.specs.Option.{option_and_then}
 use Rattle.std.specs.Char.{is_ascii_digit}
 use Rattle.std.specs.Int.{bit_at}
 
--- the value of the token at the front of a text, and the text after the token; None if the text
--- doesn't begin with the token
+-- the value of a token at the front of a text, and the text after the token; None if the text
+-- doesn't begin with such a token
 abbrev pub BeginsWith : Type 0 → Type 0
 BeginsWith A = Option (A × List ℕ)
 
--- what `next` gives for a token's value and the text after the token, or None if there is no token
+-- `next` applied to a token's value and the text after the token; None if there is no token
 abbrev pub then_take : {A B : Type 0} → BeginsWith A → (A → List ℕ → Option B) → Option B
 then_take None next = None
 then_take (Some taken) next = next taken.0 taken.1
@@ -97,7 +97,8 @@ pub record FindsNumber (maxval number bytes : ℕ) (text : List ℕ) : Type 0 wh
 abbrev pub FindNumbers : (maxval count : ℕ) (numbers bytes text : List ℕ) → Type 0
 FindNumbers maxval count numbers bytes text = (place : ℕ) → place < count → FindsNumber maxval (slice_index numbers place) (slice_index bytes place) (drop place text)
 
--- for each of 64 positions k, bit k of `begins` is 1 exactly if a number begins at position k
+-- for each of 64 positions k, bit k of `begins` is 1 exactly if `bytes` isn't 0 at position k: a
+-- whitespace byte and a number begin there
 abbrev pub AreBegins : (begins : ℕ) (bytes : List ℕ) → Type 0
 AreBegins begins bytes = (place : ℕ) → place < 64 → bit_at begins place ≡ (if nat_lt 0 (slice_index bytes place) then 1 else 0)
 

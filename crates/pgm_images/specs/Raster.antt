@@ -32,7 +32,7 @@ take_count take is_end zero text = if is_end text then Some [] else None
 take_count take is_end (suc count) text = then_take (take text) (λ number rest. option_map (λ numbers. number ∷ numbers) (take_count take is_end count rest))
 
 -- The `count` numbers in the text after a header, or None if the text has fewer numbers or doesn't
--- end after number `count`. In a plain text each number comes after a gap, and whitespace and
+-- end after `count` numbers. In a plain text each number comes after a gap, and whitespace and
 -- comments may follow the last number.
 abbrev pub numbers_in : Encoding → (maxval count : ℕ) → List ℕ → Option (List ℕ)
 numbers_in Plain maxval count text = take_count take_next ends count text
@@ -53,7 +53,7 @@ pub record Reads {A : Type 0} (wanted : Result (List ℤ) PgmFault) (samples : L
   pub ok : OnOk result (wanted ≡ Ok samples)
   pub err : IfErr result (λ fault. wanted ≡ Err fault)
 
--- `high` says whether one of these numbers is above the maxval. If none is, `written` are the
+-- `high` says whether one of the `numbers` is above the maxval. If none is, `written` are these
 -- numbers as samples.
 pub record HoldsNumbers (maxval : ℕ) (high : Bool) (written : List ℤ) (numbers : List ℕ) : Type 0 where
   pub above : high ≡ not (all_up_to maxval numbers)
@@ -65,8 +65,8 @@ prepend done o = option_map (λ others. done ++ others) o
 
 -- The first numbers of a text have been read. `above` says whether one of these numbers is above
 -- the maxval. If none is, the samples hold these numbers. The remaining `left` numbers are to be
--- read from `rest`. `whole` is all numbers, or None if `rest` doesn't have exactly the remaining
--- numbers.
+-- read from `rest`. `whole` is all numbers of the text, or None if `rest` doesn't have exactly
+-- `left` numbers.
 abbrev pub LeftToFill : (take : List ℕ → BeginsWith ℕ) (is_end : List ℕ → Bool) (maxval : ℕ) (above : Bool) (samples : List ℤ) (left : ℕ) (rest : List ℕ) (whole : Option (List ℕ)) → Type 0
 LeftToFill take is_end maxval above samples left rest whole = (numbers : List ℕ) × HoldsNumbers maxval above samples numbers × (whole ≡ prepend numbers (take_count take is_end left rest))
 

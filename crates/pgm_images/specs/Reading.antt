@@ -49,7 +49,7 @@ description_after (Some taken) = header_description taken.0.width taken.0.height
 abbrev pub description_in : List ℕ → Result Description PgmFault
 description_in text = description_after (take_header text)
 
--- The text's header is accepted, and the samples have the format and number that the header states.
+-- The text's header is accepted, and the samples have the format and count that the header states.
 pub record SamplesFitHeader (text : List ℕ) (samples : Samples) : Type 0 where
   pub description : Description
   pub parses : description_in text ≡ Ok description
@@ -67,7 +67,6 @@ is_headed text = allowed (take_header text)
     allowed None = false
     allowed (Some taken) = without_fault (header_description taken.0.width taken.0.height taken.0.maxval)
 
--- why reading failed: the first fault of the text, or no memory for the samples after an accepted
--- header
+-- why reading failed: the first fault of the text; or NoMemory, if the text's header is accepted
 pub record FailsFor (text : List ℕ) (e : PgmFault) : Type 0 where
   pub is : (fault text ≡ Some e) ⊎ ((e ≡ NoMemory) × (is_headed text ≡ true))

@@ -17,8 +17,8 @@ use std::simd::prelude::*;
 /// The number of positions of a block.
 const PLACES: usize = 64;
 
-/// For each position of a block, the number that begins there and the length of its text in bytes.
-/// The text is a whitespace byte and one to three digits; the length is 0 where no number begins.
+/// For each position of a block, the number that begins there and its length in bytes. The length
+/// counts a whitespace byte and one to three digits; it is 0 where no number begins.
 #[derive(Drop)]
 pub struct ShortNumbers {
     numbers: [u8; PLACES],
@@ -60,7 +60,7 @@ impl ShortNumbers {
         !others
     }
 
-    /// Returns a mask with a bit for each position where a number begins.
+    /// Returns a mask of 64 bits: bit k is 1 exactly if a number begins at position k.
     #[tactic(auto, using(crate::proofs::BlockLemmas::any_bit))]
     fn begins(&self) -> u64
         ensures { AreBegins result self.now.bytes }

@@ -42,11 +42,11 @@ pub fn headers_by_grammar()
 
 /// The fault of a text is the first that applies:
 ///
-/// 1. `InvalidFormat`: no header.
-/// 2. `InvalidDimension`: a width or height out of range.
-/// 3. `InvalidFormat`: a maxval out of range.
+/// 1. `InvalidFormat`: the text has no header.
+/// 2. `InvalidDimension`: a side isn't 1 to 8192.
+/// 3. `InvalidFormat`: the maxval isn't 1 to 32767.
 /// 4. `InvalidFormat`: the header isn't followed by exactly the number of samples that it states.
-/// 5. `InvalidValue`: a sample above the maxval.
+/// 5. `InvalidValue`: a sample is above the maxval.
 pub fn first_faults()
     ensures header { (text : List ℕ) →
         ((header : HeaderValue) (rest : List ℕ) → IsHeader text header rest → ⊥) →

@@ -21,7 +21,8 @@ pub fn is_space(byte: u8) -> bool
     byte == b' ' || byte == b'\t' || ends_line(byte)
 }
 
-/// Returns the text after all whitespace and comments at its front. `None`: a comment doesn't end.
+/// Returns what follows all whitespace and comments at the front of the text. `None`: a comment
+/// doesn't end.
 fn past_blanks(text: &[u8]) -> Option<&[u8]>
     ensures some { IfSome result (λ rest. past_blanks false text.now ≡ Some rest.now) }
     ensures none { IfNone result (past_blanks false text.now ≡ None) }

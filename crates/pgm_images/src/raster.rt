@@ -99,7 +99,7 @@ fn greatest_byte(bytes: &[u8]) -> u8
     greatest
 }
 
-/// Reads one byte for each sample; nothing may follow the last byte.
+/// Reads one byte for each sample; no byte may be left over.
 fn read_bytes(maxval: u16, bytes: &[u8], samples: &mut [u8]) -> Result<(), PgmFault>
     ensures { Reads (samples_up_to maxval
         (take_count take_short_sample nothing_left (length samples.old) bytes.now))
@@ -130,7 +130,7 @@ fn take_pair(bytes: &[u8]) -> Option<(u16, &[u8])>
     Some((u16::from_be_bytes([*high, *low]), rest))
 }
 
-/// Reads two bytes for each sample; nothing may follow the last byte.
+/// Reads two bytes for each sample; no byte may be left over.
 fn read_pairs<T: TextSample>(maxval: u16, bytes: &[u8], samples: &mut [T]) -> Result<(), PgmFault>
     requires limit { maxval ≤ T.limit }
     requires maxval { maxval ≤ 32767 }
@@ -158,11 +158,11 @@ fn read_pairs<T: TextSample>(maxval: u16, bytes: &[u8], samples: &mut [T]) -> Re
 }
 
 /// Reads one number for each sample from the text after a header, and writes it over the sample.
-/// The maxval must be 1 to 32767. The samples must be U8 if the maxval is below 256, else S16.
-/// After a fault the samples may have any value. `InvalidFormat`: the text has too few numbers for
-/// the samples, or doesn't end after the last number read. `InvalidValue`: a number is above the
-/// maxval, and there is no other fault. In a plain text, whitespace and comments may follow the
-/// last number.
+/// In a plain text, whitespace and comments may follow the last number read. The maxval must be 1
+/// to 32767. The samples must be U8 if the maxval is below 256, else S16. After a fault the samples
+/// may have any value. `InvalidFormat`: the text has too few numbers for the samples, or doesn't
+/// end after the last number read. `InvalidValue`: a number is above the maxval, and there is no
+/// other fault.
 pub fn read_samples(header: Header, text: &[u8], samples: &mut Samples) -> Result<(), PgmFault>
     requires maxval { IsTrue (is_maxval header.maxval) }
     requires format { samples_format samples.old ≡ format_up_to header.maxval }

@@ -32,7 +32,7 @@ pub fn read_description(text: &[u8]) -> Result<Desc, PgmFault>
 }
 
 /// Writes the samples of a text over existing samples. The caller must give a text with a valid
-/// header, and samples of the format and number that the header states. Allocates nothing.
+/// header, and samples of the format and count that the header states. Allocates nothing.
 ///
 /// After a fault the samples may have any value. `InvalidFormat`: the header isn't followed by
 /// exactly the number of samples that it states. `InvalidValue`: a sample is above the maxval, and

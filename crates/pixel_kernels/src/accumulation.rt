@@ -62,8 +62,8 @@ fn add_to_sums<K: OfSum<u8, i16>>(kernel: &K, image: &Image<'_>, sums: &mut Imag
 }
 
 /// Adds the samples of a U8 image to the samples of an S16 image where both are valid (OpenVX 1.3,
-/// "Accumulate"). Sums above 32,767 become 32,767. In the contract `old` is any image that has the
-/// earlier sums in the rows of the output's band.
+/// "Accumulate"). Elsewhere the sums become 0. Sums above 32,767 become 32,767. In the contract
+/// `old` is any image that has the earlier sums in the rows of the output's band.
 pub fn accumulate(image: &Image<'_>, sums: &mut ImageMut<'_>)
     requires fits { Fits Accumulate image.now None sums.old }
     requires room { IsWithin (target_image sums.old).valid (target_image sums.old).width
@@ -75,9 +75,9 @@ pub fn accumulate(image: &Image<'_>, sums: &mut ImageMut<'_>)
 }
 
 /// Adds the squares of a U8 image's samples, divided by 2^amount and rounded down, to the samples
-/// of an S16 image where both are valid (OpenVX 1.3, "Accumulate Squared"). Sums above 32,767
-/// become 32,767. In the contract `old` is any image that has the earlier sums in the rows of the
-/// output's band.
+/// of an S16 image where both are valid (OpenVX 1.3, "Accumulate Squared"). Elsewhere the sums
+/// become 0. Sums above 32,767 become 32,767. In the contract `old` is any image that has the
+/// earlier sums in the rows of the output's band.
 pub fn accumulate_square(image: &Image<'_>, sums: &mut ImageMut<'_>, amount: u8)
     requires fits { Fits AccumulateSquare image.now None sums.old }
     requires room { IsWithin (target_image sums.old).valid (target_image sums.old).width

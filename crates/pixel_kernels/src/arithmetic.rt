@@ -41,7 +41,8 @@ fn write_arithmetic<K: Arithmetic>(
     }
 }
 
-/// Writes the results of a lane kernel for two U8 or S16 images to an S16 image of the same size.
+/// Writes the results of a lane kernel for two images, each U8 or S16, to an S16 image of the same
+/// size.
 fn write_from_shorts<K: Arithmetic>(
     kernel: &OfSamples<'_, K>,
     first: &Image<'_>,

@@ -23,7 +23,7 @@ pub record IsClassOf (capacity class : ℕ) : Type 0 where
   pub within : class_capacity class ≤ capacity
   pub greatest : (other : ℕ) → other < class_count → class_capacity other ≤ capacity → other ≤ class
 
--- the capacity is at least that of a class that fits `count` samples, if there is such a class
+-- if any class fits `count` samples, the capacity is at least that of one such class
 abbrev pub FitsIn : ℕ → ℕ → Type 0
 FitsIn count capacity =
     count ≤ class_capacity 192 → (class : ℕ) × (class < class_count) × (count ≤ class_capacity class) × (class_capacity class ≤ capacity)

@@ -14,11 +14,11 @@ HasFree free class = 0 < slice_index free class
 abbrev pub HasCapacity : List ℕ → ℕ → Type 0
 HasCapacity free count = (class : ℕ) × HasFree free class × (count ≤ class_capacity class)
 
--- the numbers of free blocks, with one fewer of this class
+-- the free blocks after one of this class is removed
 abbrev pub without_one : List ℕ → ℕ → List ℕ
 without_one free class = slice_set free class (slice_index free class - 1)
 
--- the numbers of free blocks, with one more of this class
+-- the free blocks after one of this class is added
 abbrev pub with_one : List ℕ → ℕ → List ℕ
 with_one free class = slice_set free class (slice_index free class + 1)
 

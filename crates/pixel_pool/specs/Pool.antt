@@ -39,7 +39,7 @@ one_of format other = if same_format format other then 1 else 0
 abbrev pub HasLent : Pool → Format → Type 0
 HasLent p format = 1 ≤ lent_of p format
 
--- one more block of this format is lent
+-- one more block of this format is lent than before; other formats' counts are unchanged
 abbrev pub Lends : Pool → Pool → Format → Type 0
 Lends old new format = (f : Format) → lent_of new f ≡ lent_of old f + one_of format f
 
@@ -56,7 +56,7 @@ pub record LendsBlock (format : Format) (count : ℕ) (old new : Pool) : Type 0 
   pub none : HasCapacity (free_of old format) count → blocks_of new format ≡ blocks_of old format
   pub other_free : KeepsOtherFree old new format
 
--- one fewer block of this format is lent
+-- one fewer block of this format is lent than before; other formats' counts are unchanged
 abbrev pub GetsBack : Pool → Pool → Format → Type 0
 GetsBack old new format = (f : Format) → lent_of new f + one_of format f ≡ lent_of old f
 

@@ -6,7 +6,7 @@ use Rattle.pixel_pool.specs.Free.{free_count}
 use Rattle.pixel_pool.specs.declared.shelf.Free.{Free}
 use Rattle.pixel_pool.specs.declared.stacks.Stack.{Stack}
 
--- the number of lent blocks, and of free blocks of each class
+-- the number of lent blocks, and the number of free blocks of each class
 pub record ShelfValue : Type 0 where
   pub lent : ℕ
   pub free : List ℕ

@@ -35,7 +35,7 @@ impl Block {
         self.samples
     }
 
-    /// Returns the format of the block's samples, also after `lift`.
+    /// Returns the format of the block's samples, even while `lift` has taken them out.
     pub fn format(&self) -> Format
         ensures { result ≡ samples_format self.now }
     {

@@ -10,7 +10,7 @@ use std::alloc::AllocError;
 use vx_base::Format;
 
 /// Takes a block, gives it back, and takes one again. The second `take` can't fail and adds no
-/// block, so there is at most one block more than before.
+/// block, so the two calls add at most one block.
 pub fn taken_again(pool: &mut Pool, format: Format, count: usize) -> Result<Block, AllocError>
     requires { count ≤ 67108864 }
     ensures format { IfOk result (λ taken. samples_format taken ≡ format) }

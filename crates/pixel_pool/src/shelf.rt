@@ -188,8 +188,8 @@ impl<T: Copy + Drop> Shelf<T> {
         self.capacity = 0;
     }
 
-    /// Drops free blocks, the largest first, until their number and their total capacity are within
-    /// the limits.
+    /// Drops free blocks, the largest first, until the number and the total capacity of the rest
+    /// are within the limits.
     pub fn trim(&mut self)
         ensures lent { self.new.lent ≡ self.old.lent }
         ensures trim { IsTrim self.new.free }
@@ -210,8 +210,8 @@ impl<T: Copy + Drop> Shelf<T> {
         self.free.len() <= KEPT_BLOCKS && self.capacity <= KEPT_CAPACITY
     }
 
-    /// Drops a free block of the greatest class that has any. The limits must be exceeded, so at
-    /// least one block is free.
+    /// Drops a free block of the greatest class that has any. A limit must be exceeded, so at least
+    /// one block is free.
     #[tactic(auto, using(crate::proofs::FreeLemmas::none_is_trim))]
     fn drop_largest(&mut self)
         requires { IsTrim self.old.free → ⊥ }

@@ -53,7 +53,7 @@ pub fn create(alloc: Global, runtime: &mut Runtime, request: &Request) -> Result
     }
 }
 
-/// Makes a request of client 1, which must succeed with an empty reply.
+/// Applies a request of client 1, which must succeed with an empty reply.
 pub fn succeed(alloc: Global, runtime: &mut Runtime, request: &Request) -> Result<(), Fail> {
     match reply(alloc, runtime, request)? {
         Reply::Empty => Ok(()),
@@ -88,8 +88,8 @@ fn what_is_released_leaves_room(rt: HostRuntime) -> Result<(), Fail> {
     Ok(())
 }
 
-/// Returns a runtime in which client 1 has images 1 and 2 of one sample, graph 3, and virtual image
-/// 4 of that graph.
+/// Returns a runtime in which client 1 has images 1 and 2 of one sample each, graph 3, and virtual
+/// image 4 of that graph.
 pub fn with_a_graph(alloc: Global, limits: Limits) -> Result<Runtime, Fail> {
     let desc = Desc::new(1, 1, Format::U8).ok_or("within the limits")?;
     let open = PartialDesc::new(None, None, None).ok_or("nothing is declared")?;

@@ -119,8 +119,8 @@ fn holds(alloc: Global, runtime: &mut Runtime, writing: &[u8]) -> Result<bool, F
     Ok(replies.len() > 8 && replies[7] == 0 && &replies[8..] == read(writing))
 }
 
-/// Writes a picture in pieces of `source_piece` bytes and reads it in pieces of `sink_piece` bytes.
-/// Returns whether the picture comes back unchanged.
+/// Writes a picture and reads it back. The requests arrive in pieces of `source_piece` bytes, and
+/// the replies leave in pieces of `sink_piece` bytes. Returns whether the picture is unchanged.
 fn comes_back(
     alloc: Global,
     desc: Desc,
@@ -197,7 +197,7 @@ fn stays_after_parts(
     Ok(true)
 }
 
-/// An image doesn't change if the stream ends within the frame that writes it, or a read fails.
+/// An image doesn't change if, within the frame that writes it, the stream ends or a read fails.
 #[test]
 fn pictures_cut_short(rt: HostRuntime) -> Result<(), Fail> {
     let alloc = rt.alloc();

@@ -61,8 +61,8 @@ fn is_cleared(alloc: Global, runtime: &mut Runtime, cell: ObjRef) -> Result<bool
     }
 }
 
-/// Returns whether the image that a reference names was 0 everywhere, and fills the image with
-/// other samples.
+/// Writes samples that aren't 0 to the whole image that a reference names. Returns whether the
+/// image was 0 everywhere before, and isn't afterwards.
 fn was_cleared(
     alloc: Global,
     runtime: &mut Runtime,
@@ -110,8 +110,9 @@ fn a_new_image_is_cleared_and_uses_the_block_of_a_released_one(
     Ok(())
 }
 
-/// Creates a delay of three images like image 1, which has this description. Then ages and releases
-/// the delay. Returns whether all slots were 0, and three blocks were lent to the delay.
+/// Creates a delay of three images like image 1, which has this description. Then fills, ages and
+/// releases the delay. Returns whether all slots were 0 at first, and three blocks were lent to the
+/// delay.
 fn slots_are_cleared(
     alloc: Global,
     runtime: &mut Runtime,

@@ -182,7 +182,7 @@ fn picture_and_back(alloc: Global, samples: Samples, end: &[u8]) -> Option<Sampl
     }
 }
 
-/// Writes a table, and returns the entries that are parsed from its bytes.
+/// Writes a lookup table, and returns the entries that are parsed from its bytes.
 fn table_and_back(alloc: Global, entries: Samples) -> Option<Samples> {
     let request = Request::CreateLut(Lut::new(entries)?);
     match there_and_back(alloc, &request, b"") {

@@ -28,8 +28,8 @@ pub const REPLIES: &[u8] = b"\x00\x00\x00\x04\x00\x01\x01\x00\
 \x00\x00\x00\x0a\x00\x01\x07\x00\x01\x00\x01\x00\x01\x0a\
 \x00\x00\x00\x0a\x00\x02\x07\x00\x01\x00\x01\x00\x01\x14";
 
-/// Client 7 opens a context and creates two images of one U8 sample. The client then writes 10 to
-/// the first image, runs Not from the first image to the second, and reads the second.
+/// Client 7 opens a context and creates two images of one U8 sample each. The client then writes 10
+/// to the first image, runs Not from the first image to the second, and reads the second.
 const STORED: &[u8] = b"\x00\x00\x00\x03\x00\x07\x01\
 \x00\x00\x00\x08\x00\x07\x03\x01\x00\x01\x00\x01\
 \x00\x00\x00\x08\x00\x07\x03\x01\x00\x01\x00\x01\

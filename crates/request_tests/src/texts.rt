@@ -12,7 +12,8 @@ use vx_requests::StreamFault;
 /// most 64 bytes; the other bodies are longer.
 const SIDES: [(u16, u16); 3] = [(3, 2), (13, 11), (100, 7)];
 
-/// Returns a raw text of pseudorandom U8 samples, with this maxval.
+/// Returns a raw text with this maxval. The U8 samples are pseudorandom; some may be above the
+/// maxval.
 fn text(alloc: Global, width: u16, height: u16, maxval: u16, seed: u32) -> Result<Vec<u8>, Fail> {
     let mut text = format!(in alloc; "P5\n{width} {height}\n{maxval}\n")?.into_bytes();
     let count = usize::from(width) * usize::from(height);
@@ -55,8 +56,8 @@ fn split_reply(replies: &[u8]) -> (&[u8], &[u8]) {
     replies.split_at(replies.len().min(8))
 }
 
-/// Writes a text in pieces of one size and reads it in pieces of another size. Returns whether the
-/// text comes back unchanged.
+/// Writes a text and reads it back. The requests arrive in pieces of `source_piece` bytes, and the
+/// replies leave in pieces of `sink_piece` bytes. Returns whether the text is unchanged.
 fn comes_back(
     alloc: Global,
     desc: Desc,
@@ -93,9 +94,9 @@ fn texts_in_pieces(rt: HostRuntime) -> Result<(), Fail> {
     Ok(())
 }
 
-/// Serves 23 parts of the frame that writes the next text. Each part begins at the frame's start.
-/// Returns whether serving fails with `Truncated` each time, and the image still has the first
-/// text.
+/// Serves 23 parts of `stream`, a frame that writes another text than `first`. Each part begins at
+/// the frame's start. Returns whether each time serving fails with `Truncated` and the image still
+/// has the text `first`.
 fn stays_after_parts(
     alloc: Global,
     runtime: &mut Runtime,
@@ -135,7 +136,7 @@ fn texts_cut_short(rt: HostRuntime) -> Result<(), Fail> {
     Ok(())
 }
 
-/// Returns whether a text is refused with this code, and the image still has the first text.
+/// Returns whether `text` is refused with this code and the image still has the text `first`.
 fn is_refused(
     alloc: Global,
     runtime: &mut Runtime,
@@ -148,7 +149,8 @@ fn is_refused(
     Ok(is_refused && holds(alloc, runtime, first)?)
 }
 
-/// A fault of the text is reported before a mismatch with the image, and the image doesn't change.
+/// If a text has a fault and also doesn't match the image, the fault is reported. A refused text
+/// doesn't change the image.
 #[test]
 fn texts_refused(rt: HostRuntime) -> Result<(), Fail> {
     let alloc = rt.alloc();
@@ -178,7 +180,8 @@ fn texts_refused(rt: HostRuntime) -> Result<(), Fail> {
     Ok(())
 }
 
-/// A U8 image refuses raw texts with two bytes for each sample, and a raw text of another size.
+/// A U8 image refuses raw texts with two bytes for each sample, and a raw text that has another
+/// width and height than the image.
 #[test]
 fn texts_of_two_bytes_refused(rt: HostRuntime) -> Result<(), Fail> {
     let alloc = rt.alloc();

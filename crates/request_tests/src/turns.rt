@@ -9,8 +9,8 @@ use client_model::Limits;
 use std::cell::Cell;
 use vx_requests::{Failed, Sink, Source, Summary, serve};
 
-/// A source of frames. It fails if a byte after a frame is read too early: before the reply was
-/// flushed, or while the sink holds bytes written after the flush.
+/// A source of frames. It fails if a byte of the next frame is read too early: before the reply to
+/// the current frame was flushed, or while the sink holds bytes written after the flush.
 #[derive(Drop)]
 struct InTurns<'a> {
     stream: &'a [u8],

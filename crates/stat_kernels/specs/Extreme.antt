@@ -31,7 +31,7 @@ merge beyond a b =
 abbrev pub merge_found : Found → Found → Found
 merge_found a b = record { least = merge int_lt a.least b.least; greatest = merge (λ z v. int_lt v z) a.greatest b.greatest }
 
--- the least and the greatest of an `Extremes` record, as two parts
+-- the numbers of an `Extremes` record, as a `Found` record
 abbrev pub found_of : Extremes → Found
 found_of e =
     record {
@@ -39,7 +39,7 @@ found_of e =
       greatest = record { value = e.max; count = e.max_count; at = e.max_at };
     }
 
--- the `Extremes` record whose least and greatest are the two parts of f
+-- the numbers of a `Found` record, as an `Extremes` record
 abbrev pub extremes_of : Found → Extremes
 extremes_of f =
     record {

@@ -123,7 +123,7 @@ impl Found {
         }
     }
 
-    /// Returns the least and the greatest of `extremes` as two parts.
+    /// Returns the numbers of `extremes` as a `Found`.
     pub fn of(extremes: Extremes) -> Found
         ensures { result ≡ found_of extremes }
     {

@@ -65,7 +65,7 @@ pub fn add_min_max(image: &Image<'_>, rows: Band, down: u16, above: Extremes) ->
     extremes_of(Found::of(above).merge(found))
 }
 
-/// Returns the least and the greatest as `Extremes`.
+/// Returns the numbers of `found` as `Extremes`.
 fn extremes_of(found: Found) -> Extremes
     ensures { result ≡ extremes_of found }
 {

@@ -22,7 +22,7 @@ const LONGEST_ROW: usize = GREATEST_SIDE as usize;
 /// The row of sums above row 0 of an integral image: all zeros.
 static ZEROS: [u32; LONGEST_ROW] = [0; LONGEST_ROW];
 
-/// Returns the sums in the row above, which are zeros at the top of an image.
+/// Returns `above`, or `width` zeros at the top of an image, where `above` is `None`.
 fn sums_above<'a>(above: Option<&'a [u32]>, width: usize) -> &'a [u32]
     requires above_len { IfSome above (λ row. length row.now ≡ width) }
     requires room { width ≤ GREATEST_SIDE }
@@ -67,10 +67,9 @@ pub fn row_above(before: &[u32], width: usize) -> Option<&[u32]>
 }
 
 /// Writes a band of an integral image, continuing from `above`: the row above the band, or `None`
-/// at the top of an image. Reads only the band's rows of `image`. The clause `whole` is about
-/// another image, `whole`, that has these rows from row `line` on. If `above` is the row above row
-/// `line` in the integral image of `whole`, this function writes `rows.count` rows of that integral
-/// image, from row `line` on.
+/// at the top of an image. Reads only the band's rows of `image`. Let `whole` be an image that has
+/// these rows from row `line` on. If `above` is the row above row `line` in the integral image of
+/// `whole`, this function writes `rows.count` rows of that integral image, from row `line` on.
 pub fn integral_on(image: &Image<'_>, rows: Band, above: Option<&[u32]>, samples: &mut [u32])
     requires format { image.now.format ≡ U8 }
     requires rows { IsInRows image.now.height rows }

@@ -3,7 +3,7 @@ use Rattle.std.specs.Prelude.{ℕ, List, codes}
 use Rattle.vx_base.specs.declared.code.Code.{Code}
 use Rattle.vx_base.specs.declared.code.Code.TheVariants.{Success, NoMemory, InvalidParameters, InvalidReference, InvalidScope, InvalidFormat, InvalidDimension, InvalidValue, InvalidType, InvalidGraph, InvalidLink, MultipleWriters, OptimizedAway, NoResources}
 
--- the number of a code in a reply
+-- the code's number in a reply
 abbrev pub code_number : Code → ℕ
 code_number Success = 0
 code_number NoMemory = 1

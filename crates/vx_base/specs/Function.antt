@@ -86,8 +86,8 @@ parameters MinMaxLoc = record of_one_image { output = kind.Extremes }
 parameters Accumulate = of_one_image
 parameters AccumulateSquare = record of_one_image { greatest_amount = Some 15 }
 
--- whether the function adds to its output image; the image's content at the start of the graph's
--- run is then an operand too
+-- whether the function adds to its output image. The image's samples from before the run are then
+-- an operand too.
 abbrev pub accumulates : Function → Bool
 accumulates Accumulate = true
 accumulates AccumulateSquare = true

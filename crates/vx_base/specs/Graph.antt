@@ -13,7 +13,7 @@ pub record GraphValue : Type 0 where
   pub nodes : List Numbered
   pub delays : List ℕ
 
--- a graph without nodes, whose first node will get number 1
+-- a graph without nodes; its first node will get number 1
 abbrev pub new_graph : GraphValue
 new_graph = record { next = 1; nodes = []; delays = [] }
 
@@ -42,7 +42,7 @@ without_node g number = record g { nodes = filter (λ n. not (n.number == number
 abbrev pub is_registered : GraphValue → ℕ → Bool
 is_registered g name = list_any (λ delay. delay == name) g.delays
 
--- the graph with these delays registered for auto-aging
+-- the graph with these delays, and no others, registered for auto-aging
 abbrev pub with_delays : GraphValue → List ℕ → GraphValue
 with_delays g names = record g { delays = names }
 

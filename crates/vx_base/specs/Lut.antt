@@ -4,7 +4,7 @@ use Rattle.vx_base.specs.declared.format.Format.{Format}
 use Rattle.vx_base.specs.declared.format.Format.TheVariants.{U8, S16, U32}
 use Rattle.vx_base.specs.Sample.{min_sample, range_size, IsSample}
 
--- a table; its entries are in the order of the sample values
+-- a lookup table; its entries are in the order of the sample values
 pub record LutValue : Type 0 where
   pub format : Format
   pub entries : List ℤ

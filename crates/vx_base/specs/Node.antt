@@ -43,7 +43,7 @@ has_operands p n =
     (if is_some p.second_input then is_some n.in2 else is_none n.in2)
     && (if p.output_pair then (is_some n.out1 || is_some n.out2) else (is_some n.out1 && is_none n.out2))
 
--- whether a node has exactly the parameters of its function
+-- whether a node's fields suit its function
 abbrev pub is_node : Node → Bool
 is_node n = has_amount (parameters n.function) n.policy n.amount && (has_operands (parameters n.function) n && all_named n)
 
@@ -88,7 +88,7 @@ IsBorder Undefined = ⊤
 IsBorder (Constant value) = value < 2 ^ 8
 IsBorder Replicate = ⊤
 
--- a node with exactly the parameters of its function, and numbers in the ranges of their types
+-- a node whose fields suit its function, with numbers in their permitted ranges
 pub record IsNode (n : Node) : Type 0 where
   pub shape : IsTrue (is_node n)
   pub border : IsBorder n.border

@@ -59,8 +59,8 @@ object_kind (ExtremesObject extremes) = kind.Extremes
 object_kind (GraphObject graph) = kind.Graph
 object_kind (VirtualObject image) = kind.VirtualImage
 
--- the format of an image's samples, of a table's entries, of the samples that a threshold tests, or
--- of a convolution's coefficients; None for all other kinds
+-- the format of an image's samples, of a lookup table's entries, of the samples that a threshold
+-- tests, or of a convolution's coefficients; None for all other kinds
 abbrev pub object_format : ObjectValue → Option Format
 object_format (ImageObject image) = Some image.format
 object_format (LutObject lut) = Some lut.format
@@ -72,7 +72,8 @@ object_format other = None
 abbrev pub image_bytes : ImageValue → ℕ
 image_bytes image = byte_count (description_of image)
 
--- the bytes that an object takes from the client's quota: the bytes of its images' samples
+-- the bytes that an object takes from the client's quota: the size of an image's samples, or of the
+-- samples of all images of a delay; 0 for all other kinds
 abbrev pub object_bytes : ObjectValue → ℕ
 object_bytes (ImageObject image) = image_bytes image
 object_bytes (DelayObject images) = sum_by image_bytes images

@@ -23,8 +23,8 @@ image_of_one ConvertDepth n output format a = from_one format (formula_of_one Co
 image_of_one Integral n output format a = sums_in format a
 image_of_one function n output format a = from_nine format (formula_of_nine function output) n.border a
 
--- an output image in this format, computed from the node's first input and from its second operand,
--- if it has one
+-- an output image in this format, computed from the node's first input, and from the node's second
+-- operand if the node has one
 abbrev pub node_image : Node → Output → Format → ImageValue → Option ObjectValue → ImageValue
 node_image n output format a None = image_of_one n.function n output format a
 node_image n output format a (Some (ImageObject b)) = from_two format (formula_of_two n.function format n.policy n.amount) a b
@@ -60,7 +60,8 @@ abbrev pub written_in : Node → Output → Option Reference → (Reference → 
 written_in n output None start held = []
 written_in n output (Some cell) start held = written_to n output cell (held n.in1) (option_and_then held n.in2) (start cell)
 
--- the outputs of a node, each with the output's new value
+-- the outputs of a node, each with the output's new value. The outputs' earlier values are from
+-- `start`, and the inputs are from `held`.
 abbrev pub written_from : (Reference → Option ObjectValue) → Node → (Reference → Option ObjectValue) → List (Reference × ObjectValue)
 written_from start n held = written_in n First n.out1 start held ++ written_in n Second n.out2 start held
 

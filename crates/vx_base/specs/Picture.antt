@@ -34,7 +34,7 @@ picture_of image = record { description = description_of image; samples = image.
 abbrev pub picture_image : PictureValue → ImageValue
 picture_image p = image_over p.description (whole_rectangle p.description.width p.description.height) p.samples
 
--- a picture with a sample of its format for each pixel
+-- a picture of permitted size, with a sample of its format for each pixel
 pub record IsPicture (p : PictureValue) : Type 0 where
   pub description : IsDescription p.description
   pub size : length p.samples ≡ sample_count p.description

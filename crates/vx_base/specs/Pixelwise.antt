@@ -1,5 +1,6 @@
--- Pixel-wise functions: each output sample depends on the input samples a and b at the same pixel.
--- OpenVX 1.3, "Vision Functions"; the words in quotation marks are the names of its sections.
+-- Pixel-wise functions: each output sample depends on the input samples `a` and `b` at the same
+-- pixel. OpenVX 1.3, "Vision Functions"; the words in quotation marks are the names of its
+-- sections.
 use Rattle.std.specs.Prelude.{ℕ, ◌^◌, ℤ, pos, ◌+ℤ◌, ◌-ℤ◌, ◌*ℤ◌, bit_and, bit_or, bit_xor, unsigned_abs, int_div, if◌then◌else◌}
 use Rattle.std.specs.Int.{int_div_euclid, int_min, int_max}
 use Rattle.vx_base.specs.declared.format.Format.{Format}
@@ -44,7 +45,7 @@ difference format policy a b = narrow format policy (a -ℤ b)
 abbrev pub product : Format → Policy → ℕ → ℤ → ℤ → ℤ
 product format policy n a b = narrow format policy (int_div (a *ℤ b) (pos (2 ^ n)))
 
--- "Absolute Difference": the distance between two samples, clamped to the format
+-- "Absolute Difference": the distance between two samples, clamped to the output's format
 abbrev pub absolute_difference : Format → ℤ → ℤ → ℤ
 absolute_difference format a b = clamp format (pos (distance a b))
 
@@ -71,12 +72,13 @@ depth_conversion U8 policy n a = narrow U8 policy (int_div_euclid a (pos (2 ^ n)
 depth_conversion S16 policy n a = a *ℤ pos (2 ^ n)
 depth_conversion U32 policy n a = a
 
--- "Accumulate": the sum of the sample a and the output's earlier sample c, clamped to the format
+-- "Accumulate": the sum of the sample `a` and the output's earlier sample `c`, clamped to the
+-- output's format
 abbrev pub accumulated_sum : Format → ℤ → ℤ → ℤ
 accumulated_sum format a c = clamp format (c +ℤ a)
 
--- "Accumulate Squared": the square of a is divided by 2^n, rounded down, and added to the output's
--- earlier sample c. The sum is clamped to the format.
+-- "Accumulate Squared": the square of `a` is divided by 2^n, rounded down, and added to the
+-- output's earlier sample `c`. The sum is clamped to the output's format.
 abbrev pub accumulated_square : Format → ℕ → ℤ → ℤ → ℤ
 accumulated_square format n a c = clamp format (c +ℤ int_div_euclid (a *ℤ a) (pos (2 ^ n)))
 
@@ -90,10 +92,10 @@ from_one format f a = image_from a.width a.height format a.valid (λ x y. f (pix
 abbrev pub from_two : Format → (ℤ → ℤ → ℤ) → ImageValue → ImageValue → ImageValue
 from_two format f a b = image_from a.width a.height format (meet_of a.valid b.valid) (λ x y. f (pixel_at a x y) (pixel_at b x y))
 
--- ---- the formula of each function of one image, and of each function of two images; an
+-- ---- the formula of each pixel-wise function of one image, and of each function of two images; an
 -- accumulator's earlier content counts as the second image
 
--- the formula of a function of one image; n is the node's amount
+-- the formula of a pixel-wise function of one image; n is the node's amount
 abbrev pub formula_of_one : Function → Format → Policy → ℕ → ℤ → ℤ
 formula_of_one NotBits format policy n a = not_bits a
 formula_of_one ConvertDepth format policy n a = depth_conversion format policy n a

@@ -16,7 +16,7 @@ has_pixel r x y = (nat_le r.x0 x && nat_lt x r.x1) && (nat_le r.y0 y && nat_lt y
 abbrev pub empty_rectangle : Rectangle
 empty_rectangle = record { x0 = 0; y0 = 0; x1 = 0; y1 = 0 }
 
--- whether these bounds are in canonical form: all 0, or each start below its end
+-- whether these bounds are in canonical form: all 0, or each start less than its end
 abbrev pub is_rectangle : ℕ → ℕ → ℕ → ℕ → Bool
 is_rectangle x0 y0 x1 y1 =
     (((x0 == 0) && (y0 == 0)) && ((x1 == 0) && (y1 == 0))) || (nat_lt x0 x1 && nat_lt y0 y1)
@@ -42,7 +42,7 @@ meet_of r s = rectangle_or_empty (max r.x0 s.x0) (max r.y0 s.y0) (min r.x1 s.x1)
 abbrev pub shrink_of : Rectangle → ℕ → ℕ → Rectangle
 shrink_of r rx ry = rectangle_or_empty (r.x0 + rx) (r.y0 + ry) (r.x1 - rx) (r.y1 - ry)
 
--- a rectangle in canonical form: all bounds 0, or each start below its end
+-- a rectangle in canonical form: all bounds 0, or each start less than its end
 abbrev pub IsCanonical : Rectangle → Type 0
 IsCanonical r = IsTrue (is_rectangle r.x0 r.y0 r.x1 r.y1)
 
@@ -52,7 +52,7 @@ pub record IsRectangle (r : Rectangle) : Type 0 where
   pub columns : r.x1 < 2 ^ 16
   pub rows : r.y1 < 2 ^ 16
 
--- a rectangle whose starts are not above its ends
+-- a rectangle with no start greater than its end
 pub record IsOrdered (r : Rectangle) : Type 0 where
   pub columns : r.x0 ≤ r.x1
   pub rows : r.y0 ≤ r.y1

@@ -37,11 +37,12 @@ pub record BinsValue : Type 0 where
   pub offset : ℕ
   pub range : ℕ
 
--- whether bins may have this count, offset and range; the sum of offset and range may exceed 256
+-- whether a histogram may have this number of bins, this offset and this range; the sum of offset
+-- and range may exceed 256
 abbrev pub are_bins : ℕ → ℕ → ℕ → Bool
 are_bins bins offset range = ((nat_le 1 bins && nat_le bins GREATEST_BINS) && nat_lt offset 256) && (nat_le 1 range && nat_le range 256)
 
--- the bins with this count, offset and range, if these are permitted
+-- the bins of a histogram, if their number, the offset and the range are permitted
 abbrev pub bins_of : ℕ → ℕ → ℕ → Option BinsValue
 bins_of bins offset range = if are_bins bins offset range then Some (record { bins = bins; offset = offset; range = range }) else None
 
@@ -49,7 +50,7 @@ bins_of bins offset range = if are_bins bins offset range then Some (record { bi
 abbrev pub bin_of : BinsValue → ℕ → Option ℕ
 bin_of b p = if nat_le b.offset p && nat_lt p (b.offset + b.range) then Some ((p - b.offset) * b.bins / b.range) else None
 
--- whether there is a bin and its number is k
+-- whether there is a bin and it is bin k
 abbrev pub is_bin : ℕ → Option ℕ → Bool
 is_bin k None = false
 is_bin k (Some bin) = bin == k

@@ -125,7 +125,7 @@ formula_of_nine other output = λ _. pos 0
 abbrev pub row_product : ConvolutionValue → (ℤ → ℤ) → ℤ → ℕ → ℤ
 row_product c f x l = total (map (λ k. f (x +ℤ pos (c.columns / 2) -ℤ pos k) *ℤ coefficient c l k) (range_with_len 0 c.columns))
 
--- the dot product of the samples around a pixel with the matrix turned by 180 degrees
+-- the dot product of the matrix, turned by 180 degrees, with the samples around a pixel
 abbrev pub matrix_product : ConvolutionValue → (ℤ → ℤ → ℤ) → ℤ → ℤ → ℤ
 matrix_product c f x y = total (map (λ l. row_product c (λ u. f u (y +ℤ pos (c.rows / 2) -ℤ pos l)) x l) (range_with_len 0 c.rows))
 
@@ -143,7 +143,7 @@ window_valid Undefined rx ry valid = shrink_of valid rx ry
 window_valid (Constant value) rx ry valid = valid
 window_valid Replicate rx ry valid = valid
 
--- the image whose samples are f of the 3x3 window around each pixel
+-- the image in which each valid sample is f of the 3x3 window around its pixel
 abbrev pub from_nine : Format → (List ℤ → ℤ) → Border → ImageValue → ImageValue
 from_nine format f border a =
     image_from a.width a.height format (window_valid border 1 1 a.valid) (λ x y. f (nine_around (sample_or_border a border) (pos x) (pos y)))

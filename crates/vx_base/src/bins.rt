@@ -9,8 +9,8 @@ pub const GREATEST_BINS: usize = 256;
 
 /// The bins of a histogram of U8 samples (OpenVX 1.3, `vx_distribution`): 1 to 256 bins. The
 /// offset, 0 to 255, is the least sample that is counted. The range, 1 to 256, is the number of
-/// values that the bins cover; some values may be above 255. The bins divide the range evenly, up
-/// to rounding.
+/// values that the bins cover; some of these values may be above 255. The bins divide the range
+/// evenly, up to rounding.
 #[derive(Clone, Copy, PartialEq, Eq, Debug)]
 pub struct Bins {
     bins: u16,
@@ -32,8 +32,8 @@ impl Model for Bins {
 }
 
 impl Bins {
-    /// Returns the bins with this count, offset and range, or `None` if one of the three is beyond
-    /// its limits.
+    /// Returns the bins of a histogram, or `None` if their number, the offset or the range is
+    /// beyond its limits.
     pub fn new(bins: u16, offset: u16, range: u16) -> Option<Bins>
         ensures { result ≡ bins_of bins offset range }
     {

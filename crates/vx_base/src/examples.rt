@@ -101,7 +101,7 @@ pub fn bits()
     ensures xor { xor_bits (pos 12) (pos 10) ≡ pos 6 }
 {}
 
-/// Sums within the range and beyond the greatest sample.
+/// Sums within the range of the output's format, and sums above that range.
 pub fn sums()
     ensures nearest { sum U8 Saturate (pos 200) (pos 100) ≡ pos 255 }
     ensures wrapped { sum U8 Wrap (pos 200) (pos 100) ≡ pos 44 }
@@ -210,8 +210,8 @@ pub fn thresholds()
     }) (pos 11) ≡ pos 255 }
 {}
 
-/// Entries of tables that begin with 5, 6, 7. The other clauses show the kind of second input that
-/// each of two functions takes.
+/// Entries of lookup tables that begin with 5, 6, 7. The other clauses show the kind of second
+/// input that each of two functions takes.
 pub fn tables()
     ensures third { entry_for (record { format = U8; entries = pos 5 ∷ pos 6 ∷ pos 7 ∷ [] })
         (pos 2) ≡ pos 7 }

@@ -27,7 +27,7 @@ pub struct Node {
     pub out2: Option<ObjRef>,
 }
 
-/// A node with exactly the parameters of its function.
+/// A node whose fields suit its function.
 #[derive(Clone, Copy, PartialEq, Eq, Debug)]
 pub struct NodeSpec {
     node: Node,

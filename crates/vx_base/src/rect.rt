@@ -7,7 +7,7 @@ ghost use Rattle.vx_base.specs.Rectangle.{IsRectangle, IsOrdered};
 use std::marker::Model;
 
 /// A rectangle of pixels (OpenVX 1.3, `vx_rectangle_t`): the start is included, the end is not. The
-/// bounds are in canonical form: each start is below its end, or all four bounds are 0 and the
+/// bounds are in canonical form: each start is less than its end, or all four bounds are 0 and the
 /// rectangle is empty.
 #[derive(Clone, Copy, PartialEq, Eq, Debug)]
 pub struct Rect {

@@ -8,7 +8,8 @@ use crate::format::Format;
 use std::alloc::{AllocError, Global};
 use std::mem;
 
-/// The samples of an image in one of the formats, in row-major order.
+/// Samples of one format, such as an image's samples in row-major order, or the entries of a lookup
+/// table.
 #[derive(PartialEq, Eq, Debug, Drop)]
 pub enum Samples {
     U8(Vec<u8>),

@@ -10,7 +10,7 @@ use crate::node::Node;
 use crate::policy::Policy;
 use crate::reference::ObjRef;
 
-/// Checks whether a node has exactly the parameters of its function.
+/// Checks whether a node's fields suit its function.
 pub fn is_node(node: &Node) -> bool
     ensures { result ≡ is_node node.now }
 {

@@ -27,7 +27,7 @@ impl Model for SlotCount {
 }
 
 impl SlotCount {
-    /// Returns the number of slots, or `None` if it isn't 1 to 16.
+    /// Returns `count` as a number of slots, or `None` if it isn't 1 to 16.
     pub fn new(count: u8) -> Option<SlotCount>
         ensures { result ≡ slot_count count }
     {

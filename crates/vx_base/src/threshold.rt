@@ -5,7 +5,7 @@ ghost use Rattle.vx_base.specs.Threshold.{IsThreshold, threshold, has_limits};
 use crate::format::Format;
 use std::marker::Model;
 
-/// The comparison of a threshold (OpenVX 1.3, `vx_threshold_type_e`).
+/// The comparison that a threshold makes (OpenVX 1.3, `vx_threshold_type_e`).
 #[derive(Clone, Copy, PartialEq, Eq, Debug)]
 pub enum ThresholdKind {
     /// A sample passes if it is above this limit.

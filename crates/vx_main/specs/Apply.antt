@@ -25,14 +25,14 @@ image_made job p = node_image (node_of job) First U8 (picture_image p) None
 abbrev pub text_made : Job → PictureValue → List ℕ
 text_made job p = pgm_text (picture_of (image_made job p))
 
--- the status code for a fault of a text
+-- the code for a fault of a PGM text
 abbrev pub pgm_fault_code : PgmFault → Code
 pgm_fault_code fault.InvalidDimension = InvalidDimension
 pgm_fault_code fault.InvalidValue = InvalidValue
 pgm_fault_code fault.InvalidFormat = InvalidFormat
 pgm_fault_code fault.NoMemory = NoMemory
 
--- the text that a job writes for a U8 picture, or the code of the fault
+-- the text that a job writes if it has read a U8 picture, otherwise the code of the fault
 abbrev pub applied_to : Job → Result PictureValue PgmFault → Result (List ℕ) Code
 applied_to job (Err fault) = Err (pgm_fault_code fault)
 applied_to job (Ok p) = if same_format p.description.format U8 then Ok (text_made job p) else Err InvalidFormat
@@ -41,6 +41,6 @@ applied_to job (Ok p) = if same_format p.description.format U8 then Ok (text_mad
 abbrev pub job_result : Job → List ℕ → Result (List ℕ) Code
 job_result job text = applied_to job (read_result text)
 
--- the program ended because memory ran out, or with the code of the fault
+-- the program ended with NoMemory, or with the code in `outcome`
 pub record EndsFor (outcome : Result (List ℕ) Code) (ended : Ended) : Type 0 where
   pub is : (ended ≡ Refused NoMemory) ⊎ ((code : Code) × (outcome ≡ Err code) × (ended ≡ Refused code))

@@ -29,8 +29,8 @@ ended_status (CommandLine text) = 2
 ended_status (Stream fault) = fault_status fault
 ended_status (Refused code) = 5
 
--- the text on standard error: the refusal's text for a refused command line, `fault_line` for a
--- fault of the stream, the code's name for `Refused`
+-- the text on standard error: for `CommandLine` its text, for `Stream` the `fault_line` of its
+-- fault, for `Refused` the name of its code
 abbrev pub ended_line : Ended → List ℕ
 ended_line (CommandLine text) = string_bytes text
 ended_line (Stream fault) = fault_line fault

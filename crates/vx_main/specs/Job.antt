@@ -23,7 +23,7 @@ parse_operation word =
     else (if bytes_eq word (codes "erode") then Some Erode
     else (if bytes_eq word (codes "dilate") then Some Dilate else None)))))
 
--- the border that the word after `--border` names
+-- the border that the value of `--border` names
 abbrev pub parse_border : List ℕ → Option Border
 parse_border word =
     if bytes_eq word (codes "undefined") then Some Undefined

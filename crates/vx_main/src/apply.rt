@@ -23,8 +23,8 @@ const CLIENT: u16 = 1;
 
 /// Reads a PGM text to its end, applies the job to its picture, and writes the resulting text.
 ///
-/// A failing reader and a text that is too long are reported before the text's own faults. At most
-/// 2^29 + 1 bytes are read, one more than a text may have.
+/// A failing reader or a text that is too long is reported instead of the text's own faults. At
+/// most 2^29 + 1 bytes are read, one more than a text may have.
 pub fn apply<R: Read + Drop, W: Write>(
     alloc: Global,
     job: Job,
@@ -63,9 +63,9 @@ fn job_result(alloc: Global, job: Job, text: &[u8]) -> Result<Text, Ended>
     Ok(made(alloc, job, picture)?)
 }
 
-/// Returns the text that the job gives for a U8 picture. Makes the requests of one client to a
-/// runtime with the default limits. No request is refused: two U8 images of the greatest size are
-/// within the quota.
+/// Returns the text that the job gives for a U8 picture. Makes requests to a runtime with the
+/// default limits, as its only client. Unless memory runs out, no request is refused: two U8 images
+/// of the greatest size are within the quota.
 fn made(alloc: Global, job: Job, picture: Picture) -> Result<Text, NoMemory>
     requires { picture.description.format ≡ FormatU8 }
     ensures { IfOk result (λ text. text ≡ text_made job picture) }

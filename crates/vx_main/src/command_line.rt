@@ -42,9 +42,9 @@ pub enum Asked {
     Apply(Job),
 }
 
-/// Returns what the words tell the program to do: `serve`, optionally with a quota and work bytes;
-/// or `apply` with a function, optionally with a border. The error holds the text of a refusal, of
-/// the help or of the version, or says that memory was refused.
+/// Returns what the words tell the program to do: `serve` with an optional quota and optional work
+/// bytes; or `apply` with a function and an optional border. The error holds the text of a refusal,
+/// of the help or of the version, or says that memory was refused.
 pub fn read_words(alloc: Global, words: &[&str]) -> Result<Asked, Error> {
     let program = Command::new(alloc, "vx_main")
         .version(VERSION)

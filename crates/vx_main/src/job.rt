@@ -21,8 +21,8 @@ pub enum Operation {
     Dilate,
 }
 
-/// A function, and the border mode for pixels beyond the image's edges. `Not` ignores the border
-/// mode.
+/// An operation, and the border mode for pixels beyond the input image's edges. `Not` ignores the
+/// border mode.
 #[derive(Clone, Copy, PartialEq, Eq, Debug)]
 pub struct Job {
     pub operation: Operation,

@@ -286,7 +286,7 @@ fn reads_the_command_line(rt: HostRuntime) {
 /// A 2 by 2 picture of the samples 10, 20, 30 and 40.
 const SQUARE: &[u8] = b"P5\n2 2\n255\n\x0a\x14\x1e\x28";
 
-/// The result of the box filter on `SQUARE`, under the border `replicate`.
+/// The result of the box filter on `SQUARE`, under the border mode `replicate`.
 const BOXED: &[u8] = b"P5\n2 2\n255\n\x14\x17\x1a\x1e";
 
 /// A 3 by 3 picture of the samples 1 to 9.

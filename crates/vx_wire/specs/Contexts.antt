@@ -5,10 +5,10 @@ use Rattle.client_model.specs.declared.request.Request.TheVariants.{OpenContext,
 use Rattle.vx_wire.specs.declared.body_fault.BodyFault.{BodyFault}
 use Rattle.vx_wire.specs.Fields.{at_end}
 
--- the request OpenContext that an empty body encodes
+-- the request OpenContext, which only an empty body encodes
 abbrev pub open_context_in : List ℕ → Result Request BodyFault
 open_context_in body = at_end OpenContext body
 
--- the request ReleaseContext that an empty body encodes
+-- the request ReleaseContext, which only an empty body encodes
 abbrev pub release_context_in : List ℕ → Result Request BodyFault
 release_context_in body = at_end ReleaseContext body

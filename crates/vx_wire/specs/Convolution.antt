@@ -15,7 +15,7 @@ take_odd_side body = and_then (take_byte body) (λ n rest. allowed_or_fault Inva
 abbrev pub take_exponent : List ℕ → FieldResult ℕ
 take_exponent body = and_then (take_byte body) (λ n rest. allowed_or_fault InvalidValue (if nat_le n 31 then Some n else None) rest)
 
--- reads a convolution from the front of a body: the columns, the rows, the exponent, the
+-- reads a convolution from the front of a body: the numbers of columns and rows, the exponent, the
 -- coefficients as S16 samples
 abbrev pub take_convolution : List ℕ → FieldResult ConvolutionValue
 take_convolution body =
@@ -23,6 +23,7 @@ take_convolution body =
     and_then (take_samples S16 (rows * columns) rest) (λ coefficients rest.
     Ok (record { columns = columns; rows = rows; exponent = exponent; coefficients = coefficients }, rest)))))
 
--- the bytes of a convolution: the columns, the rows, the exponent, the coefficients as S16 samples
+-- the bytes of a convolution: the numbers of columns and rows, the exponent, the coefficients as
+-- S16 samples
 abbrev pub convolution_bytes : ConvolutionValue → List ℕ
 convolution_bytes c = c.columns ∷ c.rows ∷ c.exponent ∷ encoded_samples S16 c.coefficients

@@ -3,7 +3,7 @@ use Rattle.std.specs.Prelude.{◌≡◌, ℕ, ◌+◌, ◌*◌, if◌then◌else
 use Rattle.vx_wire.specs.declared.body_fault.BodyFault.{BodyFault}
 use Rattle.vx_wire.specs.declared.body_fault.BodyFault.TheVariants.{InvalidParameters}
 
--- a field's value and the bytes after it, or the field's fault
+-- a field's value and the bytes after the field, or the field's fault
 abbrev pub FieldResult : Type 0 → Type 0
 FieldResult A = Result (A × List ℕ) BodyFault
 
@@ -31,7 +31,7 @@ one_field take made body = and_then (take body) (λ x rest. at_end (made x) rest
 abbrev pub two_fields : {A B C : Type 0} → (List ℕ → FieldResult A) → (List ℕ → FieldResult B) → (A → B → C) → List ℕ → Result C BodyFault
 two_fields first second made body = and_then (first body) (λ x rest. one_field second (made x) rest)
 
--- a field's value and the bytes after it, if the value is allowed; else the given fault
+-- a field's value and the bytes after the field, if the value is allowed; else the given fault
 abbrev pub allowed_or_fault : {A : Type 0} → BodyFault → Option A → List ℕ → FieldResult A
 allowed_or_fault fault None rest = Err fault
 allowed_or_fault fault (Some value) rest = Ok (value, rest)

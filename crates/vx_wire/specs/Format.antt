@@ -7,7 +7,7 @@ use Rattle.vx_wire.specs.declared.body_fault.BodyFault.TheVariants.{InvalidForma
 use Rattle.vx_wire.specs.Numbered.{with_number}
 use Rattle.vx_wire.specs.Fields.{FieldResult, and_then, allowed_or_fault, take_byte}
 
--- the number of a format: 1 U8, 2 S16, 3 U32
+-- the number of a format: 1 for U8, 2 for S16, 3 for U32
 abbrev pub format_number : Format → ℕ
 format_number U8 = 1
 format_number S16 = 2

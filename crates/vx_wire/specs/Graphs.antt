@@ -7,7 +7,7 @@ use Rattle.vx_wire.specs.Fields.{at_end, one_field, two_fields, take_long}
 use Rattle.vx_wire.specs.Node.{take_node}
 use Rattle.vx_wire.specs.PartialDescription.{take_partial_desc}
 
--- the request CreateGraph that an empty body encodes
+-- the request CreateGraph, which only an empty body encodes
 abbrev pub create_graph_in : List ℕ → Result Request BodyFault
 create_graph_in body = at_end CreateGraph body
 

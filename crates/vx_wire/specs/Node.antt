@@ -15,7 +15,7 @@ use Rattle.vx_wire.specs.Fields.{FieldResult, and_then, allowed_or_fault, take_b
 use Rattle.vx_wire.specs.Reference.{reference_bytes}
 use Rattle.vx_wire.specs.Operand.{operand_bytes, take_first_input, take_operands}
 
--- reads a function from the front of a body: its number, a byte
+-- reads a function from the front of a body: a byte, the function's number
 abbrev pub take_function : List ℕ → FieldResult Function
 take_function body = and_then (take_byte body) (λ n rest. allowed_or_fault InvalidParameters (function_numbered n) rest)
 
@@ -62,8 +62,8 @@ policies p = if p.policy then Wrap ∷ Saturate ∷ [] else Wrap ∷ []
 abbrev pub take_policy : Parameters → List ℕ → FieldResult Policy
 take_policy p body = and_then (take_byte body) (λ n rest. allowed_or_fault InvalidParameters (with_number policy_number (policies p) n) rest)
 
--- An amount and the bytes after it if the amount is allowed, else the amount's fault. Amounts up to
--- the function's greatest amount are allowed, or only 0 if the function has no amount.
+-- An amount and the bytes after it, if the amount is allowed; else the amount's fault. Amounts up
+-- to the function's greatest amount are allowed, or only 0 if the function has no amount.
 abbrev pub amount_allowed : Option ℕ → ℕ → List ℕ → FieldResult ℕ
 amount_allowed None n rest = allowed_or_fault InvalidParameters (if n == 0 then Some n else None) rest
 amount_allowed (Some greatest) n rest = allowed_or_fault InvalidValue (if nat_le n greatest then Some n else None) rest

@@ -25,7 +25,7 @@ abbrev pub operand_bytes : Option Reference → List ℕ
 operand_bytes None = reference_bytes (record { name = 0; slot = None })
 operand_bytes (Some cell) = reference_bytes cell
 
--- whether an operand can be encoded, and agrees with its presence
+-- whether an operand agrees with its presence, and isn't a reference with name 0 and no slot
 abbrev pub is_operand : Presence → Option Reference → Bool
 is_operand Required cell = is_some cell && is_named cell
 is_operand Absent cell = is_none cell

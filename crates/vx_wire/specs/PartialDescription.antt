@@ -8,11 +8,11 @@ use Rattle.vx_wire.specs.declared.body_fault.BodyFault.TheVariants.{InvalidDimen
 use Rattle.vx_wire.specs.Fields.{FieldResult, and_then, allowed_or_fault, take_short}
 use Rattle.vx_wire.specs.Format.{open_format_number, take_open_format}
 
--- the number of a width or height; 0 if the side is open
+-- the number that encodes a width or height; 0 if the side is open
 abbrev pub open_side_number : Option ℕ → ℕ
 open_side_number side = unwrap_or side 0
 
--- the width or height with this number; 0 means that the side is open
+-- the width or height that this number encodes; 0 means that the side is open
 abbrev pub open_side_numbered : ℕ → Option (Option ℕ)
 open_side_numbered n = if n == 0 then Some None else if is_side n then Some (Some n) else None
 

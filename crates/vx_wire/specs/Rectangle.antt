@@ -5,8 +5,8 @@ use Rattle.vx_base.specs.Rectangle.{Rectangle, rectangle}
 use Rattle.vx_wire.specs.declared.body_fault.BodyFault.TheVariants.{InvalidValue}
 use Rattle.vx_wire.specs.Fields.{FieldResult, and_then, allowed_or_fault, take_short}
 
--- reads a rectangle from the front of a body: x0, y0, x1, y1, each a u16; bounds are checked after
--- all four have been read
+-- reads a rectangle from the front of a body: x0, y0, x1, y1, each a u16; the bounds are checked
+-- after all four have been read
 abbrev pub take_rectangle : List ℕ → FieldResult Rectangle
 take_rectangle body =
     and_then (take_short body) (λ x0 rest. and_then (take_short rest) (λ y0 rest.

@@ -14,6 +14,6 @@ take_reference body =
     and_then (take_long body) (λ name rest. and_then (take_byte rest) (λ slot rest.
     Ok (record { name = name; slot = slot_numbered slot }, rest)))
 
--- the bytes of a reference: the name, then the slot, or 255 for the object itself
+-- the bytes of a reference: the name, then the slot's number, which is 255 for the object itself
 abbrev pub reference_bytes : Reference → List ℕ
 reference_bytes cell = to_be_bytes w32 cell.name ++ unwrap_or cell.slot 255 ∷ []

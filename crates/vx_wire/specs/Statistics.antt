@@ -14,7 +14,7 @@ create_distribution_in body = one_field take_bins CreateDistribution body
 abbrev pub read_distribution_in : List ℕ → Result Request BodyFault
 read_distribution_in body = one_field take_long ReadDistribution body
 
--- the request CreateMinMax that an empty body encodes
+-- the request CreateMinMax, which only an empty body encodes
 abbrev pub create_min_max_in : List ℕ → Result Request BodyFault
 create_min_max_in body = at_end CreateMinMax body
 

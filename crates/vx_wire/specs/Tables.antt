@@ -17,7 +17,7 @@ create_lut_in body = one_field take_lut CreateLut body
 abbrev pub create_threshold_in : List ℕ → Result Request BodyFault
 create_threshold_in body = one_field take_threshold CreateThreshold body
 
--- the request CreateConvolution that a body encodes: the columns, the rows, the exponent, the
--- coefficients
+-- the request CreateConvolution that a body encodes: the numbers of columns and rows, the
+-- exponent, the coefficients
 abbrev pub create_convolution_in : List ℕ → Result Request BodyFault
 create_convolution_in body = one_field take_convolution CreateConvolution body

@@ -197,8 +197,8 @@ pub fn thresholds()
     ensures more { request_of 12 (0 ∷ 1 ∷ 0 ∷ 10 ∷ 255 ∷ 0 ∷ 0 ∷ []) ≡ Err InvalidParameters }
 {}
 
-/// A convolution of 3 columns and 5 rows whose sums are divided by 2^31; and invalid sizes and
-/// exponents. The first invalid field decides the fault, even if the coefficients are cut short.
+/// A convolution of 3 columns and 5 rows, with the exponent 31; and invalid sizes and exponents.
+/// The first invalid field decides the fault, even if the coefficients are cut short.
 pub fn convolutions()
     ensures made { request_of 13 (3 ∷ 5 ∷ 31 ∷ 0 ∷ 1 ∷ 255 ∷ 254 ∷ 0 ∷ 3 ∷ 0 ∷ 4 ∷ 0 ∷ 5 ∷ 0 ∷ 6 ∷ 0
         ∷ 7 ∷ 0 ∷ 8 ∷ 0 ∷ 9 ∷ 0 ∷ 10 ∷ 0 ∷ 11 ∷ 0 ∷ 12 ∷ 0 ∷ 13 ∷ 127 ∷ 255 ∷ 128 ∷ 0 ∷ [])
@@ -223,8 +223,8 @@ pub fn convolutions()
     ensures empty { request_of 13 [] ≡ Err InvalidParameters }
 {}
 
-/// Distributions of 3 bins over the samples 0 to 255, of 256 bins over the range 255 to 510, and of
-/// 2 bins over the single sample 7. Then invalid bins. The first invalid number decides the fault,
+/// Distributions of 3 bins over the values 0 to 255, of 256 bins over the values 255 to 510, and of
+/// 2 bins over the single value 7. Then invalid bins. The first invalid number decides the fault,
 /// even if the body ends too early.
 pub fn distributions_made()
     ensures made { request_of 14 (0 ∷ 3 ∷ 0 ∷ 0 ∷ 1 ∷ 0 ∷ [])
@@ -412,8 +412,8 @@ pub fn nodes()
         ∷ 0 ∷ 0 ∷ 255 ∷ []) ≡ Err InvalidParameters }
 {}
 
-/// A saturating Multiply node from images 1 and 2 to image 3 with the scale 1 / 2^15; and amounts
-/// above 15.
+/// A saturating Multiply node from images 1 and 2 to image 3, with the amount 15 (the scale is
+/// 1 / 2^15); and amounts above 15.
 pub fn multiply_nodes()
     ensures whole { request_of 24 (7 ∷ 0 ∷ 0 ∷ 1 ∷ 15 ∷ 0 ∷ 0 ∷ 0 ∷ 1 ∷ 255 ∷ 0 ∷ 0 ∷ 0 ∷ 2 ∷ 255
         ∷ 0 ∷ 0 ∷ 0 ∷ 3 ∷ 255 ∷ 0 ∷ 0 ∷ 0 ∷ 0 ∷ 255 ∷ [])
@@ -454,7 +454,7 @@ pub fn delays_made()
     ensures more { request_of 25 (0 ∷ 0 ∷ 0 ∷ 1 ∷ 255 ∷ 3 ∷ 0 ∷ []) ≡ Err InvalidParameters }
 {}
 
-/// Aging delay 2; a name that is cut short or is followed by a slot.
+/// Ageing delay 2; a name that is cut short or is followed by a slot.
 pub fn delays_aged()
     ensures aged { request_of 26 (0 ∷ 0 ∷ 0 ∷ 2 ∷ []) ≡ Ok (AgeDelay 2) }
     ensures cut { request_of 26 (0 ∷ 0 ∷ 0 ∷ []) ≡ Err InvalidParameters }
@@ -469,7 +469,7 @@ pub fn delays_registered()
 {}
 
 /// The bodies of requests that hold a picture, a text, a rectangle, a threshold, a convolution, a
-/// distribution's bins, partial descriptions, a graph's node, and a delay's number of slots.
+/// distribution's bins, a partial description, a graph's node, or a delay's number of slots.
 pub fn spelled()
     ensures picture { body_of (WriteImage (record { name = 7; slot = None })
         (record {

@@ -78,7 +78,8 @@ impl<'a> Fields<'a> {
         Ok(u32::from(high) * 65536 + u32::from(low))
     }
 
-    /// Reads `count` bytes, which are one field. `InvalidParameters`: fewer bytes are left.
+    /// Reads `count` bytes, which are one field. `InvalidParameters`: fewer than `count` bytes are
+    /// left.
     pub fn bytes(&mut self, count: usize) -> Result<&'a [u8], BodyFault>
         ensures ok { IfOk result (λ bytes. take_bytes count self.old ≡ Ok (bytes.now, self.new)) }
         ensures len { IfOk result (λ bytes. length bytes.now ≡ count) }

@@ -16,7 +16,7 @@ pub enum ParseFault {
     /// isn't allowed, and none of the faults below applies.
     #[error("invalid parameters")]
     InvalidParameters,
-    /// A number isn't a format, or it is a format that a lookup table or a threshold can't have.
+    /// A number isn't a format, or the format of a lookup table or a threshold is U32.
     #[error("invalid format")]
     InvalidFormat,
     /// A dimension is out of range, as `BodyFault::InvalidDimension` lists.

@@ -16,7 +16,7 @@ pub record WindowFits (output : Format) (a : ImageValue) (out : ImageMut) : Type
   pub input_format : a.format ≡ U8
   pub format : (target_image out).format ≡ output
 
--- a U8 input, and a U8 or S16 output of its size
+-- a U8 input, and a U8 or S16 output of the input's size
 pub record ConvolutionFits (a : ImageValue) (out : ImageMut) : Type 0 where
   pub target : IsTarget out
   pub size : HaveSameSize (target_image out) a

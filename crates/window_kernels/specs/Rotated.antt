@@ -13,6 +13,6 @@ rotated_coefficient m l c = if nat_lt c m.columns then coefficient m l (m.column
 abbrev pub rotated_pair : ConvolutionValue → ℕ → List ℤ
 rotated_pair m k = alternation 8 (rotated_coefficient m (k / 5) (k % 5 * 2)) (rotated_coefficient m (k / 5) (k % 5 * 2 + 1))
 
--- the tables of all rows, one after another
+-- the tables of all rows, one after another; a row's table holds its five pairs
 abbrev pub rotated_tables : ConvolutionValue → List ℤ
 rotated_tables m = flat_map (rotated_pair m) (range_with_len 0 (m.rows * 5))

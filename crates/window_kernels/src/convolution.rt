@@ -78,8 +78,8 @@ fn prove_constant(border: Border)
     if let Border::Constant(_value) = border {}
 }
 
-/// The greatest number of columns in a piece. It limits the scratch memory, however wide the image
-/// is.
+/// The greatest number of columns in a piece of a row. It limits the scratch memory, however wide
+/// the image is.
 const PIECE_WIDTH: usize = 1024;
 
 /// The number of items loaded in each row beyond the columns of a piece, as `MatrixRows::write`
@@ -180,8 +180,8 @@ impl<T: Convolved> RowFormula<T, i16> for FromMatrix<'_, '_> {
     }
 }
 
-/// Writes the convolution of a U8 image to a U8 or S16 image of its size. `scratch` holds the rows
-/// that the windows of a piece read.
+/// Writes the convolution of a U8 image to a U8 or S16 output of the image's size. `scratch` holds
+/// the rows that the windows of a piece read.
 fn write_convolved<T: Convolved>(
     image: &Image<'_>,
     convolution: &Convolution,
@@ -233,9 +233,9 @@ fn convolve_with(
     }
 }
 
-/// Writes the convolution of a U8 image with a matrix to a U8 or S16 image of its size (OpenVX 1.3,
-/// "Custom Convolution"). The matrix is turned by 180 degrees. Each sum is divided by the matrix's
-/// power of two, rounded toward zero and clamped.
+/// Convolves a U8 image with a matrix, and writes the result to a U8 or S16 output of the image's
+/// size (OpenVX 1.3, "Custom Convolution"). The matrix is turned by 180 degrees. Each sum of
+/// products is divided by the matrix's power of two, rounded toward zero and clamped.
 pub fn convolve(
     image: &Image<'_>,
     convolution: &Convolution,

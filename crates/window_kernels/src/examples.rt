@@ -10,7 +10,7 @@ ghost use Rattle.vx_base.specs.Window.{greatest_of, gradient_x, gradient_y, from
 ghost use Rattle.window_kernels.specs.Examples.{row_of_four, two_by_two, three_by_three, single};
 ghost use Rattle.window_kernels.specs.Examples.{at_centre, upper_left, minus_three};
 
-/// The samples that windows read from the row 0 20 30 0, which is valid except at its ends.
+/// Samples that windows read in and around the row 0 20 30 0, which is valid except at its ends.
 pub fn places()
     ensures valid { sample_or_border row_of_four Replicate (pos 1) (pos 0) ≡ pos 20 }
     ensures left { sample_or_border row_of_four Replicate (pos 0) (negsuc 0) ≡ pos 20 }
@@ -67,7 +67,7 @@ pub fn valid_edges()
         ≡ pos 0 ∷ pos 30 ∷ pos 30 ∷ pos 0 ∷ [] }
 {}
 
-/// The horizontal gradient at the only pixel whose whole window is in the image.
+/// The horizontal gradient of a 3x3 image, at the only pixel whose whole window is in the image.
 pub fn gradients()
     ensures { from_nine S16 gradient_x Undefined three_by_three ≡ at_centre S16 (pos 8) }
 {}
@@ -79,7 +79,8 @@ pub fn rotated_matrix()
 {}
 
 /// A matrix with -3 at its centre, on an image whose only sample is 1. The quotient -3 / 2 is
-/// rounded toward zero and clamped to each format. The quotient -3 / 2^31 becomes 0.
+/// rounded toward zero and clamped to the output's format, S16 or U8. The quotient -3 / 2^31
+/// becomes 0.
 pub fn scaled_sums()
     ensures to_zero { (from_matrix S16 (minus_three 1) Replicate single).samples ≡ negsuc 0 ∷ [] }
     ensures clamped { (from_matrix U8 (minus_three 1) Replicate single).samples ≡ pos 0 ∷ [] }

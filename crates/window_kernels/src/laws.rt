@@ -43,8 +43,8 @@ pub fn median_of_nine()
         count_by (λ z. int_lt z v) zs ≤ 4 → count_by (λ z. int_lt v z) zs ≤ 4 → v ≡ median zs }
 {}
 
-/// The result of a 3x3 window function on a U8 image is a well-formed image of the output's format,
-/// and so is the result of a convolution.
+/// The result of a 3x3 window function on a U8 image is a well-formed image, and so is the result
+/// of a convolution.
 pub fn window_results_are_images()
     ensures box_means { (border : Border) (a : ImageValue) → IsBorder border → IsImage a →
         a.format ≡ U8 → IsImage (from_nine U8 box_mean border a) }

@@ -41,8 +41,8 @@ pub fn box3(image: &Image<'_>, output: &mut ImageMut<'_>, border: Border)
     })
 }
 
-/// Writes the mean of each 3x3 window with the weights 1 2 1, 2 4 2 and 1 2 1, rounded down (OpenVX
-/// 1.3, "Gaussian Filter"). Both images must be U8 and of the same size.
+/// Writes the weighted mean of each 3x3 window, rounded down (OpenVX 1.3, "Gaussian Filter"). The
+/// weights are 1 2 1, 2 4 2 and 1 2 1. Both images must be U8 and of the same size.
 pub fn gaussian3(image: &Image<'_>, output: &mut ImageMut<'_>, border: Border)
     requires { WindowFits U8 image.now output.old }
     ensures { Writes (from_nine U8 gaussian_mean border image.now) output.old output.new }

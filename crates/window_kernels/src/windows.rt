@@ -14,8 +14,8 @@ use image_core::{Image, ImageMut, RowFormula, Sample, set_all};
 use lane_rows::{Item, ThreeItems};
 use vx_base::{Border, GREATEST_SIDE, Rect};
 
-/// A sample type that is also an `Item` of `lane_rows`: `u8` or `i16`. A number has the same value
-/// in both traits.
+/// A type that is an `Item` of `lane_rows` and a `Sample`: `u8` or `i16`. A number has the same
+/// value in both traits.
 pub trait SampleItem: Sample + Item {
     ghost same: { Self.Item.value ≡ Self.Number.value };
 }
@@ -90,7 +90,7 @@ impl<K> FromNine<'_, '_, K> {
         set_all(out, self.kernel.item(above, here, below));
     }
 
-    /// Writes to `out` the samples of row `y` from column `x` + 1 on. The windows of these samples
+    /// Writes to `out` the samples of row `y` from column `x + 1` on. The windows of these samples
     /// must lie in valid columns. The rows are read without a copy.
     fn write_inside<T: Sample, S>(&self, x: u16, y: u16, scratch: &mut [S], out: &mut [T])
     where
@@ -182,10 +182,11 @@ pub const SIDE: usize = GREATEST_SIDE as usize;
 
 /// Makes a call with a slice of items on the stack.
 ///
-/// `with_scratch!(count, [item; most], row => call)` binds the slice to `row`. Initializing the
-/// items takes time, so a narrow image gets a short slice. If `count` is at most 64, the slice has
-/// 64 items. If `count` is 65 to 512, the slice has 512 items. For a greater `count` it has `most`
-/// items. With `[item; small, middle, most]` the three lengths are `small`, `middle` and `most`.
+/// `with_scratch!(count, [item; most], row => call)` binds the slice to `row`. `count` is the
+/// image's width. Initializing the items takes time, so a narrow image gets a short slice. If
+/// `count` is at most 64, the slice has 64 items. If `count` is 65 to 512, the slice has 512 items.
+/// For a greater `count` it has `most` items. With `[item; small, middle, most]` the three lengths
+/// are `small`, `middle` and `most`.
 macro_rules! with_scratch {
     ($count:expr, [$item:expr; $most:expr], $row:ident => $call:expr) => {
         with_scratch!($count, [$item; 64, 512, $most], $row => $call)

@@ -8,8 +8,8 @@ ghost use Rattle.graph_verify.specs.Order.{IsOrder};
 ghost use Rattle.graph_verify.specs.Rounds.{rounds, one_pass, IsSolution, ReadsAlone};
 ghost use Rattle.graph_verify.specs.Verdict.{two_writers, verdict};
 
-/// Running the nodes one after another, each after all nodes that feed it, gives the same values as
-/// running as many rounds as there are nodes. This holds if no object has two writers and each
+/// Running as many rounds as there are nodes gives the same values as running the nodes one after
+/// another, each after all nodes that feed it. This holds if no object has two writers and each
 /// node's values depend only on the objects that the node reads.
 pub fn once_through_an_order<V>()
     ensures { (value : Node → (Reference → V) → Reference → V) (nodes steps : List Node)

@@ -6,7 +6,7 @@ ghost use Rattle.graph_verify.specs.declared.linked.Linked.{Linked};
 ghost use Rattle.graph_verify.specs.Links.{writes, is_written};
 ghost use Rattle.graph_verify.specs.Waiting.{waiting_among, once_ordered};
 
-/// After a node is ordered, each other node waits for an input if and only if a remaining node
+/// After a node is ordered, each remaining node waits for an input if and only if a remaining node
 /// writes that input. The law assumes that the remaining nodes write all written objects except
 /// those that the ordered node writes. This assumption holds if no object has two writers.
 pub fn waits_for_the_rest()

@@ -19,9 +19,9 @@ impl Table {
     }
 
     /// Registers a delay with the graph of this name: from now on the delay ages after each run of
-    /// the graph. If the delay is registered already, nothing changes. Otherwise also ends the
-    /// graph's registrations of delays that are no longer held. `NoMemory`: the allocation failed,
-    /// and nothing has changed.
+    /// the graph. If the delay is registered already, nothing changes. Otherwise the call also ends
+    /// the graph's registrations of delays that are no longer held. `NoMemory`: the allocation
+    /// failed, and nothing has changed.
     pub fn register(&mut self, graph: u32, delay: u32) -> Result<(), TableFault>
         requires { IsUnder self.old.objects kind.Graph graph }
         ensures ok { OnOk result (self.new

@@ -138,7 +138,7 @@ fn begin_uses(entries: &mut BTreeMap<u32, Entry>, node: &Node)
     begin_use(entries, node.out2);
 }
 
-/// Adds one use for an operand of a node. `operand` is `None` if the node has no such operand.
+/// Adds one use for an operand of a node. `None` stands for an operand that the node lacks.
 fn begin_use(entries: &mut BTreeMap<u32, Entry>, operand: Option<ObjRef>)
     requires { All (λ e. e.1.uses < 4294967295) entries.old.entries }
     ensures { entries.new.entries ≡ used_more (map (λ cell. cell.name) (optional_cells operand))
@@ -170,7 +170,7 @@ fn end_uses(entries: &mut BTreeMap<u32, Entry>, charge: u64, node: &Node, pool: 
     end_use(entries, charge, node.out2, pool)
 }
 
-/// Removes one use for an operand of a node. `operand` is `None` if the node has no such operand.
+/// Removes one use for an operand of a node. `None` stands for an operand that the node lacks.
 /// Drops objects and returns the charge as `end_uses` does.
 #[tactic(auto, using(crate::proofs::KeptLemmas::end_steps))]
 fn end_use(
@@ -203,7 +203,7 @@ fn end_use(
     end_entry(entries, charge, name, pool)
 }
 
-/// Removes the uses of all nodes of the graph under a live name, as `end_uses` does for one node.
+/// Removes the uses by all nodes of the graph under a live name, as `end_uses` does for one node.
 fn end_all_uses(entries: &mut BTreeMap<u32, Entry>, charge: u64, graph: u32, pool: &mut Pool) -> u64
     requires graph { option_map (λ e. object_kind e.object)
         (lookup (is_at (nat_cmp graph)) entries.old.entries) ≡ Some kind.Graph }

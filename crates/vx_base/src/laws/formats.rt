@@ -4,8 +4,8 @@ ghost use Rattle.vx_base.specs.declared.format.Format.{Format};
 ghost use Rattle.vx_base.specs.declared.function.Function.{Function};
 ghost use Rattle.vx_base.specs.Formats.{takes_formats, open_format};
 
-/// If a function can write an image from inputs of given formats, then `open_format` is a format
-/// that its output may have.
+/// If a function can write an image from inputs of given formats, then the image may have the
+/// format that `open_format` gives.
 pub fn open_formats_suffice()
     ensures { (function : Function) (first output : Format) (second : Option Format) →
         IsTrue (takes_formats function first second (Some output)) →

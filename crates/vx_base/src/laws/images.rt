@@ -9,13 +9,13 @@ ghost use Rattle.vx_base.specs.Image.{ImageValue, IsImage, band, table, pixel_at
 ghost use Rattle.vx_base.specs.Image.{new_image};
 ghost use Rattle.vx_base.specs.Picture.{PictureValue, IsPicture, picture_of, picture_image};
 
-/// A table of samples has one sample for each pixel.
+/// The list `table` has one value for each pixel of an image of this width and height.
 pub fn table_size()
     ensures { (width height : ℕ) (f : ℕ → ℕ → ℤ) → length (table width height f) ≡ height * width }
 {}
 
-/// An image's samples are the band of all its rows. Two adjacent bands, concatenated, are the band
-/// that covers both.
+/// A well-formed image's samples are the band of all its rows. Two adjacent bands, concatenated,
+/// are the band that covers both.
 pub fn bands()
     ensures whole { (a : ImageValue) → IsImage a → band a.width 0 a.height (pixel_at a)
         ≡ a.samples }
@@ -24,9 +24,9 @@ pub fn bands()
         ≡ band width start above f ++ band width (start + above) below f }
 {}
 
-/// An image made from a function has the function's values in the valid rectangle and 0 elsewhere.
-/// The image is well-formed if its sides are permitted, its valid rectangle is canonical and within
-/// the image, and the values are samples of its format.
+/// An image made from a function of column and row has the function's values in the valid rectangle
+/// and 0 elsewhere. The image is well-formed if its sides are permitted, its valid rectangle is
+/// canonical and within the image, and the values are samples of its format.
 pub fn formula_samples()
     ensures image { (width height : ℕ) (format : Format) (valid : Rectangle) (f : ℕ → ℕ → ℤ) →
         IsTrue (is_side width) → IsTrue (is_side height) → IsCanonical valid →
@@ -50,14 +50,15 @@ pub fn pictures()
     ensures picture { (a : ImageValue) → IsImage a → IsPicture (picture_of a) }
 {}
 
-/// Two images of the same description and valid rectangle are equal if they agree at each pixel.
+/// Two well-formed images of the same description and valid rectangle are equal if they agree at
+/// each pixel.
 pub fn pixels_decide_image()
     ensures { (a b : ImageValue) → IsImage a → IsImage b →
         a.width ≡ b.width → a.height ≡ b.height → a.format ≡ b.format → a.valid ≡ b.valid →
         ((x y : ℕ) → x < a.width → y < a.height → pixel_at a x y ≡ pixel_at b x y) → a ≡ b }
 {}
 
-/// An image equals the image made from its samples.
+/// A well-formed image equals the image made from its samples.
 pub fn image_of_own_samples()
     ensures { (a : ImageValue) → IsImage a →
         image_from a.width a.height a.format a.valid (pixel_at a) ≡ a }

@@ -49,7 +49,7 @@ pub fn products_round_to_zero()
     ensures not_positive { (z : ℤ) (n : ℕ) → z ≤ℤ pos 0 → int_div z (pos (2 ^ n)) ≤ℤ pos 0 }
 {}
 
-/// Convert Bit Depth to U8 divides a sample by 2^n and rounds the quotient down.
+/// A conversion to U8 (Convert Bit Depth) divides a sample by 2^n and rounds the quotient down.
 pub fn conversions_round_down()
     ensures not_above { (a : ℤ) (n : ℕ) → (int_div_euclid a (pos (2 ^ n)) *ℤ pos (2 ^ n)) ≤ℤ a }
     ensures nearest { (a : ℤ) (n : ℕ) → a <ℤ
@@ -85,8 +85,8 @@ pub fn results_are_samples()
         IsSample U8 (threshold_result threshold a) }
 {}
 
-/// An image computed from one image by a formula has the formula's value at each valid pixel. It is
-/// well-formed if the values are samples of its format.
+/// An image computed from a well-formed image by a formula has the formula's value at each valid
+/// pixel. The computed image is well-formed if the values are samples of its format.
 pub fn from_one_samples()
     ensures image { (format : Format) (f : ℤ → ℤ) (a : ImageValue) → IsImage a →
         ((z : ℤ) → IsSample a.format z → IsSample format (f z)) → IsImage (from_one format f a) }
@@ -95,8 +95,8 @@ pub fn from_one_samples()
         pixel_at (from_one format f a) x y ≡ f (pixel_at a x y) }
 {}
 
-/// An image computed from two images by a formula is valid where both inputs are valid, and has the
-/// formula's value there. It is well-formed if the values are samples of its format.
+/// An image computed from two well-formed images by a formula is valid where both inputs are valid,
+/// and has the formula's value there. It is well-formed if the values are samples of its format.
 pub fn from_two_samples()
     ensures image { (format : Format) (f : ℤ → ℤ → ℤ) (a b : ImageValue) → IsImage a → IsImage b →
         ((y z : ℤ) → IsSample a.format y → IsSample b.format z → IsSample format (f y z)) →

@@ -3,7 +3,7 @@ ghost use Rattle.std.specs.Prelude.{◌≡◌, ◌≤◌, ℤ};
 ghost use Rattle.vx_base.specs.declared.format.Format.{Format};
 ghost use Rattle.vx_base.specs.Sample.{IsSample, AgreesModulo, distance, range_size, wrap, clamp};
 
-/// `wrap` gives the only sample that agrees with a number modulo the size of the range.
+/// `wrap` gives the only sample that agrees with a number modulo the size of the format's range.
 pub fn wrap_agrees()
     ensures sample { (format : Format) (v : ℤ) → IsSample format (wrap format v) }
     ensures agrees { (format : Format) (v : ℤ) →

@@ -25,7 +25,7 @@ pub record ReplyFrame : Type 0 where
 abbrev pub frame_of : ℕ → ℕ → List ℕ → Frame
 frame_of client op body = record { client = client; op = op; body = body }
 
--- the payload of a frame, which follows the length: the client, the op, the body
+-- the payload of a request frame: the client, the op and the body, which follow the length
 abbrev pub payload : Frame → List ℕ
 payload f = to_be_bytes w16 f.client ++ f.op ∷ f.body
 
@@ -54,7 +54,7 @@ frames_bytes frames = flat_map frame_bytes frames
 abbrev pub joined_replies : List ReplyFrame → List ℕ
 joined_replies replies = flat_map reply_bytes replies
 
--- a length that a request frame may have: 3 to 2^29
+-- a length that a request frame's payload may have: 3 to 2^29
 abbrev pub IsLength : ℕ → Type 0
 IsLength n = (3 ≤ n) × (n ≤ GREATEST_LENGTH)
 

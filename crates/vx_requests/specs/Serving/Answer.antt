@@ -9,8 +9,8 @@ use Rattle.vx_wire.specs.Requests.{request_of}
 use Rattle.vx_wire.specs.Replies.{Said, refusal, said_of}
 use Rattle.vx_wire.specs.Faults.{parse_fault, fault_code}
 
--- the reply to a parsed body, and the client's new state; a body that encodes no request is
--- refused, whether or not the client has a context
+-- the reply and the client's new state, given the result of parsing a body; a body that encodes no
+-- request is refused, whether or not the client has a context
 abbrev pub answer_spelled : LimitsValue → State → Result Request BodyFault → Said × State
 answer_spelled limits state (Ok request) = (said_of (answer_to limits state request).0, (answer_to limits state request).1)
 answer_spelled limits state (Err fault) = (refusal (fault_code (parse_fault fault)), state)

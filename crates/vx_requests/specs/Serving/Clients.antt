@@ -35,7 +35,8 @@ is_kept_of client m = (m.frame.client == client) && not m.lost
 abbrev pub mine : ℕ → List ReceivedFrame → List Frame
 mine client marked = map (λ m. m.frame) (filter (is_kept_of client) marked)
 
--- the frames that a router sends to the server of this number: the frames of the server's clients
+-- the frames that a router sends to the server of this number; `server` gives the number of each
+-- client's server
 abbrev pub sent_to : (ℕ → ℕ) → ℕ → List ReceivedFrame → List ReceivedFrame
 sent_to server number marked = filter (λ m. server m.frame.client == number) marked
 
@@ -49,9 +50,9 @@ kept_replies client (m ∷ marked) (r ∷ replies) = cond (is_kept_of client m) 
 abbrev pub no_memory : Frame → ReplyFrame
 no_memory f = reply_to f (record { code = 1; body = [] })
 
--- `answer` gives the reply to an op and a body in a state, and the new state
+-- for a state, an op and a body, `answer` gives the reply and the new state
 module _ {S : Type 0} (answer : S → ℕ → List ℕ → Said × S) where
-  -- the reply to a client's frame in a state, and the client's new state
+  -- the reply to a frame of a client in this state, and the client's new state
   abbrev pub answer_frame : S → Frame → Said × S
   answer_frame state f = answer state f.op f.body
 
@@ -65,7 +66,7 @@ module _ {S : Type 0} (answer : S → ℕ → List ℕ → Said × S) where
   alone state [] = []
   alone state (f ∷ frames) = reply_to f (answer_frame state f).0 ∷ alone (answer_frame state f).1 frames
 
-  -- the reply to a frame in these states of the clients; the reply to a lost frame is NO_MEMORY
+  -- the reply to a frame, given the clients' states; the reply to a lost frame is NO_MEMORY
   abbrev pub reply_in : (ℕ → S) → ReceivedFrame → ReplyFrame
   reply_in states m = cond m.lost (no_memory m.frame) (reply_to m.frame (answer_frame (states m.frame.client) m.frame).0)
 
@@ -78,8 +79,8 @@ module _ {S : Type 0} (answer : S → ℕ → List ℕ → Said × S) where
   abbrev pub states_after : (ℕ → S) → List ReceivedFrame → ℕ → S
   states_after start marked client = after (start client) (mine client marked)
 
-  -- the replies to frames that come after the frames `before`; each reply is given in the states
-  -- that the earlier frames leave
+  -- the replies to frames that come after the frames `before`; each frame is answered in the states
+  -- that all earlier frames leave
   abbrev pub served_after : (ℕ → S) → List ReceivedFrame → List ReceivedFrame → List ReplyFrame
   served_after start before [] = []
   served_after start before (m ∷ marked) = reply_in (states_after start before) m ∷ served_after start (before ++ m ∷ []) marked

@@ -41,15 +41,15 @@ abbrev pub reply_frame : LimitsValue → (ℕ → State) → Answered → ReplyF
 reply_frame limits states a = spelled_frame a.client a.op (said_in limits (states a.client) a.content)
 
 module _ (limits : LimitsValue) (left_old left_new : Option (List ℕ)) (old new : ℕ → State) where
-  -- after a frame's client and op: a body of `len` bytes was read and answered, or fewer bytes were
-  -- read
+  -- after a frame's client and op: a body of `len` bytes was read and answered, or fewer than `len`
+  -- bytes were read
   abbrev pub AnswersBody : (client op len : ℕ) → Result ReplyContent StreamFault → Type 0
   AnswersBody client op len (Ok content) = (body : List ℕ) × Consumes left_old left_new body × (length body ≡ len) × All (λ b. b < 2 ^ 8) body
       × IsReply limits (frame_of client op body) old new (reply_frame limits new (record { client = client; op = op; content = content }))
   AnswersBody client op len (Err e) = ReadsPart left_old left_new len e × SameStates old new
 
-  -- after a frame's length: a payload of `len` bytes was read and answered, or fewer bytes were
-  -- read
+  -- after a frame's length: a payload of `len` bytes was read and answered, or fewer than `len`
+  -- bytes were read
   abbrev pub AnswersPayload : ℕ → Result Answered StreamFault → Type 0
   AnswersPayload len (Ok a) = (f : Frame) × IsFrame f × (length f.body + 3 ≡ len) × Consumes left_old left_new (payload f) × IsReply limits f old new (reply_frame limits new a)
   AnswersPayload len (Err e) = ReadsPart left_old left_new len e × SameStates old new

@@ -33,7 +33,7 @@ CountsReads reads_old reads_new budget_old budget_new result =
 abbrev pub Fills : Option (List ℕ) → Option (List ℕ) → List ℕ → ℕ → Type 0
 Fills old new buf count = (count ≤ length buf) × Consumes old new (take count buf) × (count < length buf → IsAtEnd new)
 
--- fewer bytes than the buffer's length were read into its front
+-- bytes were read into the front of the buffer, but fewer than it can hold
 abbrev pub FillsPart : Option (List ℕ) → Option (List ℕ) → List ℕ → Type 0
 FillsPart old new buf = (count : ℕ) × (count < length buf) × Consumes old new (take count buf)
 

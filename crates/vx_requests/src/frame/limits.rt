@@ -12,8 +12,8 @@ pub const GREATEST_LENGTH: u32 = 536_870_912;
 /// client, the op and the reference before the text.
 pub const GREATEST_TEXT: usize = GREATEST_LENGTH as usize - 8;
 
-/// Returns whether a request fits a frame. Only a request with a text of more than 536,870,904
-/// bytes does not.
+/// Returns whether a request fits a frame: every request does, unless it has a text of more than
+/// 536,870,904 bytes.
 pub fn fits_a_frame(request: &Request) -> bool
     ensures { result ≡ fits_a_frame request.now }
 {

@@ -23,8 +23,8 @@ pub struct Reader<'a, S> {
 
 impl<S: Source> Reader<'_, S> {
     /// Reads the length of the next frame, and no byte after the length. `None`: the stream has
-    /// ended. `BadLength`: the length is out of range. `Truncated`: the stream ends within the
-    /// length.
+    /// ended. `BadLength`: the length is out of range. `Truncated`: the stream ends within the four
+    /// bytes of the length.
     pub fn read_length(&mut self) -> Result<Option<u32>, StreamFault>
         requires { CanRead S.reads S.failures self.old }
         ensures read { ReadsLength

@@ -229,7 +229,7 @@ fn head_and_description(client: u16, op: u8, desc: Desc) -> [u8; 13]
     [a, b, c, d, e, f, g, h, i, j, k, l, m]
 }
 
-/// Writes the start of a reply frame to the front of `bytes`: everything before the samples. The
+/// Writes the start of a reply frame, everything before the samples, to the front of `bytes`. The
 /// reply is the PGM text of a U8 image. Returns the number of bytes written.
 fn put_text_head(bytes: &mut [u8; TEXT_HEAD], client: u16, op: u8, desc: Desc) -> usize
     ensures within { result ≤ 25 }

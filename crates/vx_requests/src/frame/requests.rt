@@ -187,7 +187,7 @@ fn spell_short(client: u16, op: u8, body: &[u8], frame: &mut [u8])
     frame[7..].copy_from_slice(body);
 }
 
-/// Returns the bytes before the body of a frame whose length is `len`.
+/// Returns the bytes before a request's body. `len` is the number of bytes after the length field.
 fn frame_head(len: u32, client: u16, op: u8) -> [u8; 7]
     ensures { result ≡ frame_head len client op }
 {

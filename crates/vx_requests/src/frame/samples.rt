@@ -45,8 +45,8 @@ pub fn write_wide<S: WideSample, K: Sink>(sink: &mut K, samples: &[S]) -> Result
     Ok(())
 }
 
-/// Encodes samples into the front of the block, and writes the encoded bytes. The block must be
-/// long enough for all of these bytes.
+/// Encodes samples into the front of `block`, and writes the encoded bytes. `block` must be long
+/// enough for all of these bytes.
 fn write_sample_block<S: WideSample, K: Sink>(
     sink: &mut K,
     block: &mut [u8],

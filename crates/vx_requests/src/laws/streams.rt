@@ -24,7 +24,7 @@ pub fn no_prefix()
         frame_bytes g ≡ frame_bytes f ++ more → more ≡ [] }
 {}
 
-/// Any stream of bytes splits into whole frames and a rest.
+/// Any stream of bytes splits into whole frames and a rest that doesn't begin with a whole frame.
 pub fn splits()
     ensures { (stream : List ℕ) → All (λ byte. byte < 256) stream →
         (frames : List Frame) × (rest : List ℕ) × Splits stream frames rest }
@@ -36,7 +36,7 @@ pub fn one_split()
         Splits stream fs r → Splits stream gs s → (fs ≡ gs) × (r ≡ s) }
 {}
 
-/// A client gets the same replies to its kept frames as it would get as the only client.
+/// A client gets the same replies to its kept frames as if only these frames were sent.
 pub fn each_alone()
     ensures { (limits : LimitsValue) (start : ℕ → State) (marked : List ReceivedFrame)
         (client : ℕ) →
@@ -44,8 +44,8 @@ pub fn each_alone()
         ≡ alone (answer limits) (start client) (mine client marked) }
 {}
 
-/// If all frames are of one client and no frame was lost, the replies are those that this client
-/// would get as the only client.
+/// If all frames are of one client and no frame was lost, `served` gives the same replies as
+/// `alone`, which knows only this client.
 pub fn one_client()
     ensures { (limits : LimitsValue) (start : ℕ → State) (marked : List ReceivedFrame)
         (client : ℕ) →
@@ -81,7 +81,8 @@ pub fn lost_shows()
 {}
 
 /// Let the source's bytes be known. Let `serve` succeed, or fail with `Truncated` or `BadLength`.
-/// The source's bytes then split into the frames that `serve` read and all bytes after them.
+/// The source's bytes then split into frames and a rest: the frames that `serve` read, and all
+/// bytes after them.
 pub fn session_splits()
     ensures { (limits : LimitsValue) (input more : List ℕ) (taken_old taken_new : Option (List ℕ))
         (old new : ℕ → State) (result : Result Summary StreamFault) →

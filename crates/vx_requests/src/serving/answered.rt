@@ -66,7 +66,7 @@ pub fn write_answered<K: Sink>(
     }
 }
 
-/// Writes the frame of a reply that was computed, and returns the reply's code.
+/// Writes the frame of a reply that was computed, flushes the sink, and returns the reply's code.
 fn write_made_reply<K: Sink>(
     sink: &mut K,
     client: u16,

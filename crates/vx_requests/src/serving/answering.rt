@@ -20,10 +20,10 @@ use std::alloc::Global;
 use vx_base::Code;
 use vx_wire::{Op, parse};
 
-/// The longest payload that is read into a fixed buffer: a body of 64 bytes, the client and the op.
+/// The longest payload that is read into a fixed buffer: the client, the op and a body of 64 bytes.
 const SMALL: usize = 67;
 
-/// A whole frame, borrowed from the bytes that were read.
+/// A whole request frame, whose body is borrowed from the bytes that were read.
 #[derive(Clone, Copy)]
 struct RequestFrame<'a> {
     client: u16,

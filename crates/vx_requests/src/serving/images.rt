@@ -20,10 +20,10 @@ use vx_wire::{ParseFault, take_image_head};
 /// The number of bytes before the samples in the body of a WriteImage.
 const HEAD: usize = 10;
 
-/// Reads the body of a WriteImage, which has `count` bytes, and answers the frame.
+/// Reads the `count` bytes of a WriteImage's body, and answers the frame.
 ///
-/// The rest of the body is skipped if the body encodes no request, if the request is refused, or if
-/// no memory can be allocated for the samples.
+/// The bytes after the first `HEAD` bytes are skipped if the body encodes no request, if the
+/// request is refused, or if no memory can be allocated for the samples.
 pub fn answer_write_image<S: Source>(
     reader: &mut Reader<S>,
     runtime: &mut Runtime,

@@ -9,7 +9,7 @@ pub struct Summary {
 }
 
 impl Summary {
-    /// Counts one more reply with this code.
+    /// Counts one more reply, which has this code.
     pub(crate) fn count(&mut self, code: u8)
         requires requests_fit { self.old.requests < 2 ^ 63 }
         requires refused_fit { self.old.refused < 2 ^ 63 }

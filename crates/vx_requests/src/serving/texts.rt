@@ -12,8 +12,8 @@ use client_model::Reply;
 use vx_base::Code;
 use vx_wire::{ParseFault, take_image_pgm_fields};
 
-/// Returns the reply to a WriteImagePgm with this body. The text isn't copied: its samples are
-/// parsed straight into the image's new samples.
+/// Answers a WriteImagePgm that has this body, and returns the reply. The text isn't copied: its
+/// samples are parsed straight into the image's new samples.
 pub fn answer_write_image_pgm(runtime: &mut Runtime, client: u16, op: u8, body: &[u8]) -> Reply
     requires { op_numbered op ≡ Some WriteImagePgm }
     ensures replies { IsReply runtime.old.limits (frame_of client op body.now)

@@ -2,12 +2,12 @@
 
 use thiserror::Error;
 
-/// The fault of a read, a write or a flush. The failed call moved no bytes.
+/// The fault of a read, a write or a flush. A read or a write that failed took no bytes.
 #[derive(Clone, Copy, Debug, PartialEq, Eq, Error)]
 #[error("a read, a write or a flush failed")]
 pub struct Failed;
 
-/// Why a stream ended early.
+/// Why reading or writing a stream stopped early.
 #[derive(Clone, Copy, Debug, PartialEq, Eq, Error)]
 pub enum StreamFault {
     /// The bytes ended within a frame.

@@ -14,7 +14,7 @@ pub struct FromRead<R> {
 }
 
 impl<R: Read> FromRead<R> {
-    /// Returns a source over a reader, with no reads counted.
+    /// Returns a source over a reader, with no reads or failures counted yet.
     pub fn new(reader: R) -> Self
         ensures reader { reader_of result ≡ reader }
         ensures reads { ⟦<FromRead<R> as Source>⟧.reads result ≡ 0 }

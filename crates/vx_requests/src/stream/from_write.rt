@@ -13,7 +13,7 @@ pub struct FromWrite<W> {
 }
 
 impl<W: Write> FromWrite<W> {
-    /// Returns a sink over a writer, with no failures counted.
+    /// Returns a sink over a writer, with no failures counted yet.
     pub fn new(writer: W) -> Self
         ensures writer { writer_of result ≡ writer }
         ensures failures { ⟦<FromWrite<W> as Sink>⟧.failures result ≡ 0 }

@@ -8,8 +8,8 @@ use crate::body_fault::BodyFault;
 use crate::fields::Fields;
 use vx_base::Bins;
 
-/// Reads the number of bins, or their range: a number from 1 to 256. `InvalidValue`: another
-/// number.
+/// Reads the number of bins, or their `range`: a number from 1 to 256. `InvalidValue`: the number
+/// is 0 or above 256.
 fn take_up_to_256(fields: &mut Fields) -> Result<u16, BodyFault>
     ensures taken { Takes take_up_to_256 fields.old fields.new result }
     ensures allowed { IfOk result (λ n. IsTrue (is_up_to_256 n)) }
@@ -23,7 +23,7 @@ fn take_up_to_256(fields: &mut Fields) -> Result<u16, BodyFault>
 }
 
 /// Reads the offset: 0 to 255. The offset is the least sample that falls into a bin.
-/// `InvalidValue`: above 255.
+/// `InvalidValue`: the offset is above 255.
 fn take_offset(fields: &mut Fields) -> Result<u16, BodyFault>
     ensures taken { Takes take_offset fields.old fields.new result }
     ensures limit { IfOk result (λ n. n < 256) }
@@ -36,7 +36,7 @@ fn take_offset(fields: &mut Fields) -> Result<u16, BodyFault>
     }
 }
 
-/// Reads the bins of a distribution. The last value that they cover, offset + range - 1, may be
+/// Reads the bins of a distribution. The last value that they cover, `offset + range - 1`, may be
 /// above 255.
 pub fn take_bins(fields: &mut Fields) -> Result<Bins, BodyFault>
     ensures { Takes take_bins fields.old fields.new result }

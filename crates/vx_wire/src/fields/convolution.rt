@@ -10,7 +10,8 @@ use crate::fields::Fields;
 use crate::fields::samples::{decode_wide, take_samples};
 use vx_base::{Convolution, Format, GREATEST_COEFFICIENTS};
 
-/// Reads the number of columns or rows: 3, 5, 7 or 9. `InvalidDimension`: another number.
+/// Reads the number of columns or rows: 3, 5, 7 or 9. `InvalidDimension`: the number is none of
+/// these.
 fn take_odd_side(fields: &mut Fields) -> Result<u8, BodyFault>
     ensures taken { Takes take_odd_side fields.old fields.new result }
     ensures allowed { IfOk result (λ n. IsTrue (is_odd_side n)) }
@@ -24,8 +25,8 @@ fn take_odd_side(fields: &mut Fields) -> Result<u8, BodyFault>
     }
 }
 
-/// Reads the exponent n, 0 to 31, of the scale 2^n by which sums are divided. `InvalidValue`: above
-/// 31.
+/// Reads the exponent n, 0 to 31, of the scale 2^n by which sums are divided. `InvalidValue`: the
+/// exponent is above 31.
 fn take_exponent(fields: &mut Fields) -> Result<u8, BodyFault>
     ensures taken { Takes take_exponent fields.old fields.new result }
     ensures limit { IfOk result (λ n. n ≤ 31) }

@@ -9,7 +9,7 @@ use crate::fields::Fields;
 use crate::fields::format::{format_number, take_format};
 use vx_base::{Desc, GREATEST_SIDE};
 
-/// Reads a width or a height: 1 to 8192. `InvalidDimension`: out of range.
+/// Reads a width or a height: 1 to 8192. `InvalidDimension`: the number is 0 or above 8192.
 fn take_side(fields: &mut Fields) -> Result<u16, BodyFault>
     ensures taken { Takes take_side fields.old fields.new result }
     ensures allowed { IfOk result (λ n. IsTrue (is_side n)) }

@@ -5,7 +5,7 @@ ghost use Rattle.vx_wire.specs.Extremes.{pixel_bytes, extremes_bytes};
 
 use vx_base::Extremes;
 
-/// Returns the bytes of a pixel: its column, then its row.
+/// Returns the bytes of a pixel's place: the column, then the row.
 fn pixel_bytes(pixel: (u16, u16)) -> [u8; 4]
     ensures { result ≡ pixel_bytes pixel }
 {

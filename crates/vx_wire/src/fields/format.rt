@@ -9,7 +9,7 @@ use crate::body_fault::BodyFault;
 use crate::fields::Fields;
 use vx_base::Format;
 
-/// Reads the format of an image: 1, 2 or 3. `InvalidFormat`: another number.
+/// Reads the format of an image: 1, 2 or 3. `InvalidFormat`: the number is none of these.
 pub fn take_format(fields: &mut Fields) -> Result<Format, BodyFault>
     ensures { Takes take_format fields.old fields.new result }
 {
@@ -21,8 +21,8 @@ pub fn take_format(fields: &mut Fields) -> Result<Format, BodyFault>
     }
 }
 
-/// Reads the format of a partial description: 0 where it is open, or 1, 2 or 3. `InvalidFormat`:
-/// another number.
+/// Reads the format of a partial description: 1, 2 or 3, or 0 if the format is open.
+/// `InvalidFormat`: the number is none of these.
 pub fn take_open_format(fields: &mut Fields) -> Result<Option<Format>, BodyFault>
     ensures { Takes take_open_format fields.old fields.new result }
 {
@@ -35,8 +35,8 @@ pub fn take_open_format(fields: &mut Fields) -> Result<Option<Format>, BodyFault
     }
 }
 
-/// Reads the input format of a lookup table or a threshold: 1 or 2. `InvalidFormat`: another
-/// number.
+/// Reads the input format of a lookup table or a threshold: 1 or 2. `InvalidFormat`: the number is
+/// neither.
 pub fn take_input_format(fields: &mut Fields) -> Result<Format, BodyFault>
     ensures taken { Takes take_input_format fields.old fields.new result }
     ensures input { IfOk result (λ f. f ≢ FormatU32) }

@@ -24,7 +24,7 @@ fn take_function(fields: &mut Fields) -> Result<Function, BodyFault>
 }
 
 /// Reads a border: its mode, then its constant, which is 0 unless the mode is CONSTANT.
-/// `InvalidParameters`: another mode or constant.
+/// `InvalidParameters`: no border has this mode and this constant.
 fn take_border(fields: &mut Fields) -> Result<Border, BodyFault>
     ensures { Takes take_border fields.old fields.new result }
 {
@@ -50,7 +50,7 @@ fn border_bytes(border: Border) -> [u8; 2]
 }
 
 /// Reads the overflow policy: 0 for WRAP or 1 for SATURATE. If the function has no policy, the
-/// number must be 0. `InvalidParameters`: another number.
+/// number must be 0. `InvalidParameters`: the number isn't allowed.
 fn take_policy(fields: &mut Fields, parameters: Parameters) -> Result<Policy, BodyFault>
     ensures taken { Takes (take_policy parameters) fields.old fields.new result }
     ensures has { IfOk result (λ p. IsTrue (parameters.policy || is_wrap p)) }

@@ -23,7 +23,7 @@ pub enum Presence {
 }
 
 /// Reads an operand, and returns `None` if the operand is absent. `InvalidParameters`: a required
-/// operand is absent, or an operand is given that the function doesn't have.
+/// operand is absent, or an operand is given where the function has none.
 fn take_operand(fields: &mut Fields, presence: Presence) -> Result<Option<ObjRef>, BodyFault>
     ensures taken { Takes (take_operand presence) fields.old fields.new result }
     ensures has { IfOk result (λ o. IsTrue (is_operand presence o)) }

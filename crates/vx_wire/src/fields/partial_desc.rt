@@ -11,7 +11,8 @@ use crate::fields::Fields;
 use crate::fields::format::{open_format_number, take_open_format};
 use vx_base::{GREATEST_SIDE, PartialDesc};
 
-/// Reads a width or a height: 0 where it is open, or 1 to 8192. `InvalidDimension`: out of range.
+/// Reads a width or a height: 1 to 8192, or 0 if the side is open. `InvalidDimension`: the number
+/// is above 8192.
 fn take_open_side(fields: &mut Fields) -> Result<Option<u16>, BodyFault>
     ensures taken { Takes take_open_side fields.old fields.new result }
     ensures allowed { IfOk result (λ side. IsTrue (may_be_side side)) }

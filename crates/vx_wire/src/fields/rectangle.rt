@@ -7,8 +7,8 @@ use crate::body_fault::BodyFault;
 use crate::fields::Fields;
 use vx_base::Rect;
 
-/// Reads a rectangle: its bounds are all 0, or each start is below its end. `InvalidValue`: other
-/// bounds.
+/// Reads a rectangle: its bounds are all 0, or each start is less than its end. `InvalidValue`:
+/// neither is the case.
 pub fn take_rectangle(fields: &mut Fields) -> Result<Rect, BodyFault>
     ensures { Takes take_rectangle fields.old fields.new result }
 {

@@ -15,7 +15,7 @@ use crate::fields::Fields;
 use std::alloc::{AllocError, Global};
 use vx_base::{Format, Samples};
 
-/// Reads the bytes of `count` samples of a format. `InvalidParameters`: fewer bytes are left.
+/// Reads the bytes of `count` samples of a format. `InvalidParameters`: too few bytes are left.
 pub fn take_samples<'a>(
     fields: &mut Fields<'a>,
     format: Format,

@@ -6,7 +6,7 @@ use crate::body_fault::BodyFault;
 use crate::fields::Fields;
 use vx_base::SlotCount;
 
-/// Reads the number of slots: 1 to 16. `InvalidValue`: out of range.
+/// Reads the number of slots: 1 to 16. `InvalidValue`: the number is out of range.
 pub fn take_slots(fields: &mut Fields) -> Result<SlotCount, BodyFault>
     ensures { Takes take_slots fields.old fields.new result }
 {

@@ -14,7 +14,7 @@ use crate::fields::samples::WideSample;
 use vx_base::{Format, ThresholdKind, ThresholdRule};
 
 /// Reads a threshold's kind, 0 for BINARY and 1 for RANGE. Returns whether the kind is RANGE.
-/// `InvalidParameters`: another number.
+/// `InvalidParameters`: the number is neither 0 nor 1.
 fn take_is_range(fields: &mut Fields) -> Result<bool, BodyFault>
     ensures { Takes take_is_range fields.old fields.new result }
 {
@@ -33,7 +33,8 @@ fn take_signed(fields: &mut Fields) -> Result<i16, BodyFault>
     Ok(i16::decode(bytes))
 }
 
-/// Reads a limit, which is a sample of the format. `InvalidValue`: out of the format's range.
+/// Reads a limit, a signed number of two bytes. `InvalidValue`: the limit isn't a sample of the
+/// format.
 fn take_limit(fields: &mut Fields, format: Format) -> Result<i16, BodyFault>
     ensures taken { Takes (take_limit format) fields.old fields.new result }
     ensures sample { IfOk result (λ z. IsTrue (is_sample format z)) }

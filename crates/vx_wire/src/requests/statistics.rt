@@ -9,7 +9,7 @@ use crate::fields::bins::take_bins;
 use crate::requests::name_alone;
 use client_model::Request;
 
-/// Parses the body of CreateDistribution: a number of bins, an offset and a range.
+/// Parses the body of CreateDistribution: the number of bins, the offset and the range.
 pub fn create_distribution(body: &[u8]) -> Result<Request, BodyFault>
     ensures { result ≡ create_distribution_in body.now }
 {
