@@ -115,7 +115,8 @@ fn is_given_virtual(operand: Option<Operand>) -> bool
     operand.is_some_and(Operand::is_virtual)
 }
 
-/// Returns whether a node accumulates into a virtual image, which has no content when a run begins.
+/// Returns whether this node accumulates into a virtual image, which has no content when a run
+/// begins.
 fn has_virtual_sum(linked: &Linked) -> bool
     ensures { result ≡ has_virtual_sum linked.now }
 {

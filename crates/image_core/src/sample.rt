@@ -81,7 +81,7 @@ static ZERO_SHORTS: [i16; LONGEST_ROW] = [0; LONGEST_ROW];
 
 static ZERO_WORDS: [u32; LONGEST_ROW] = [0; LONGEST_ROW];
 
-/// Makes an output over one of three slices; the other two are empty.
+/// Makes an output over one of three slices. The other two must be empty.
 macro_rules! image_mut {
     ($desc:expr, $rows:expr, $bytes:expr, $shorts:expr, $words:expr) => {
         ImageMut {

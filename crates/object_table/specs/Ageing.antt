@@ -10,7 +10,7 @@ use Rattle.object_table.specs.Object.{aged_object}
 abbrev pub is_there : List NamedObject → ℕ → Bool
 is_there objects name = is_some (object_held objects name)
 
--- the graph with one more registered delay, and without registered delays that are no longer held
+-- the graph with one more registered delay, and without those that are no longer held
 abbrev pub one_more : List NamedObject → GraphValue → ℕ → GraphValue
 one_more objects graph delay = with_delays graph (filter (is_there objects) graph.delays ++ delay ∷ [])
 
