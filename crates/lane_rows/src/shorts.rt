@@ -19,8 +19,8 @@ use vx_base::Policy;
 ///
 /// The low and high halves of each product are computed separately. Multiplying numbers of 16 bits
 /// and joining the halves is faster than widening the numbers and multiplying them in 32 bits. In
-/// registers of 32 bytes, a processor joins low and high halves within each 16 bytes. This gives the
-/// order with exchanged quarters.
+/// registers of 32 bytes, a processor joins low and high halves within each 16 bytes. This gives
+/// the order with exchanged quarters.
 pub fn products(a: i16x16, b: i16x16) -> i32x16
     requires a_len { length a ≡ 16 }
     requires b_len { length b ≡ 16 }

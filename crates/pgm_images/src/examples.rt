@@ -7,8 +7,8 @@ ghost use Rattle.pgm_images.specs.declared.fault.PgmFault.TheVariants.{InvalidVa
 ghost use Rattle.pgm_images.specs.Reading.{read_result};
 ghost use Rattle.pgm_images.specs.Writing.{pgm_text};
 
-/// Texts of two samples of one byte each, 10 and 20, with and without comments in the header. Then a
-/// text of one sample of two bytes.
+/// Texts of two samples of one byte each, 10 and 20, with and without comments in the header. Then
+/// a text of one sample of two bytes.
 pub fn raw()
     ensures bytes { read_result (codes "P5\n2 1\n255\n" ++ 10 ∷ 20 ∷ [])
         ≡ Ok (record {
