@@ -62,9 +62,9 @@ tally_objects (c ∷ cells) (t ∷ tallies) = (c, tally_object t) ∷ tally_obje
 
 -- ---- runs
 
--- the results of a run of tasks, compared with any solution. Each plane that keeps its block has
--- the solution's image. If a reduction's tally was new, it becomes the tally of the reduction's
--- input image in the solution.
+-- the results of a run of tasks, compared with any solution. Each plane that has one block of its
+-- own throughout the run has the solution's image. If a reduction's tally was new, it becomes the
+-- tally of the reduction's input image in the solution.
 pub record Leaves (tables : ℕ → Option ObjectValue) (tasks : List Task) (planes : List PlaneValue) (tallies : List Tally) (after : List PlaneValue) (counted : List Tally) : Type 0 where
   pub images : (whole : ℕ → ImageValue) → SolvesSteps tables (length planes) tasks (block_images planes) whole
       → (c : ℕ) → KeepsBlock (length planes) tasks c → block_image (plane after c) ≡ whole c

@@ -22,7 +22,7 @@ ghost use Rattle.graph_run.specs.Operands.{CellsStand};
 ghost use Rattle.graph_run.specs.Solution.{WritesNo, ReadImages, Solves};
 
 /// If no object has two writers, running each node once, after the nodes that feed it, gives the
-/// same result as the rounds of a run. In each round all nodes write at the same time.
+/// same result as a run. A run goes in rounds: in each round all nodes write at the same time.
 #[tactic(auto, using(crate::proofs::OrderLaws::order_gives_rounds))]
 pub fn once_in_order()
     ensures { (nodes steps : List Node) (objects : List NamedObject) → IsOrder feeds nodes steps →
@@ -31,8 +31,8 @@ pub fn once_in_order()
         rounds_of_nodes nodes (length nodes) objects ≡ one_by_one steps objects }
 {}
 
-/// If a graph has no cycle and no object has two writers, then the result of the rounds of a run is
-/// the only solution of the nodes' equations.
+/// If a graph has no cycle and no object has two writers, then the result of a run is the only
+/// solution of the nodes' equations.
 #[tactic(auto, using(crate::proofs::SolutionLaws::only_solution))]
 pub fn rounds_solve()
     ensures solves { (nodes : List Node) (before : List NamedObject) → two_writers nodes ≡ false →
