@@ -58,16 +58,21 @@ static size_t missing_bytes(const struct connection *connection) {
     return get32(connection->head) - 4 - connection->body_count;
 }
 
-/* Counts bytes of a body that are in their place. Converts the samples that are complete, and ends
-   the request when its reply is. */
+/* The place of a byte of the samples. */
+static uint8_t *sample_at(const struct request *request, size_t at) {
+    return request->samples + at / request->row * request->stride + at % request->row;
+}
+
+/* Counts bytes of a body that are in their place, all of them in one row. Converts the samples that
+   are complete, and ends the request when its reply is. */
 static void advance(struct connection *connection, size_t count) {
     struct request *request = connection->first;
     connection->body_count += count;
     if (request->unit > 1 && connection->body_count > request->body_length) {
         size_t samples = connection->body_count - request->body_length;
         size_t whole = samples / request->unit * request->unit;
-        turn_samples(request->samples + request->turned, request->samples + request->turned,
-                     whole - request->turned, request->unit);
+        uint8_t *place = sample_at(request, request->turned);
+        turn_samples(place, place, whole - request->turned, request->unit);
         request->turned = whole;
     }
     if (missing_bytes(connection) > 0)
@@ -80,18 +85,18 @@ static void advance(struct connection *connection, size_t count) {
     connection->head_count = connection->body_count = 0;
 }
 
-/* The place for the next bytes of the body, and how many fit there. */
+/* The place for the next bytes of the body, and how many fit there: not those of another row. */
 static uint8_t *place_of(struct connection *connection, size_t *count) {
     struct request *request = connection->first;
     size_t taken = connection->body_count;
     *count = missing_bytes(connection);
     if (*count == 0)
         return NULL;
-    if (taken >= request->body_length)
-        return request->samples + (taken - request->body_length);
-    if (*count > request->body_length - taken)
-        *count = request->body_length - taken;
-    return request->body + taken;
+    bool is_sample = taken >= request->body_length;
+    size_t at = is_sample ? taken - request->body_length : taken;
+    size_t left = is_sample ? request->row - at % request->row : request->body_length - at;
+    *count = *count < left ? *count : left;
+    return is_sample ? sample_at(request, at) : request->body + at;
 }
 
 /* Parses the bytes of the chunk. Returns false where they aren't replies to the requests. */
@@ -114,7 +119,7 @@ static bool parse_chunk(struct connection *connection) {
 
 /* Chooses where the next bytes are read to, so that samples needn't be copied. The rest of a long
    body goes to its place. If a reply with samples comes next, what is before them goes to the chunk
-   and they go to their place. Anything else goes to the chunk. */
+   and their first row goes to its place. Anything else goes to the chunk. */
 static void plan_read(struct connection *connection, struct iovec parts[2], size_t *chunked) {
     const struct request *request = connection->first;
     size_t left = 0;
@@ -128,7 +133,7 @@ static void plan_read(struct connection *connection, struct iovec parts[2], size
     } else if (connection->head_count == 0 && request != NULL && request->samples_length > 0) {
         *chunked = REPLY_HEAD + request->body_length;
         parts[0].iov_len = *chunked;
-        parts[1] = (struct iovec){request->samples, request->samples_length};
+        parts[1] = (struct iovec){request->samples, request->row};
     }
 }
 

@@ -57,12 +57,12 @@ static vx_node miss_node(vx_graph graph, const struct call *call) {
     return (vx_node)error_of(graph->base.context, VX_ERROR_NO_MEMORY);
 }
 
-vx_node add_missing_node(vx_graph graph, const char *why) {
+vx_node add_missing_node(vx_graph graph, vx_status status, const char *why) {
     vx_context context = enter(graph, VX_TYPE_GRAPH);
     if (context == NULL)
         return (vx_node)pass_error(graph);
-    tell(&graph->base, VX_ERROR_NOT_SUPPORTED, "%s", why);
-    vx_node failed = fail_node(graph, VX_ERROR_NOT_SUPPORTED);
+    tell(&graph->base, status, "%s", why);
+    vx_node failed = fail_node(graph, status);
     leave(context, VX_SUCCESS);
     return failed;
 }

@@ -1,5 +1,6 @@
 /* Images from handles, whose samples are in the program's memory. Before a run the images that
-   nodes read are sent to the server. After it the images that they wrote are read back. */
+   nodes read are sent to the server. After it the images that they wrote are read back. That takes
+   no memory: the run can't be undone. */
 #include "internal.h"
 
 #include <string.h>

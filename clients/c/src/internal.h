@@ -1,8 +1,8 @@
 /* Declarations that the files of the library share.
 
-   Only public functions lock. One that changes objects or asks the server calls enter and leave.
-   One that only reads objects calls look and look_away, and needn't wait for a call that waits for
-   the server. */
+   Only public functions lock, and those that are the whole of one, such as release. One that
+   changes objects or asks the server calls enter and leave, also within another one. One that only
+   reads objects calls look and look_away, and needn't wait for a call that waits for the server. */
 #ifndef FEQYLDAN_INTERNAL_H
 #define FEQYLDAN_INTERNAL_H
 
@@ -58,10 +58,11 @@ struct request {
     bool is_done, is_quiet;
     uint8_t *body;
     size_t body_length;
-    /* Samples at the end of the body, of unit bytes each. The first turned bytes are in this
-       machine's byte order already. */
+    /* Where the samples at the end of the body go: rows of row bytes, each stride bytes after the
+       one before. Without gaps all are one row. A sample has unit bytes. The first turned bytes of
+       the samples are in this machine's byte order already. */
     uint8_t *samples;
-    size_t samples_length, unit, turned;
+    size_t samples_length, row, stride, unit, turned;
     struct request *next;
 };
 
@@ -193,9 +194,9 @@ struct _vx_context {
     bool is_logging, is_in_callback;
     /* The thread that the callback runs in. */
     pthread_t caller;
-    /* How many calls are nested, since a log callback may make calls; and whether callbacks left
-       objects unused. The outermost call destroys these when it leaves: the calls around a callback
-       may still have them in hand. */
+    /* How many calls are nested, each with both locks: a log callback may make calls, and one call
+       may make another. And whether callbacks left objects unused. The outermost call destroys
+       these when it leaves: the calls around a callback may still have them in hand. */
     unsigned depth;
     bool has_unused;
     /* Buffers for the next pictures. */
@@ -221,7 +222,8 @@ vx_status create(vx_context context, enum op op, const uint8_t *body, size_t len
                  vx_uint32 *name);
 /* Releases an object on the server, unless its name is 0 or the context is closed. */
 void forget(vx_context context, vx_uint32 name);
-/* Between these two a call waits for the server, and other threads may look at objects. */
+/* Between these two a call waits for the server, and other threads may look at objects. A nested
+   call unlocks these for the calls around it too. */
 void let_look(vx_context context);
 void end_look(vx_context context);
 /* Waits for the reply to a request. One that couldn't be sent fails: the server has ended. */
@@ -554,8 +556,8 @@ struct _vx_graph {
 };
 
 vx_node add_node(vx_graph graph, struct call call);
-/* Refuses a node with a log entry. The graph can't be verified any more. */
-vx_node add_missing_node(vx_graph graph, const char *why);
+/* Refuses a node with a status and a log entry. The graph can't be verified any more. */
+vx_node add_missing_node(vx_graph graph, vx_status status, const char *why);
 /* Notes that the graph has changed, so that it has to be verified again. A run that is scheduled
    goes on. */
 void change(vx_graph graph);

@@ -86,12 +86,17 @@ PUBLIC vx_node VX_API_CALL vxCreateGenericNode(vx_graph graph, vx_kernel kernel)
     vx_context context = enter(graph, VX_TYPE_GRAPH);
     if (context == NULL)
         return (vx_node)pass_error(graph);
+    vx_status status = check(context, kernel, VX_TYPE_KERNEL);
     vx_node made;
-    if (check(context, kernel, VX_TYPE_KERNEL) == VX_SUCCESS)
+    if (status == VX_SUCCESS)
         made = add_node(graph, (struct call){.function = kernel->function, .is_generic = true});
     else
-        made = add_missing_node(graph, "vxCreateGenericNode: kernel isn't a kernel: get one by "
-                                       "vxGetKernelByEnum or vxGetKernelByName");
+        made = add_missing_node(graph, status,
+                                status == VX_ERROR_INVALID_SCOPE
+                                    ? "vxCreateGenericNode: kernel belongs to another context: get "
+                                      "it in this one"
+                                    : "vxCreateGenericNode: kernel isn't a kernel: get one by "
+                                      "vxGetKernelByEnum or vxGetKernelByName");
     leave(context, VX_SUCCESS);
     return made;
 }

@@ -143,11 +143,18 @@ static void copy_part(struct grid to, struct grid from, const vx_rectangle_t *re
     copy_grid(to, from, rect->end_x - rect->start_x, rect->end_y - rect->start_y, size, unit);
 }
 
-/* A part of the samples of a whole image, which are in memory as in a frame. */
+/* The samples of a whole image, which are in memory as in a frame. */
+static struct grid flat_grid(const struct _vx_image *image, uint8_t *samples) {
+    ptrdiff_t size = (ptrdiff_t)sample_size(image->format);
+    return (struct grid){samples, size, size * image->width};
+}
+
+/* A part of them. */
 static struct grid part_of(const struct _vx_image *image, const vx_rectangle_t *rect,
                            uint8_t *samples) {
-    ptrdiff_t size = (ptrdiff_t)sample_size(image->format), row = size * image->width;
-    return (struct grid){samples + rect->start_y * row + rect->start_x * size, size, row};
+    struct grid part = flat_grid(image, samples);
+    part.first += rect->start_y * part.row + rect->start_x * part.column;
+    return part;
 }
 
 static bool is_whole(const struct _vx_image *image, const vx_rectangle_t *rect) {
@@ -155,21 +162,27 @@ static bool is_whole(const struct _vx_image *image, const vx_rectangle_t *rect) 
            rect->end_y == image->height;
 }
 
-/* Whether an image's samples are in memory without gaps between columns or rows. */
+/* Whether memory has an image's rows without gaps between the samples of a row. */
+static bool has_rows(const struct _vx_image *image, struct grid grid) {
+    return grid.column == (ptrdiff_t)sample_size(image->format);
+}
+
+/* Whether there are no gaps between the rows either. */
 static bool is_flat(const struct _vx_image *image, struct grid grid) {
-    ptrdiff_t size = (ptrdiff_t)sample_size(image->format);
-    return grid.column == size && grid.row == size * (ptrdiff_t)image->width;
+    return has_rows(image, grid) && grid.row == grid.column * (ptrdiff_t)image->width;
 }
 
 /* ---- Reading ---- */
 
-/* Reads an image's samples by rows. A unit of 1 leaves them in the byte order of frames. */
-static vx_status read_image(vx_image image, uint8_t *samples, size_t unit) {
+/* Reads an image's samples into rows. A unit of 1 leaves them in the byte order of frames. */
+static vx_status read_image(vx_image image, struct grid to, size_t unit) {
     uint8_t body[5], described[DESCRIBED];
     vx_context context = image->base.context;
-    struct request request = {.op = READ_IMAGE, .body = described,
-                              .body_length = DESCRIBED, .samples = samples,
-                              .samples_length = samples_of(image), .unit = unit};
+    size_t length = samples_of(image), row = image->width * sample_size(image->format);
+    struct request request = {.op = READ_IMAGE, .body = described, .body_length = DESCRIBED,
+                              .samples = to.first, .samples_length = length,
+                              .row = is_flat(image, to) ? length : row,
+                              .stride = (size_t)to.row, .unit = unit};
     put_image(body, image);
     let_look(context);
     bool is_sent = connection_send(&context->connection, &request, body, sizeof body);
@@ -177,14 +190,15 @@ static vx_status read_image(vx_image image, uint8_t *samples, size_t unit) {
     return await_reply(context, &request, is_sent);
 }
 
+/* Needs memory of its own only for a part of an image, or for rows with gaps between samples. */
 static vx_status read_part(vx_image image, const vx_rectangle_t *rect, struct grid to) {
     vx_size size = sample_size(image->format);
-    if (is_whole(image, rect) && is_flat(image, to))
-        return read_image(image, to.first, size);
+    if (is_whole(image, rect) && has_rows(image, to))
+        return read_image(image, to, size);
     struct buffer buffer = take_buffer(image->base.context, samples_of(image));
     if (buffer.bytes == NULL)
         return VX_ERROR_NO_MEMORY;
-    vx_status status = read_image(image, buffer.bytes, 1);
+    vx_status status = read_image(image, flat_grid(image, buffer.bytes), 1);
     if (status == VX_SUCCESS)
         copy_part(to, part_of(image, rect, buffer.bytes), rect, size, size);
     give_buffer(image->base.context, buffer);
@@ -242,7 +256,7 @@ static vx_status replace_part(vx_image image, const vx_rectangle_t *rect, struct
         return VX_ERROR_NO_MEMORY;
     vx_status status = VX_SUCCESS;
     if (!is_all) {
-        status = read_image(image, buffer.bytes, 1);
+        status = read_image(image, flat_grid(image, buffer.bytes), 1);
         if (status == VX_SUCCESS)
             copy_part(part_of(image, rect, buffer.bytes), from, rect, size, size);
     }

@@ -142,9 +142,9 @@ static int plan_descriptors(posix_spawn_file_actions_t *actions, struct ends the
     return error ? error : plan_closing(actions);
 }
 
-/* Copies the environment for the program; a privileged program's server gets a PATH alone. Its
-   malloc is told to use huge pages, in which pictures are read and computed in less time, unless
-   the environment tells malloc something already. Returns NULL where there is no memory. */
+/* Copies the environment for the server; a privileged program's server gets only a fixed PATH
+   instead. GLIBC_TUNABLES is added unless it is set: malloc then uses huge pages, in which pictures
+   are read and computed in less time. Returns NULL where there is no memory. */
 static char **copy_environment(void) {
     static char tunables[] = "GLIBC_TUNABLES=glibc.malloc.hugetlb=1", path[] = "PATH=/usr/bin:/bin";
     char *safe[] = {path, NULL}, **given = is_privileged() ? safe : environ;

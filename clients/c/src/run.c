@@ -173,9 +173,11 @@ PUBLIC vx_status VX_API_CALL vxVerifyGraph(vx_graph graph) {
     return leave(context, verify(graph));
 }
 
-/* Runs all parts of a graph but the last one, after the verification that it may need. */
+/* Runs all parts of a graph but the last one, after the verification that it may need. Without one
+   the nodes are sent all the same, with the tables that have changed: once a part has run, the
+   library needs no memory. */
 static vx_status begin_parts(vx_graph graph) {
-    vx_status status = graph->parts.count == 0 ? verify(graph) : VX_SUCCESS;
+    vx_status status = graph->parts.count == 0 ? verify(graph) : send_nodes(graph);
     if (status == VX_SUCCESS)
         status = send_inputs(graph);
     return status == VX_SUCCESS ? run_first_parts(graph) : status;
@@ -231,13 +233,11 @@ static vx_status schedule_parts(vx_graph graph) {
 }
 
 static vx_status schedule_whole(vx_graph graph) {
+    begin_run(graph);
     vx_status status = graph->is_verified ? send_nodes(graph) : verify(graph);
     if (status == VX_SUCCESS)
         status = send_inputs(graph);
-    if (status != VX_SUCCESS)
-        return status;
-    begin_run(graph);
-    return start(graph, graph->base.name);
+    return status == VX_SUCCESS ? start(graph, graph->base.name) : status;
 }
 
 PUBLIC vx_status VX_API_CALL vxScheduleGraph(vx_graph graph) {

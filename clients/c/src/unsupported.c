@@ -34,7 +34,8 @@ static vx_reference refuse_object(const void *reference, const char *name) {
     PUBLIC vx_status VX_API_CALL name(type *object) { return release(object, TYPE); }
 #define NODE(name, ...)                                                                            \
     PUBLIC vx_node VX_API_CALL vx##name##Node(vx_graph graph, __VA_ARGS__) {                       \
-        return add_missing_node(graph, "vx" #name "Node: the server has no such function");        \
+        return add_missing_node(graph, VX_ERROR_NOT_SUPPORTED,                                     \
+                                "vx" #name "Node: the server has no such function");               \
     }
 #define AT_ONCE(name, ...)                                                                         \
     PUBLIC vx_status VX_API_CALL vxu##name(vx_context context, __VA_ARGS__) {                      \

@@ -11,12 +11,18 @@ enum { SIDE = 4, COUNT = SIDE * SIDE };
 
 static vx_context context;
 static vx_image a, b;
-static vx_graph graph;
+static vx_graph graph, linked;
+static vx_node node;
+static vx_kernel kernel;
 static char said[VX_MAX_LOG_MESSAGE_LEN];
+/* Whether a log entry makes the callback run the graph. */
+static int is_running;
 
 static void on_entry(vx_context of, vx_reference ref, vx_status status, const vx_char string[]) {
     CHECK(of == context && ref != NULL && status != VX_SUCCESS);
     snprintf(said, sizeof said, "%s", string);
+    if (is_running)
+        EXPECT(VX_SUCCESS, vxProcessGraph(graph));
 }
 
 static void open_context(void) {
@@ -69,18 +75,49 @@ static void *run_graph(void *unused) {
     return unused;
 }
 
-/* While one thread waits for the server another asks what objects are. */
-static void ask_while_running(void) {
+/* The extremes of a node whose graph was released are released with it. */
+static void *remove_node(void *unused) {
+    EXPECT(VX_SUCCESS, vxRemoveNode(&node));
+    return unused;
+}
+
+/* A graph that changes drops its parts. */
+static void *make_node_of_kernel(void *unused) {
+    EXPECT(VX_SUCCESS, STATUS(vxCreateGenericNode(linked, kernel)));
+    return unused;
+}
+
+/* The log callback waits for the server. */
+static void *refuse_node(void *unused) {
+    is_running = 1;
+    EXPECT(VX_ERROR_INVALID_REFERENCE, STATUS(vxNotNode(linked, NULL, b)));
+    is_running = 0;
+    return unused;
+}
+
+/* A graph that runs in parts, of which node is the one that counts. */
+static void make_linked(void) {
+    vx_scalar count = vxCreateScalar(context, VX_TYPE_UINT32, NULL);
+    vx_image sums = vxCreateImage(context, SIDE, SIDE, VX_DF_IMAGE_S16);
+    linked = vxCreateGraph(context);
+    node = vxMinMaxLocNode(linked, a, vxCreateScalar(context, VX_TYPE_UINT8, NULL),
+                           vxCreateScalar(context, VX_TYPE_UINT8, NULL), NULL, NULL, count, NULL);
+    EXPECT(VX_SUCCESS, STATUS(node));
+    EXPECT(VX_SUCCESS, STATUS(vxAccumulateSquareImageNode(linked, a, count, sums)));
+    EXPECT(VX_SUCCESS, vxVerifyGraph(linked));
+}
+
+/* While one thread's work waits for the server another asks what objects are. */
+static void ask_while(void *(*work)(void *)) {
     pthread_t thread;
     vx_uint32 width;
     vx_enum state;
     siginfo_t stopped;
     const struct timespec pause = {0, 1000000};
-    open_context();
     pid_t server = server_process();
     CHECK(kill(server, SIGSTOP) == 0);
     CHECK(waitid(P_PID, (id_t)server, &stopped, WSTOPPED) == 0);
-    CHECK(pthread_create(&thread, NULL, run_graph, NULL) == 0);
+    CHECK(pthread_create(&thread, NULL, work, NULL) == 0);
     for (int i = 0; i < 100; i++) {
         EXPECT(VX_SUCCESS, vxQueryImage(a, VX_IMAGE_WIDTH, &width, sizeof width));
         EXPECT(VX_SUCCESS, vxQueryGraph(graph, VX_GRAPH_STATE, &state, sizeof state));
@@ -90,6 +127,18 @@ static void ask_while_running(void) {
     CHECK(width == SIDE);
     CHECK(kill(server, SIGCONT) == 0);
     CHECK(pthread_join(thread, NULL) == 0);
+}
+
+/* Also while what waits is a call within a call. */
+static void ask_while_waiting(void) {
+    open_context();
+    ask_while(run_graph);
+    make_linked();
+    kernel = vxGetKernelByEnum(context, VX_KERNEL_NOT);
+    ask_while(make_node_of_kernel);
+    ask_while(refuse_node);
+    EXPECT(VX_SUCCESS, vxReleaseGraph(&linked));
+    ask_while(remove_node);
     EXPECT(VX_SUCCESS, vxReleaseContext(&context));
 }
 
@@ -165,7 +214,7 @@ static void use_without_standard_descriptors(void) {
 int main(void) {
     keep_pipes();
     leave_to_parents();
-    ask_while_running();
+    ask_while_waiting();
     give_up(0);
     give_up(1);
     limit_images();

@@ -128,6 +128,33 @@ static void write_handles(void) {
     ERROR_CHECK_STATUS(vxReleaseImage(&out));
 }
 
+/* A large result in memory with gaps after its rows, from a function and from a copy. */
+static void read_rows(void) {
+    enum { COLUMNS = 1001, ROWS = 300, STEP = COLUMNS + 7 };
+    static vx_uint32 expected[COLUMNS * ROWS], taken[STEP * ROWS], copied[STEP * ROWS];
+    const vx_rectangle_t whole = {0, 0, COLUMNS, ROWS};
+    vx_imagepatch_addressing_t addr = by_rows(COLUMNS, ROWS, 4);
+    void *planes[] = {taken};
+    addr.stride_y = STEP * 4;
+    vx_image in = vxCreateImage(context, COLUMNS, ROWS, VX_DF_IMAGE_U8);
+    vx_image out = vxCreateImage(context, COLUMNS, ROWS, VX_DF_IMAGE_U32);
+    vx_image own = vxCreateImageFromHandle(context, VX_DF_IMAGE_U32, &addr, planes,
+                                           VX_MEMORY_TYPE_HOST);
+    fill_by_loop(in);
+    ERROR_CHECK_STATUS(vxuIntegralImage(context, in, own));
+    ERROR_CHECK_STATUS(vxuIntegralImage(context, in, out));
+    ERROR_CHECK_STATUS(copy_whole(out, COLUMNS, ROWS, 4, expected, VX_READ_ONLY));
+    ERROR_CHECK_STATUS(vxCopyImagePatch(out, &whole, 0, &addr, copied, VX_READ_ONLY,
+                                        VX_MEMORY_TYPE_HOST));
+    CHECK(memcmp(taken, copied, sizeof taken) == 0);
+    for (int i = 0; i < STEP * ROWS; i++)
+        CHECK(taken[i] ==
+              (i % STEP < COLUMNS ? expected[i / STEP * COLUMNS + i % STEP] : 0));
+    ERROR_CHECK_STATUS(vxReleaseImage(&in));
+    ERROR_CHECK_STATUS(vxReleaseImage(&out));
+    ERROR_CHECK_STATUS(vxReleaseImage(&own));
+}
+
 static void refuse_handles(void) {
     const vx_imagepatch_addressing_t addr = by_rows(WIDTH, HEIGHT, 2);
     void *planes[] = {result};
@@ -151,6 +178,7 @@ static void use_handles(void) {
     swap_handles(graph, in);
     map_handle(graph, in);
     write_handles();
+    read_rows();
     refuse_handles();
     ERROR_CHECK_STATUS(vxReleaseGraph(&graph));
     ERROR_CHECK_STATUS(vxReleaseImage(&in));

@@ -6,7 +6,7 @@
 #include <errno.h>
 #include <spawn.h>
 
-enum { SIDE = 4, COUNT = SIDE * SIDE, LARGE_SIDE = 1 << 10 };
+enum { SIDE = 4, COUNT = SIDE * SIDE, STRIDE = SIDE + 3, LARGE_SIDE = 1 << 10 };
 
 /* Allocations since the session began; the one that is refused, 0 for none; calls that said so. */
 static int allocations, refused, told;
@@ -172,33 +172,94 @@ static void run_graph(void) {
     EXPECT(VX_SUCCESS, vxReleaseGraph(&graph));
 }
 
-/* A graph in parts, with a virtual image over them, that ages a delay. */
+/* A call that found no memory hasn't run the graph: else too much would be added to the sums. The
+   image in the program's memory has gaps between its rows, which stay as they are. */
+static void run_on_memory(void) {
+    static vx_uint8 memory[SIDE * STRIDE];
+    vx_imagepatch_addressing_t addr = by_rows(SIDE, SIDE, 1);
+    void *planes[] = {memory};
+    vx_graph graph;
+    vx_image input = filled(3), sums, output;
+    vx_node node;
+    vx_int16 found[COUNT] = {0};
+    memset(memory, 0, sizeof memory);
+    addr.stride_y = STRIDE;
+    MAKE(graph, vxCreateGraph(context));
+    MAKE(sums, vxCreateImage(context, SIDE, SIDE, VX_DF_IMAGE_S16));
+    MAKE(output, vxCreateImageFromHandle(context, VX_DF_IMAGE_U8, &addr, planes,
+                                         VX_MEMORY_TYPE_HOST));
+    MAKE(node, vxAccumulateImageNode(graph, input, sums));
+    MAKE(node, vxNotNode(graph, input, output));
+    DO(vxProcessGraph(graph));
+    CHECK(memory[STRIDE + SIDE - 1] == 252 && memory[STRIDE + SIDE] == 0);
+    DO(vxScheduleGraph(graph));
+    DO(vxWaitGraph(graph));
+    DO(copy_whole(sums, SIDE, SIDE, 2, found, VX_READ_ONLY));
+    CHECK(found[COUNT - 1] == 2 * 3);
+    EXPECT(VX_SUCCESS, vxReleaseGraph(&graph));
+}
+
+/* The same at once: until the call succeeds, the output that the server has is wholly valid. */
+static void run_at_once_on_memory(void) {
+    static vx_int16 memory[SIDE * STRIDE];
+    vx_imagepatch_addressing_t addr = by_rows(SIDE, SIDE, 2);
+    void *planes[] = {memory};
+    vx_image input = filled(3), output, other;
+    vx_rectangle_t valid;
+    vx_status status;
+    addr.stride_y = 2 * STRIDE;
+    memory[STRIDE + 1] = 1;
+    MAKE(other, vxCreateImage(context, SIDE, SIDE, VX_DF_IMAGE_S16));
+    MAKE(output, vxCreateImageFromHandle(context, VX_DF_IMAGE_S16, &addr, planes,
+                                         VX_MEMORY_TYPE_HOST));
+    do {
+        EXPECT(VX_SUCCESS, vxGetValidRegionImage(other, &valid));
+        CHECK(valid.end_x == SIDE && memory[STRIDE + 1] == 1);
+        status = vxuSobel3x3(context, input, other, output);
+    } while (is_refused(status, "vxuSobel3x3", __LINE__));
+    EXPECT(VX_SUCCESS, vxGetValidRegionImage(other, &valid));
+    CHECK(valid.end_x == SIDE - 1 && memory[STRIDE + 1] == 0);
+}
+
+/* A graph in parts, with a virtual image over them, that ages a delay. The table of its last part
+   is sent anew before its first part runs: else too much would be added to the total. */
 static void run_parts(void) {
     vx_graph graph;
     vx_delay delay;
-    vx_image input = filled(3), between, sums;
+    vx_image input = filled(3), between, sums, total, output;
     vx_node node;
+    vx_lut lut;
     vx_scalar least, greatest, count;
-    vx_int16 found[COUNT] = {0};
+    vx_int16 found[COUNT] = {0}, entries[2] = {5, 6};
     MAKE(graph, vxCreateGraph(context));
     MAKE(between, vxCreateVirtualImage(graph, 0, 0, VX_DF_IMAGE_VIRT));
     MAKE(sums, vxCreateImage(context, SIDE, SIDE, VX_DF_IMAGE_S16));
+    MAKE(total, vxCreateImage(context, SIDE, SIDE, VX_DF_IMAGE_S16));
+    MAKE(output, vxCreateImage(context, SIDE, SIDE, VX_DF_IMAGE_S16));
     MAKE(delay, vxCreateDelay(context, (vx_reference)input, 2));
+    MAKE(lut, vxCreateLUT(context, VX_TYPE_INT16, 2));
     MAKE(least, vxCreateScalar(context, VX_TYPE_UINT8, NULL));
     MAKE(greatest, vxCreateScalar(context, VX_TYPE_UINT8, NULL));
     MAKE(count, vxCreateScalar(context, VX_TYPE_UINT32, NULL));
     MAKE(node, vxNotNode(graph, input, between));
     MAKE(node, vxMinMaxLocNode(graph, between, least, greatest, NULL, NULL, count, NULL));
+    MAKE(node, vxAccumulateImageNode(graph, input, total));
     MAKE(node, vxAccumulateSquareImageNode(graph, between, count, sums));
+    MAKE(node, vxTableLookupNode(graph, sums, lut, output));
     DO(vxRegisterAutoAging(graph, delay));
     /* Two pixels are valid, so that their number is a shift. */
     const vx_rectangle_t corner = {0, 0, 2, 1};
     DO(vxSetImageValidRectangle(input, &corner));
     DO(vxProcessGraph(graph));
+    DO(vxCopyLUT(lut, entries, VX_WRITE_ONLY, VX_MEMORY_TYPE_HOST));
     DO(vxScheduleGraph(graph));
     DO(vxWaitGraph(graph));
     DO(copy_whole(sums, SIDE, SIDE, 2, found, VX_READ_ONLY));
     CHECK(found[1] == 2 * ((252 * 252) >> 2) && found[2] == 0);
+    DO(copy_whole(total, SIDE, SIDE, 2, found, VX_READ_ONLY));
+    CHECK(found[1] == 2 * 3);
+    DO(copy_whole(output, SIDE, SIDE, 2, found, VX_READ_ONLY));
+    CHECK(found[1] == 6);
     EXPECT(VX_SUCCESS, vxReleaseGraph(&graph));
 }
 
@@ -231,6 +292,8 @@ static int run_session(int refuse) {
     map_parts();
     map_large();
     run_graph();
+    run_on_memory();
+    run_at_once_on_memory();
     run_parts();
     run_functions();
     EXPECT(VX_SUCCESS, vxReleaseContext(&context));

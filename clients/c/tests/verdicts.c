@@ -64,9 +64,6 @@ static void tell_operands(void) {
           vxMinMaxLocNode(graph, u8, byte, byte, numbers, NULL, NULL, NULL));
     LACKS("vxMagnitudeNode: the server has no such function", VX_ERROR_NOT_SUPPORTED,
           vxMagnitudeNode(graph, s16, s16, s16));
-    vx_kernel phase = vxGetKernelByEnum(context, VX_KERNEL_PHASE);
-    EXPECT(VX_ERROR_NOT_SUPPORTED, STATUS(phase));
-    LACKS("vxCreateGenericNode: ", VX_ERROR_NOT_SUPPORTED, vxCreateGenericNode(graph, phase));
     SAYS(VX_ERROR_NOT_SUPPORTED, vxuMagnitude(context, s16, s16, s16), "vxuMagnitude: ");
     vx_pyramid pyramid;
     SAYS(VX_ERROR_NOT_SUPPORTED,
@@ -75,6 +72,26 @@ static void tell_operands(void) {
     EXPECT(VX_ERROR_INVALID_REFERENCE, vxReleasePyramid(&pyramid));
     EXPECT(VX_ERROR_INVALID_REFERENCE, vxuMagnitude(NULL, s16, s16, s16));
     CHECK(vxMagnitudeNode(NULL, s16, s16, s16) == NULL);
+}
+
+static void tell_kernels(void) {
+    vx_context other = vxCreateContext();
+    vx_kernel phase = vxGetKernelByEnum(context, VX_KERNEL_PHASE);
+    vx_kernel foreign = vxGetKernelByEnum(other, VX_KERNEL_NOT);
+    vx_kernel gone = vxGetKernelByEnum(context, VX_KERNEL_NOT), released = gone;
+    EXPECT(VX_SUCCESS, vxReleaseKernel(&gone));
+    EXPECT(VX_ERROR_NOT_SUPPORTED, STATUS(phase));
+    LACKS("vxCreateGenericNode: kernel isn't a kernel", VX_ERROR_INVALID_REFERENCE,
+          vxCreateGenericNode(graph, phase));
+    LACKS("vxCreateGenericNode: kernel isn't a kernel", VX_ERROR_INVALID_REFERENCE,
+          vxCreateGenericNode(graph, NULL));
+    LACKS("vxCreateGenericNode: kernel isn't a kernel", VX_ERROR_INVALID_REFERENCE,
+          vxCreateGenericNode(graph, released));
+    LACKS("vxCreateGenericNode: kernel isn't a kernel", VX_ERROR_INVALID_REFERENCE,
+          vxCreateGenericNode(graph, (vx_kernel)u8));
+    LACKS("vxCreateGenericNode: kernel belongs to another context", VX_ERROR_INVALID_SCOPE,
+          vxCreateGenericNode(graph, foreign));
+    EXPECT(VX_SUCCESS, vxReleaseContext(&other));
 }
 
 static void tell_numbers(void) {
@@ -331,6 +348,7 @@ int main(void) {
     s16 = vxCreateImage(context, WIDTH, HEIGHT, VX_DF_IMAGE_S16);
     refuse_holes();
     tell_operands();
+    tell_kernels();
     tell_numbers();
     tell_limits();
     pass_errors();

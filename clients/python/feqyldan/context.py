@@ -5,9 +5,11 @@ from __future__ import annotations
 
 import asyncio
 import struct
+import sys
 import threading
 import weakref
 from collections import deque
+from functools import partial
 from types import TracebackType
 from typing import (
     TYPE_CHECKING, Any, Callable, Deque, Dict, List, Optional, Sequence, Set, Tuple, Type,
@@ -17,6 +19,7 @@ from . import wire
 from .connection import GREATEST_REQUEST, Body, Connection, Explain, Part, Request
 from .errors import Closed, FeqyldanError, InvalidScope
 from .files import load
+from .forks import HELD
 from .functions import FUNCTIONS, Call, Functions, functions_for_names
 from .graph_files import GraphFile, read_graph
 from .graphs import Graph
@@ -24,7 +27,7 @@ from .hints import OF_CONTEXTS, attribute_of
 from .images import AnyImage, Delay, Image
 from .objects import Convolution, Distribution, Lut, Made, MinMax, Named, Threshold, sides_of_frame
 from .pictures import Path, read_bytes, size_of_pgm
-from .pipeline import Pipeline
+from .pipeline import Pipeline, calling_frame
 from .samples import (
     Format, Numbers, Rows, Samples, Size, entries_of, format_of, lengths_in_words, samples_of)
 from .uncopied import Uncopied
@@ -36,6 +39,9 @@ if TYPE_CHECKING:
     from .server import Server
 
 Value = TypeVar("Value")
+# What ends a `with` for good: an error, the closing of a generator, and the cancelling of a task.
+# Other exceptions, such as KeyboardInterrupt, are interruptions.
+ENDS = Exception, GeneratorExit, asyncio.CancelledError
 
 
 class Vxu(Uncopied, Functions[None]):
@@ -548,7 +554,12 @@ class Context(Uncopied):
         isn't replaced by an error of the closing. After an interruption, such as KeyboardInterrupt,
         nothing is closed, because closing waits for a reply.
         """
-        if error is not None and not isinstance(error, Exception):
+        if error is not None and not isinstance(error, ENDS):
+            return
+        if isinstance(error, GeneratorExit) and not may_send(self._server):
+            # An object of the generator is released when Python frees it.
+            if thing is self:
+                self._server.leave(self)
             return
         try:
             thing.close()
@@ -567,7 +578,7 @@ class Context(Uncopied):
         """Runs a function that uses this context in a thread, and awaits it, so that other tasks of
         the event loop go on. Only one task may use a context at a time."""
         loop = asyncio.get_running_loop()
-        return await loop.run_in_executor(None, lambda: function(*arguments))
+        return await loop.run_in_executor(None, partial(function, *arguments))
 
     async def __aenter__(self) -> Context:
         return self
@@ -578,6 +589,22 @@ class Context(Uncopied):
 
     def __repr__(self) -> str:
         return f"<context of client {self._number}{', closed' if self.closed else ''}>"
+
+
+def may_send(server: Server) -> bool:
+    """
+    Returns whether a generator that is closed in this thread may send requests to a server.
+
+    The garbage collector closes generators at any moment: within a call of this package, which may
+    have sent half a request; after it has closed the pipes of a server that it frees too; and at
+    the end of the program, when other threads have stopped, maybe in a call.
+    """
+    if sys.is_finalizing() or server not in HELD:
+        return False
+    frame = calling_frame().f_back
+    while frame is not None and frame.f_globals.get("__package__") != __package__:
+        frame = frame.f_back
+    return frame is None
 
 
 _AN_OUTPUT = ("a threshold's true or false value", BYTE, "a whole number from 0 to 255")

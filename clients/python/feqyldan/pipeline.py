@@ -135,9 +135,9 @@ class Pipeline(Uncopied):
     calls.
 
     The server handles requests after a refused one like any others. So after a refusal value(), and
-    each call that waits for a result, raises the first refusal. The end of the `with` waits for all
-    replies, and raises the first refusal unless it was raised before. `refusals` lists all
-    refusals, each with its call.
+    each call that waits for a result, raises its own refusal, if there is one, and otherwise the
+    first refusal. The end of the `with` waits for all replies, and raises the first refusal unless
+    it was raised before. `refusals` lists all refusals, each with its call.
     """
 
     _inner = frozenset(("is_followed", "take", "raise_before"))

@@ -13,8 +13,10 @@ import subprocess
 import tempfile
 import threading
 import time
+from collections import deque
+from contextlib import suppress
 from types import TracebackType
-from typing import Any, Dict, List, Optional, Sequence, Set, Type, Union
+from typing import Any, Deque, Dict, List, Optional, Sequence, Set, Type, Union
 
 from .connection import Connection
 from .context import Context
@@ -56,9 +58,9 @@ class Server(Forked, Uncopied):
     of a fork the server is closed.
     """
 
-    __slots__ = ("_lock", "_next_number", "_free_numbers", "_ended_by", "_quota", "_work",
+    __slots__ = ("_lock", "_next_number", "_free_numbers", "_left", "_ended_by", "_quota", "_work",
                  "_connection", "_said", "_process", "_input", "_output", "__weakref__")
-    _inner = frozenset(("give_back", "lose", "why_closed"))
+    _inner = frozenset(("give_back", "leave", "lose", "why_closed"))
 
     def __init__(self, program: Union[Path, Sequence[str], None] = None, *,
                  quota: Optional[int] = None,
@@ -68,6 +70,8 @@ class Server(Forked, Uncopied):
         # The least client number that no context ever had, and the numbers that are free again.
         self._next_number = 0
         self._free_numbers: List[int] = []
+        # The contexts that have ended at a moment when they couldn't be closed.
+        self._left: Deque[Context] = deque()
         # Why the server can't be used any more; None while it can.
         self._ended_by: Optional[str] = None
         self._quota: Optional[int] = QUOTA if quota is None else quota
@@ -125,6 +129,7 @@ class Server(Forked, Uncopied):
         """Opens a context under a client number that no other context of this server has."""
         if self.why_closed is not None:
             raise Closed(f"open a context: {self.why_closed}")
+        self._close_left()
         number = self._take_number()
         try:
             return Context(self, self._connection, number)
@@ -137,6 +142,16 @@ class Server(Forked, Uncopied):
         server has released the context."""
         if is_released:
             self._free_numbers.append(context.number)
+
+    def leave(self, context: Context) -> None:
+        """Leaves a context to be closed when the next one is opened."""
+        self._left.append(context)
+
+    def _close_left(self) -> None:
+        while self._left:
+            # Another thread may take the last one.
+            with suppress(IndexError, FeqyldanError):
+                self._left.popleft().close()
 
     def close(self) -> None:
         """
@@ -246,6 +261,7 @@ class SocketServer(Server):
         self._path, self._timeout, self._retry = os.fspath(path), seconds_of(timeout), retry
         self._owner = None if owner is None else user_number(owner)
         self._lock = threading.Lock()
+        self._left: Deque[Context] = deque()
         self._ended_by: Optional[str] = None
         self._quota = self._work = None
         # All sockets; the socket of each context; and the socket of the next context, which is
@@ -277,6 +293,7 @@ class SocketServer(Server):
     def _new_context(self) -> Context:
         if self._ended_by is not None:
             raise Closed(f"open a context: {self._ended_by}")
+        self._close_left()
         with self._lock:
             waiting, self._next = self._next, None
         stream = waiting or self._connect()

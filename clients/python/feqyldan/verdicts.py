@@ -39,7 +39,7 @@ TAKEN: Dict[str, FrozenSet[Formats]] = {
     "min_max_loc": frozenset({(U8, None, None), (S16, None, None)}),
 }
 # What in2 is, in words, for functions where it is no image. It has the format of in1.
-_PARAMETERS = {"threshold": "a threshold", "table_lookup": "a table"}
+_PARAMETERS = {"threshold": "the threshold", "table_lookup": "the table"}
 # The format of a virtual output that leaves it open. For other functions it is the format of in1.
 OPENED = {
     **dict.fromkeys(("and_", "or_", "xor", "not_", "threshold", "box3x3", "gaussian3x3",
@@ -55,7 +55,7 @@ def formats_in_words(function: str) -> str:
     words = "; ".join(f"{_inputs_in_words(function, output)}{f' to {output}' if output else ''}"
                       for output in outputs)
     if function in _PARAMETERS:
-        words += f", and {_PARAMETERS[function]} of the input's format"
+        words += f"; {_PARAMETERS[function]} has the input's format"
     return words
 
 

@@ -113,7 +113,7 @@ class TestCalls(ProgramTest):
         for function, words in (("max", "U8 and U8 to U8; S16 and S16 to S16"),
                                 ("not_", "U8 to U8"), ("histogram", "U8"),
                                 ("convolve", "U8 to U8; U8 to S16"),
-                                ("threshold", "U8 or S16 to U8, and a threshold of the input's "
+                                ("threshold", "U8 or S16 to U8; the threshold has the input's "
                                               "format"),
                                 ("add", "U8 and U8 to U8; each U8 or S16, to S16")):
             self.assertEqual(verdicts.formats_in_words(function), words)
@@ -146,9 +146,9 @@ class TestCalls(ProgramTest):
         node = graph.threshold(far, limit, byte)
         with self.assertRaisesRegex(
                 vx.InvalidFormat,
-                r"and a threshold of the input's format; context.threshold\(vx.S16, ..\) makes one "
-                r'for this input. Virtual image 5 "far" \(open\) is S16, 4 by 3, because node 1, '
-                "absdiff, writes it and its format is open. The function"):
+                r"; the threshold has the input's format; context.threshold\(vx.S16, ..\) makes "
+                r'one for this input. Virtual image 5 "far" \(open\) is S16, 4 by 3, because node '
+                "1, absdiff, writes it and its format is open. The function"):
             graph.verify()
         node.remove()
         graph.threshold(far, self.context.threshold(vx.S16, above=9), byte)

@@ -8,9 +8,10 @@ import shutil
 import subprocess
 import tempfile
 import unittest
-from typing import Dict, List
+from typing import Dict, List, Set
 
 from broker_tools import HERE, LATE
+from program import PROGRAM, needs_program, vx
 from feqyldan.broker import command_line as broker
 from feqyldan.broker.loop import END_SECONDS
 from feqyldan.door import command_line as door
@@ -49,10 +50,46 @@ class Units(unittest.TestCase):
         service = unit("feqyldan@.service")
         self.assertEqual((service["User"], service["PrivateUsers"], service["ProtectProc"]),
                          (["feqyldan"], ["yes"], ["invisible"]))
-        excluded = {name for line in service["SystemCallFilter"] if line.startswith("~")
-                    for name in line[1:].split()}
-        for name in ("kill", "tgkill", "pidfd_send_signal", "process_vm_readv"):
-            self.assertIn(name, excluded)
+        # Not even fcntl, which can have a signal sent.
+        self.assertEqual(service["SystemCallFilter"],
+                         ["@default @basic-io",
+                          "access fstat madvise mremap newfstatat openat rt_sigaction statx",
+                          "~prlimit64"])
+        self.assertEqual(service["SystemCallErrorNumber"], ["EPERM"])
+
+    @unittest.skipUnless(shutil.which("systemd-analyze"), "systemd-analyze isn't there")
+    def test_no_allowed_call_reaches_another_process(self) -> None:
+        allowed = self.allowed_calls()
+        self.assertIn("write", allowed)
+        for name in ("kill", "tgkill", "rt_sigqueueinfo", "pidfd_send_signal", "fcntl", "ioctl",
+                     "ptrace", "process_vm_readv", "prlimit64", "socket", "io_uring_setup"):
+            self.assertNotIn(name, allowed)
+
+    @needs_program
+    @unittest.skipUnless(shutil.which("systemd-analyze"), "systemd-analyze isn't there")
+    @unittest.skipUnless(shutil.which("strace"), "strace isn't there")
+    def test_the_filter_allows_what_a_server_calls(self) -> None:
+        with tempfile.TemporaryDirectory() as folder:
+            trace = os.path.join(folder, "trace")
+            with vx.Server(["strace", "-o", trace, PROGRAM]) as server, server.context() as context:
+                for side in (1, 100, 4000):
+                    image = context.image(vx.U8, side, side)
+                    context.vxu.not_(image, context.image_like(image))
+                    image.close()
+            with open(trace, encoding="utf-8") as file:
+                called = set(re.findall(r"^(\w+)\(", file.read(), re.M))
+        self.assertIn("mmap", called)
+        # Without prlimit64, the C library assumes the default size of stacks.
+        self.assertLessEqual(called - {"prlimit64"}, self.allowed_calls())
+
+    def allowed_calls(self) -> Set[str]:
+        """Returns the system calls that a server of feqyldan.socket may use."""
+        *allowed, excluded = unit("feqyldan@.service")["SystemCallFilter"]
+        names = {name for line in allowed for name in line.split()}
+        for group in [name for name in names if name.startswith("@")]:
+            lines = self.analyze("syscall-filter", group).splitlines()
+            names.update(line.strip() for line in lines[1:])
+        return names - set(excluded[1:].split())
 
     def test_what_they_start_ends_in_time(self) -> None:
         for name, module in SERVICES.items():

@@ -17,12 +17,13 @@
  *   VX_ERROR_INVALID_REFERENCE   a reference is NULL, was released, or is of another type
  *   VX_ERROR_INVALID_SCOPE       a reference belongs to another context
  *   VX_ERROR_INVALID_PARAMETERS  another required argument is NULL
- *   VX_ERROR_NO_MEMORY           there is no memory; nothing has changed
+ *   VX_ERROR_NO_MEMORY           there is no memory; nothing has changed, except that earlier parts
+ *                                of a graph with scalar links may have run
  *   VX_FAILURE                   the server has ended or is late; a log entry says which
  *
  * A function that makes an object returns NULL only if its first argument isn't valid. Otherwise
- * vxGetStatus of the object gives the error. Given an object that couldn't be made, it returns that
- * object.
+ * vxGetStatus of the object gives the error. If the first argument is an object that couldn't be
+ * made, the function returns that object.
  */
 #ifndef VX_VX_H
 #define VX_VX_H
