@@ -80,15 +80,9 @@ static vx_status status_of(vx_context context, const struct request *request) {
     return status;
 }
 
-void let_look(vx_context context) {
-    for (unsigned i = 0; i < context->depth; i++)
-        pthread_mutex_unlock(&context->objects);
-}
+void let_look(vx_context context) { pthread_mutex_unlock(&context->objects); }
 
-void end_look(vx_context context) {
-    for (unsigned i = 0; i < context->depth; i++)
-        pthread_mutex_lock(&context->objects);
-}
+void end_look(vx_context context) { pthread_mutex_lock(&context->objects); }
 
 vx_status await_reply(vx_context context, struct request *request, bool is_sent) {
     let_look(context);
@@ -163,7 +157,9 @@ static void make_base(vx_reference reference, vx_context context, vx_enum type, 
 static bool open_server(vx_context context, char *why, size_t size) {
     if (!connection_open(&context->connection, why, size))
         return false;
+    end_look(context);
     vx_status status = ask(context, OPEN_CONTEXT, NULL, 0, NULL, 0);
+    let_look(context);
     if (context->connection.has_ended)
         connection_say_end(&context->connection, why, size);
     else
@@ -204,10 +200,10 @@ void leave_context(vx_context context) {
     context->users = context->depth = context->is_in_callback ? context->depth : 0;
     /* A mutex that this thread locked before the fork can't be unlocked after it. */
     make_mutexes(context);
-    for (unsigned i = 0; i < context->depth; i++) {
+    for (unsigned i = 0; i < context->depth; i++)
         pthread_mutex_lock(&context->calls);
+    if (context->depth > 0)
         pthread_mutex_lock(&context->objects);
-    }
 }
 
 void free_context(vx_context context) {

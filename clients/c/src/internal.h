@@ -194,9 +194,10 @@ struct _vx_context {
     bool is_logging, is_in_callback;
     /* The thread that the callback runs in. */
     pthread_t caller;
-    /* How many calls are nested, each with both locks: a log callback may make calls, and one call
-       may make another. And whether callbacks left objects unused. The outermost call destroys
-       these when it leaves: the calls around a callback may still have them in hand. */
+    /* How many calls are nested: a log callback may make calls, and one call may make another. The
+       outermost call locks objects for all of them. And whether callbacks left objects unused. The
+       outermost call destroys these when it leaves: the calls around a callback may still have them
+       in hand. */
     unsigned depth;
     bool has_unused;
     /* Buffers for the next pictures. */
@@ -222,8 +223,7 @@ vx_status create(vx_context context, enum op op, const uint8_t *body, size_t len
                  vx_uint32 *name);
 /* Releases an object on the server, unless its name is 0 or the context is closed. */
 void forget(vx_context context, vx_uint32 name);
-/* Between these two a call waits for the server, and other threads may look at objects. A nested
-   call unlocks these for the calls around it too. */
+/* Between these two a call waits for the server, and other threads may look at objects. */
 void let_look(vx_context context);
 void end_look(vx_context context);
 /* Waits for the reply to a request. One that couldn't be sent fails: the server has ended. */

@@ -131,8 +131,8 @@ vx_context enter(const void *reference, vx_enum type) {
     if (context == NULL)
         return NULL;
     pthread_mutex_lock(&context->calls);
-    pthread_mutex_lock(&context->objects);
-    context->depth++;
+    if (context->depth++ == 0)
+        pthread_mutex_lock(&context->objects);
     if (check(context, reference, type) == VX_SUCCESS)
         return context;
     leave(context, VX_SUCCESS);
@@ -142,8 +142,8 @@ vx_context enter(const void *reference, vx_enum type) {
 vx_status leave(vx_context context, vx_status status) {
     if (context->depth == 1 && context->has_unused)
         destroy_unused(context);
-    context->depth--;
-    pthread_mutex_unlock(&context->objects);
+    if (--context->depth == 0)
+        pthread_mutex_unlock(&context->objects);
     pthread_mutex_unlock(&context->calls);
     unuse(context);
     return status;

@@ -41,8 +41,8 @@ VX_API_ENTRY vx_status VX_API_CALL vxuSubtract(vx_context context, vx_image in1,
                                                vx_enum policy, vx_image out);
 
 /* in1 * in2 * scale, rounded toward zero and narrowed by the overflow policy. Formats as for
-   vxuAdd. VX_ERROR_NOT_SUPPORTED: a scale that is neither negative nor 1 / 2^n with n from 0 to 15,
-   or VX_ROUND_POLICY_TO_NEAREST_EVEN. */
+   vxuAdd. VX_ERROR_NOT_SUPPORTED: a scale of 0 or more that isn't 1 / 2^n with n from 0 to 15, or
+   VX_ROUND_POLICY_TO_NEAREST_EVEN. */
 VX_API_ENTRY vx_status VX_API_CALL vxuMultiply(vx_context context, vx_image in1, vx_image in2,
                                                vx_float32 scale, vx_enum overflow_policy,
                                                vx_enum rounding_policy, vx_image out);
