@@ -53,8 +53,8 @@ module _ (c : Context) (cell : Reference) (image : ImageValue) (named : IsImageO
   pub takes_samples : HoldsImage after.objects cell
   takes_samples = subst (λ (t : Context). HoldsImage t.objects cell) (sym taken) (image_after c.objects cell named.there left)
 
-  pub left_format : (image_held after.objects cell).format ≡ image.format
-  left_format = ap (λ (o : ObjectValue). (image_value o).format) left_there ∙ ap (λ (i : ImageValue). i.format) named.held
+  pub left_description : description_of (image_held after.objects cell) ≡ description_of image
+  left_description = ap (λ (o : ObjectValue). description_of (image_value o)) left_there ∙ ap description_of named.held
 
   -- then the image has the picture's samples
   pub given_is : (p : PictureValue) (area : Rectangle) (samples : List ℤ) (back : Context) → description_of image ≡ p.description → area ≡ whole_rectangle p.description.width p.description.height → samples ≡ p.samples

@@ -4,6 +4,7 @@ ghost use Rattle.std.specs.Prelude.{◌≡◌, length, Some, Ok, OnOk, IfOk, IfE
 ghost use Rattle.vx_base.specs.Image.{ImageValue};
 ghost use Rattle.vx_base.specs.Picture.{PictureValue, IsPicture, Describes, values, samples_format};
 ghost use Rattle.pgm_images.specs.Reading.{SamplesFitHeader, description_in, read_result};
+ghost use Rattle.pixel_pool.specs.Block.{HasAllSamples};
 ghost use Rattle.pixel_pool.specs.Pool.{Lends, KeepsLent};
 ghost use Rattle.client_model.specs.declared.reply.Reply.TheVariants.{Empty};
 ghost use Rattle.client_model.specs.Images.{write_image, write_text};
@@ -82,7 +83,8 @@ pub fn write_text(
 /// Takes a block for the samples of a picture. The block may have any contents. If there is no
 /// memory for the block, drops the free blocks and tries once more.
 fn take_block(pool: &mut Pool, desc: Desc) -> Result<Block, AllocError>
-    ensures described { IfOk result (Describes desc) }
+    ensures described { IfOk result (λ taken. Describes desc taken.samples) }
+    ensures whole { IfOk result HasAllSamples }
     ensures lends { OnOk result (Lends pool.old pool.new desc.format) }
     ensures err { OnErr result (KeepsLent pool.old pool.new) }
 {
@@ -100,9 +102,10 @@ fn take_block(pool: &mut Pool, desc: Desc) -> Result<Block, AllocError>
 fn fill_block<F: FillsSamples>(block: &mut Block, source: &mut F) -> Result<(), F::Fault>
     requires { F.can_fill source.old }
     ensures fills { F.fills source.old source.new
-        (samples_format block.old) (values block.new) result }
-    ensures format { samples_format block.new ≡ samples_format block.old }
-    ensures size { length (values block.new) ≡ length (values block.old) }
+        (samples_format block.old.samples) (values block.new.samples) result }
+    ensures format { samples_format block.new.samples ≡ samples_format block.old.samples }
+    ensures size { length (values block.new.samples) ≡ length (values block.old.samples) }
+    ensures count { block.new.count ≡ block.old.count }
 {
     let mut samples = block.lift();
     let filled = source.fill(&mut samples);
@@ -112,12 +115,14 @@ fn fill_block<F: FillsSamples>(block: &mut Block, source: &mut F) -> Result<(), 
 
 /// Fills a block with the samples of a text.
 fn fill_from_text(block: &mut Block, text: &[u8]) -> Result<(), PgmFault>
-    requires { SamplesFitHeader text.now block.old }
+    requires { SamplesFitHeader text.now block.old.samples }
     ensures ok { OnOk result ((d : _) → description_in text.now ≡ Ok d →
-        read_result text.now ≡ Ok (record { description = d; samples = values block.new })) }
+        read_result text.now
+        ≡ Ok (record { description = d; samples = values block.new.samples })) }
     ensures err { IfErr result (λ fault. read_result text.now ≡ Err fault) }
-    ensures format { samples_format block.new ≡ samples_format block.old }
-    ensures size { length (values block.new) ≡ length (values block.old) }
+    ensures format { samples_format block.new.samples ≡ samples_format block.old.samples }
+    ensures size { length (values block.new.samples) ≡ length (values block.old.samples) }
+    ensures count { block.new.count ≡ block.old.count }
 {
     let mut samples = block.lift();
     let read = pgm_images::read_into(text, &mut samples);
@@ -136,11 +141,12 @@ fn give_text(
     requires context { IsContext table.old }
     requires image { (image : ImageValue) × (image_of table.old.objects reference ≡ Ok image) }
     requires description { description_in text.now ≡ Ok desc }
-    requires described { Describes desc block.old }
+    requires described { Describes desc block.old.samples }
+    requires whole { HasAllSamples block.old }
     ensures comes { MayComeTo (write_text table.old reference text.now) table.old table.new result }
     ensures within_limits { Keeps table.old table.new }
     ensures blocks { KeepsBlocks table.old.objects table.new.objects }
-    ensures format { samples_format block.new ≡ samples_format block.old }
+    ensures format { samples_format block.new.samples ≡ samples_format block.old.samples }
 {
     fill_from_text(block, text)?;
     find_image_for(table, reference, desc)?;
@@ -153,14 +159,16 @@ fn give_text(
 fn exchange(table: &mut Table, reference: ObjRef, desc: Desc, block: &mut Block)
     requires context { IsContext table.old }
     requires image { IsImageFor table.old.objects reference desc }
-    requires described { Describes desc block.old }
+    requires described { Describes desc block.old.samples }
+    requires whole { HasAllSamples block.old }
     ensures written { write_image table.old reference
-        (record { description = desc; samples = values block.old })
+        (record { description = desc; samples = values block.old.samples })
         ≡ Ok (Empty, Some table.new) }
-    ensures picture { IsPicture (record { description = desc; samples = values block.old }) }
+    ensures picture { IsPicture
+        (record { description = desc; samples = values block.old.samples }) }
     ensures within_limits { Keeps table.old table.new }
     ensures blocks { KeepsBlocks table.old.objects table.new.objects }
-    ensures format { samples_format block.new ≡ samples_format block.old }
+    ensures format { samples_format block.new.samples ≡ samples_format block.old.samples }
 {
     let samples = block.lift();
     // The prover learns from these calls that sides and samples are in range.

@@ -1,5 +1,6 @@
 //! All clients, and the replies to their requests.
 ghost use Rattle.std.specs.Prelude.{◌≡◌, ◌≤◌, [], None, Some, Ok, IfSome, IfOk, IfErr, OnOk, OnErr};
+ghost use Rattle.std.specs.Prelude.{is_some};
 ghost use Rattle.std.specs.BTreeMap.{is_at};
 ghost use Rattle.std.specs.Map.{lookup};
 ghost use Rattle.std.specs.Option.{option_map};
@@ -70,8 +71,8 @@ impl Runtime {
         }
     }
 
-    /// Returns the number of lent blocks of a format. Lent blocks hold the samples of the clients'
-    /// images, and nothing else.
+    /// Returns the number of lent blocks of a format. It is the number of the clients' images of
+    /// this format, including slots of delays.
     pub fn lent(&self, format: Format) -> usize
         ensures { result ≡ clients_blocks self.now.contexts format }
     {
@@ -83,6 +84,13 @@ impl Runtime {
         ensures { clients_blocks self.now.contexts format ≤ result }
     {
         self.pool.blocks(format)
+    }
+
+    /// Returns whether a client has an open context.
+    pub fn has_context(&self, client: u16) -> bool
+        ensures { result ≡ is_some (state_of client self.now) }
+    {
+        self.contexts.contains_key(&client)
     }
 
     /// Returns the cache entry of a client's graph, or `None`. The entry has the verification, the

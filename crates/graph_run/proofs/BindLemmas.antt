@@ -79,7 +79,7 @@ module _ (objects : List NamedObject) (c : Reference) (cells : List Reference) (
 
 -- there are enough planes
 pub for_length : (objects : List NamedObject) (cells : List Reference) (planes : List PlaneValue) → AreFor objects cells planes → length cells ≤ length planes
-for_length objects (c ∷ cells) (p ∷ planes) are = omega (arith, for_length objects cells planes are.2)
+for_length objects (c ∷ cells) (p ∷ planes) are = omega (arith, for_length objects cells planes are.3)
 for_length objects cells planes are = grind arith
 
 -- ---- both

@@ -2,17 +2,18 @@
 use Rattle.buffer_plan.specs.Lives.{is_live}
 use Rattle.std.proofs.Common.{rules, ◌≡◌, ◌≢◌, ℕ, zero, suc, ◌+◌, ◌*◌, ◌≤◌, ◌<◌, ◌==◌, ◌⊎◌, List, [], ◌∷◌, ◌++◌, length, map, max, get_or, drop, take, refl, sym, ap, ◌∙◌, arith, if◌then◌else◌, sum_by, append_assoc, Option, Some, None, length-append}
 use Rattle.graph_run.specs.Slots.{capacities_for}
-use Rattle.graph_run.proofs.Common.{length-map-range_with_len, range_with_len, map-append, VirtualOutput, Node, In, Format, S16, U32, U8, IsPlan, PlanView, slot_index, slot_index_of, planned_capacities, take_more, Samples, values, samples_format, blocks_of, lent_of}
+use Rattle.graph_run.proofs.Common.{length-map-range_with_len, range_with_len, map-append, VirtualOutput, Node, In, Format, S16, U32, U8, IsPlan, PlanView, slot_index, slot_index_of, planned_capacities, take_more, samples_format, blocks_of, lent_of}
 use Rattle.std.proofs.lemmas.List.{append-nil, drop_all, take_all}
 use Rattle.std.proofs.lemmas.List.FromFn.{map-range_with_len_more}
 use Rattle.std.proofs.lemmas.List.Sums.{sum_by_push, sum_by-append, sum_by-cons, length-filter, count_by-le-length}
 use Rattle.buffer_plan.specs.Slots.{IsPeak, of_format}
+use Rattle.pixel_pool.specs.Block.{BlockValue}
 use Rattle.pixel_pool.specs.declared.pool.Pool.{Pool}
 use Rattle.pixel_pool.specs.Pool.{one_of, KeepsOtherFree, Lends}
 use Rattle.graph_steps.specs.Program.{halo}
 use Rattle.graph_run.proofs.ListLemmas.{rest_at}
 use Rattle.graph_run.proofs.SlotLemmas.{has_slot, planned_slots}
-use Rattle.graph_run.specs.Blocks.{band_samples, blocks_of_format, block_size, capacity_count, samples_from}
+use Rattle.graph_run.specs.Blocks.{band_samples, blocks_of_format, block_size, capacity_count, lent_size, samples_from}
 
 -- ---- places
 
@@ -56,11 +57,11 @@ slots_more format room k n before capacities are count =
     grind (arith, append_assoc, map-range_with_len_more (λ (j : ℕ). let r : Format × ℕ = (format, room j) in r) 0 k k)
 
 -- a block more has its room
-pub sizes_more : (capacities : List (Format × ℕ)) (blocks : List Samples) (b : Samples) (k : ℕ) (r d : Format × ℕ) → k < length capacities → r ≡ get_or capacities k d
-    → map block_size blocks ≡ take k capacities → samples_format b ≡ r.0 → length (values b) ≡ r.1 → map block_size (blocks ++ b ∷ []) ≡ take (k + 1) capacities
-sizes_more capacities blocks b k r d below is sizes format count = search (rules, map-append, take_more)
+pub sizes_more : (size_of : BlockValue → Format × ℕ) (capacities : List (Format × ℕ)) (blocks : List BlockValue) (b : BlockValue) (k : ℕ) (d : Format × ℕ) → k < length capacities → size_of b ≡ get_or capacities k d
+    → map size_of blocks ≡ take k capacities → map size_of (blocks ++ b ∷ []) ≡ take (k + 1) capacities
+sizes_more size_of capacities blocks b k d below is sizes = search (rules, map-append, take_more)
 
-pub lends_more : (blocks : List Samples) (b : Samples) (format : Format) → samples_format b ≡ format → (old now new : Pool) (f : Format) → Lends now new format
+pub lends_more : (blocks : List BlockValue) (b : BlockValue) (format : Format) → samples_format b.samples ≡ format → (old now new : Pool) (f : Format) → Lends now new format
     → lent_of now f ≡ lent_of old f + blocks_of_format blocks f → lent_of new f ≡ lent_of old f + blocks_of_format (blocks ++ b ∷ []) f
 lends_more blocks b format format_is old now new f lends before = grind (arith, sum_by_push)
 
@@ -86,10 +87,10 @@ sum_told told_of g [] = refl
 sum_told told_of g (x ∷ xs) = sum_by-cons (λ y. g (told_of y)) x xs ∙ ap (λ n. g (told_of x) + n) (sum_told told_of g xs) ∙ sym (sum_by-cons g (told_of x) (map told_of xs))
 
 -- blocks of the same formats are as many
-pub counts_stay : (old new : List Samples) → map samples_format new ≡ map samples_format old → (f : Format) → blocks_of_format new f ≡ blocks_of_format old f
+pub counts_stay : (old new : List BlockValue) → map lent_size new ≡ map lent_size old → (f : Format) → blocks_of_format new f ≡ blocks_of_format old f
 counts_stay old new same f =
-    let one : Format → ℕ = λ g. one_of g f in
-    sum_told samples_format one new ∙ ap (sum_by one) same ∙ sym (sum_told samples_format one old)
+    let one : Format × ℕ → ℕ = λ r. one_of r.0 f in
+    sum_told lent_size one new ∙ ap (sum_by one) same ∙ sym (sum_told lent_size one old)
 
 -- a vector that was lent as a slice holds the slice's items
 pub written_back : {X : Type 0} (old new : List X) (n : ℕ) → length new ≡ length old → n ≡ length old → take n (new ++ drop (length new) old) ≡ new
@@ -106,5 +107,5 @@ pub planned_count : (p : PlanView) (f : Format) → capacity_count (planned_capa
 planned_count p f = grind (arith, sum_by-append (λ (r : Format × ℕ). one_of r.0 f) (capacities_for p U8 ++ capacities_for p S16) (capacities_for p U32), sum_by-append (λ (r : Format × ℕ). one_of r.0 f) (capacities_for p U8) (capacities_for p S16), capacities_count U8 f (p.slot_samples U8) 0 (p.slot_count U8), capacities_count S16 f (p.slot_samples S16) 0 (p.slot_count S16), capacities_count U32 f (p.slot_samples U32) 0 (p.slot_count U32))
 
 -- as many blocks of a format as capacities
-pub blocks_counted : (blocks : List Samples) (capacities : List (Format × ℕ)) → map block_size blocks ≡ capacities → (f : Format) → blocks_of_format blocks f ≡ capacity_count capacities f
+pub blocks_counted : (blocks : List BlockValue) (capacities : List (Format × ℕ)) → map block_size blocks ≡ capacities → (f : Format) → blocks_of_format blocks f ≡ capacity_count capacities f
 blocks_counted blocks capacities are f = sum_told block_size (λ (r : Format × ℕ). one_of r.0 f) blocks ∙ ap (λ (l : List (Format × ℕ)). capacity_count l f) are

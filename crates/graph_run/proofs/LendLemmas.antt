@@ -1,8 +1,10 @@
 -- Output images whose samples are in planes, while their node is checked and runs.
-use Rattle.std.proofs.Common.{◌≡◌, ℕ, List, [], ◌∷◌, map, Option, Some, None, IfSome, IsTrue, is_some, unwrap_or, refl, sym, ap, subst, ◌∙◌, arith, All, set, slice_get, map-id, option_map, eqb-true}
+use Rattle.std.proofs.Common.{◌≡◌, ℕ, List, [], ◌∷◌, length, map, Option, Some, None, IfSome, IsTrue, is_some, unwrap_or, refl, sym, ap, subst, ◌∙◌, arith, All, set, slice_get, map-id, option_map, eqb-true}
 use Rattle.std.proofs.lemmas.List.{set_comm, set-get_or}
 use Rattle.std.proofs.lemmas.Option.{get_or_from_slice_get}
 use Rattle.graph_run.proofs.Common.{IsStrictlyIncreasing, U8, First, Kind, parameters, object_kind, Node, Reference, Description, ImageValue, new_image, description_of, ObjectValue, ImageObject, DelayObject, in_slot, with_slot, Context, with_objects, NamedObject, object_at, with_object, image_held, image_value, HoldsImage, names_of, map-with_object, skeleton, Image, operand_of, HoldsOperand, lasting_part, lasting_named, AreApart, IsObject, RunsTo, Lasts, CanRunNow, HoldsKind, operands, with_output_object, with_written, written_by}
+use Rattle.vx_base.specs.Description.{sample_count}
+use Rattle.pixel_pool.specs.Block.{IsAllOrNone}
 use Rattle.object_table.specs.Context.{object_named}
 use Rattle.object_table.specs.Table.{HoldsLiveImage}
 use Rattle.object_table.proofs.SkeletonLaws.{option_map-determined}
@@ -56,13 +58,13 @@ module _ (objects : List NamedObject) (cell : Reference) (p : PlaneValue) (taken
 
 -- an image whose samples move to a plane
 pub image_lent : (old new : Context) (cell : Reference) (p : PlaneValue) → IsStrictlyIncreasing (names_of old.objects) → HoldsImage old.objects cell → p ≡ image_plane (image_held old.objects cell)
-    → new ≡ with_objects old (with_object old.objects cell (ImageObject (without_samples (image_held old.objects cell)))) → LendsOutput old new (Some cell) (Some p)
-image_lent old new cell p names holds is left =
+    → IsAllOrNone (sample_count p.desc) (length p.samples) → new ≡ with_objects old (with_object old.objects cell (ImageObject (without_samples (image_held old.objects cell)))) → LendsOutput old new (Some cell) (Some p)
+image_lent old new cell p names holds is size left =
     let image = image_held old.objects cell in
     let bare = ImageObject (without_samples image) in
     let there = held_image old.objects cell holds in
     let lent : LendsOutput old (with_objects old (with_object old.objects cell bare)) (Some cell) (Some (image_plane image)) = record {
-      taken = record { left = held_after old.objects cell holds (without_samples image); whole = refl };
+      taken = record { left = held_after old.objects cell holds (without_samples image); whole = refl; size = subst (λ (q : PlaneValue). IsAllOrNone (sample_count q.desc) (length q.samples)) is size };
       back = ap (with_objects old) (sym (with_object_twice old.objects cell bare image ∙ with_object_same old.objects cell (ImageObject image) names there));
       lasting = lasting-with_object old.objects (cell, bare) (ap (option_map lasting_part) there ∙ ap Some (images-last image (without_samples image) refl)) names;
     } in

@@ -1,33 +1,27 @@
 -- A graph that runs by its schedule: what its images and tallies need on their way out of a table and back.
-use Rattle.std.proofs.Common.{◌≡◌, ℕ, ◌<◌, ◌≤◌, List, ◌++◌, length, map, drop, get_or, sym, ap, ◌∙◌, arith, length-append}
-use Rattle.std.proofs.lemmas.List.{get_or-map, length-map}
-use Rattle.graph_run.proofs.Common.{Reference, NamedObject, with_written, Verified, slot_index_of, planned_capacities, Samples, samples_format, resolved_operand, operand_held, run_of_graph, Format, U8}
+use Rattle.std.proofs.Common.{◌≡◌, ℕ, ◌<◌, ◌≤◌, List, ◌++◌, length, map, drop, get_or, sym, ap, ◌∙◌, arith, length-append, Some}
+use Rattle.std.proofs.lemmas.List.{length-map}
+use Rattle.graph_run.proofs.Common.{Reference, NamedObject, with_written, Verified, slot_index_of, planned_capacities, resolved_operand, operand_held, run_of_graph, Format, U8}
+use Rattle.pixel_pool.specs.Block.{BlockValue}
 use Rattle.graph_steps.specs.declared.tally.Tally.{Tally}
-use Rattle.graph_steps.specs.Planes.{PlaneValue, no_plane, plane}
+use Rattle.graph_steps.specs.Planes.{PlaneValue}
 use Rattle.graph_steps.specs.Program.{IsProgram}
 use Rattle.graph_steps.specs.Runs.{CanReduceBand}
-use Rattle.graph_steps.specs.Steps.{capacities}
+use Rattle.graph_steps.specs.Steps.{capacities, capacity}
 use Rattle.graph_run.specs.declared.schedule.Schedule.{Schedule}
 use Rattle.graph_run.specs.Bind.{AreAllApart, HoldImages, image_planes}
-use Rattle.graph_run.specs.Blocks.{band_plan, block_size, block_capacity}
+use Rattle.graph_run.specs.Blocks.{band_plan, block_size, block_capacity, lent_capacity, lent_size}
 use Rattle.graph_run.specs.Bound.{LendTables}
 use Rattle.graph_run.specs.Program.{client_cells, planes_of, radius_of, tables_of, tallies_of}
 use Rattle.graph_run.specs.Results.{Leaves, tally_objects}
 use Rattle.graph_run.specs.Schedule.{ArePlanes, CanReturn, CanRunBy, bare_objects, schedule_clients, schedule_objects}
-use Rattle.graph_run.specs.Tasks.{graph_tasks}
+use Rattle.graph_run.specs.Tasks.{graph_tasks, last_in}
 use Rattle.graph_run.proofs.HoldSteps.{slots_within}
 use Rattle.graph_run.proofs.ReadyLemmas.{clients_apart, clients_hold}
 use Rattle.graph_run.proofs.WithinLemmas.{virtuals_below}
 use Rattle.graph_run.proofs.ScheduleSteps.{scheduled, scheduled_reduces}
-use Rattle.graph_run.proofs.SizeSteps.{virtual_count, virtual_format}
+use Rattle.graph_run.proofs.SizeSteps.{virtual_count, virtual_size}
 use Rattle.graph_run.proofs.SolutionStepsTaken.{back_for, back_images, back_tallies, tables_lent, tables_same, value}
-use Rattle.graph_run.proofs.VirtualLemmas.{same_format_at}
-
--- planes of the same sizes have the same formats
-same_formats : (xs ys : List PlaneValue) (k : ℕ) → capacities xs ≡ capacities ys → k < length xs → (plane xs k).format ≡ (plane ys k).format
-same_formats xs ys k same below =
-    let size : PlaneValue → Format × ℕ = λ q. (q.format, length q.samples) in
-    grind (arith, same, length-map xs size, length-map ys size, get_or-map size xs k no_plane (U8, 0), get_or-map size ys k no_plane (U8, 0))
 
 module _ {objects : List NamedObject} {v : Verified} {s : Schedule} (g : CanRunBy objects v s) where
   abbrev count : ℕ
@@ -51,7 +45,7 @@ module _ {objects : List NamedObject} {v : Verified} {s : Schedule} (g : CanRunB
   pub clients_are_apart : AreAllApart clients
   clients_are_apart = rw same_clients (clients_apart objects g.nodes v g.ready g.slots g.plan)
 
-  module _ (blocks : List Samples) (sizes : map block_size blocks ≡ s.capacities.items) where
+  module _ (blocks : List BlockValue) (sizes : map block_size blocks ≡ s.capacities.items) where
     planned : map block_size blocks ≡ planned_capacities (band_plan s.size s.halos.items v.virtual_outputs s.slots.items g.slots)
     planned = sizes ∙ g.schedule.capacities
 
@@ -91,18 +85,24 @@ module _ {objects : List NamedObject} {v : Verified} {s : Schedule} (g : CanRunB
         planes_enough : length s.slots.items ≤ length after
         planes_enough = omega (arith, leaves.planes_count, ap length t.all, length-append t.virtuals (image_planes objects clients), virtuals_fit)
 
-        formats_back : capacities after ≡ capacities planes → (now : List Samples) → map samples_format now ≡ map samples_format blocks → (k : ℕ) → k < length s.slots.items
-            → (plane after k).format ≡ (block_capacity now (get_or s.slots.items k 0)).0
-        formats_back kept now same k below = grind (arith, same_formats, planes_enough, virtual_format, virtuals_fit, same_format_at)
+        -- the last plane of a slot has as many samples as the pool lent in the slot's block
+        sizes_back : map lent_size blocks ≡ s.capacities.items → capacities after ≡ capacities planes → (now : List BlockValue) → map lent_size now ≡ map lent_size blocks → (slot k : ℕ) → last_in slot s.slots.items ≡ Some k
+            → capacity (capacities after) k ≡ lent_capacity now slot
+        sizes_back lent_sizes kept now same slot k last =
+            let at : List (Format × ℕ) → Format × ℕ = λ l. get_or l slot (U8, 0) in
+            let from : List (Format × ℕ) → Format × ℕ = λ l. get_or l k (U8, 0) in
+            ap from (kept ∙ ap capacities t.all)
+            ∙ virtual_size t.virtuals (image_planes objects clients) s.slots.items (block_capacity blocks) slot k t.first virtuals_fit last
+            ∙ ap at (sizes ∙ sym lent_sizes ∙ sym same)
 
-        pub can_return : capacities after ≡ capacities planes → (now : List Samples) → map samples_format now ≡ map samples_format blocks → CanReturn (bare_objects objects v s) v s now after counted
-        can_return kept now same =
+        pub can_return : map lent_size blocks ≡ s.capacities.items → capacities after ≡ capacities planes → (now : List BlockValue) → map lent_size now ≡ map lent_size blocks → CanReturn (bare_objects objects v s) v s now after counted
+        can_return lent_sizes kept now same =
             record {
               slot_count = slot_count;
               cell_count = cells_enough;
               plane_count = omega (arith, planes_enough, slot_count);
-              within = λ k below. omega (arith, slot_within k below, ap length same, length-map now samples_format, length-map blocks samples_format);
-              formats = formats_back kept now same;
+              within = λ k below. omega (arith, slot_within k below, ap length same, length-map now lent_size, length-map blocks lent_size);
+              sizes = sizes_back lent_sizes kept now same;
               images = rw same_clients (back_images g t all_leaves);
               apart = clients_are_apart;
               planes_for = rw same_clients (back_for g t all_leaves);

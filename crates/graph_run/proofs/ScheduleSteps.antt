@@ -1,6 +1,7 @@
 -- A graph with a schedule is a program over its planes.
 use Rattle.std.proofs.Common.{◌≡◌, ℕ, Option, Some, None, arith, unwrap_or, List, map, sym, ap, subst, ◌∙◌}
-use Rattle.graph_run.proofs.Common.{Node, NamedObject, Verified, planned_capacities, Samples}
+use Rattle.graph_run.proofs.Common.{Node, NamedObject, Verified, planned_capacities}
+use Rattle.pixel_pool.specs.Block.{BlockValue}
 use Rattle.graph_steps.specs.Planes.{PlaneValue}
 use Rattle.graph_steps.specs.Steps.{Covers}
 use Rattle.graph_steps.specs.Program.{IsProgram, Suffice}
@@ -23,7 +24,7 @@ module _ {objects : List NamedObject} {v : Verified} {s : Schedule} (g : CanRunB
   abbrev radius : Node → ℕ
   radius = radius_of objects s.high
 
-  module _ {blocks : List Samples} (planned : map block_size blocks ≡ planned_capacities (band_plan s.size s.halos.items v.virtual_outputs s.slots.items g.slots)) {planes : List PlaneValue} (t : ArePlanes objects v s blocks planes) where
+  module _ {blocks : List BlockValue} (planned : map block_size blocks ≡ planned_capacities (band_plan s.size s.halos.items v.virtual_outputs s.slots.items g.slots)) {planes : List PlaneValue} (t : ArePlanes objects v s blocks planes) where
     bound : IsBound objects g.nodes v g.slots radius s.high s.size s.halos.items t.virtuals (block_capacity blocks)
     bound =
         record {
@@ -47,7 +48,7 @@ module _ {objects : List NamedObject} {v : Verified} {s : Schedule} (g : CanRunB
         rw g.schedule.tasks
         (graph_program objects g.nodes v g.slots radius s.high s.size s.halos.items t.virtuals (block_capacity blocks) bound)
 
-  module _ {blocks : List Samples} {planes : List PlaneValue} (t : ArePlanes objects v s blocks planes) where
+  module _ {blocks : List BlockValue} {planes : List PlaneValue} (t : ArePlanes objects v s blocks planes) where
     pub scheduled_reduces : CanReduceBand 0 s.tasks.items (planes_of objects v.steps v.virtual_outputs t.virtuals) (tallies_of objects v.steps)
     scheduled_reduces =
         rw g.schedule.tasks

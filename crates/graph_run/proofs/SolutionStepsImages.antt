@@ -3,8 +3,9 @@ use Rattle.std.proofs.Common.{◌≡◌, ◌≢◌, ℕ, ◌+◌, ◌<◌, Bool,
 use Rattle.std.specs.List.{slice_get}
 use Rattle.std.proofs.lemmas.List.{get_or-append-add, get_or-map, length-map}
 use Rattle.std.proofs.lemmas.Option.{get_or_from_slice_get, slice_get_within}
-use Rattle.graph_run.proofs.Common.{accumulates, second_or_output, cases_lt, Reference, reference_to, Description, false_from_ne_true, flat_map, Function, object_at, held_is, HoldsImage, HoldsKind, image_held, Image, ImageObject, ImageValue, In, In-append, In-at, In-filter, In-from_any, In-from_filter, In-from_flat_map, In-from_same, In-left, In-right, IsImage, IsObject, is_virtual, is_virtual_object, is_written, Kind, NamedObject, names_cell, Node, node_image, node_output, object_held, object_kind, ObjectValue, operands, Output, First, Second, outputs, parameters, slot_index_of, Samples, second_kind, has_twice, description_of, Operand, operand_of, Verified, VirtualOutput, written_from, written_in, writes}
+use Rattle.graph_run.proofs.Common.{accumulates, second_or_output, cases_lt, Reference, reference_to, Description, false_from_ne_true, flat_map, Function, object_at, held_is, HoldsImage, HoldsKind, image_held, Image, ImageObject, ImageValue, In, In-append, In-at, In-filter, In-from_any, In-from_filter, In-from_flat_map, In-from_same, In-left, In-right, IsImage, IsObject, is_virtual, is_virtual_object, is_written, Kind, NamedObject, names_cell, Node, node_image, node_output, object_held, object_kind, ObjectValue, operands, Output, First, Second, outputs, parameters, slot_index_of, second_kind, has_twice, description_of, Operand, operand_of, Verified, VirtualOutput, written_from, written_in, writes}
 use Rattle.vx_base.specs.declared.kind.Kind.TheVariants as kind
+use Rattle.pixel_pool.specs.Block.{BlockValue}
 use Rattle.graph_steps.specs.declared.step.Step.{Step}
 use Rattle.graph_steps.specs.declared.step.Task.{Task}
 use Rattle.graph_steps.specs.Planes.{PlaneValue, block_image, block_images, no_plane, plane}
@@ -218,7 +219,7 @@ module _ {objects : List NamedObject} {v : Verified} {s : Schedule} (g : CanRunB
     pub client : (c : Reference) → In c clients → block_images planes (index_of cells c) ≡ image_held objects c
     pub format : (c : Reference) → In c virtual → (block_images planes (index_of cells c)).format ≡ (image_held starts c).format
 
-  module _ {blocks : List Samples} {planes : List PlaneValue} (t : ArePlanes objects v s blocks planes) where
+  module _ {blocks : List BlockValue} {planes : List PlaneValue} (t : ArePlanes objects v s blocks planes) where
     pub client_plane : (c : Reference) → In c clients → plane (planes_of objects order v.virtual_outputs t.virtuals) (index_of cells c) ≡ image_plane (image_held objects c)
     client_plane c i =
         let k : ℕ = index_of clients c in

@@ -1,10 +1,11 @@
 -- The objects written back to a table after a run over planes are the result of the graph's run.
 use Rattle.std.proofs.Common.{◌≡◌, ◌≢◌, ℕ, ◌+◌, ◌<◌, ◌≤◌, true, false, List, [], ◌∷◌, ◌++◌, map, length, drop, get_or, refl, sym, ap, subst, ◌∙◌, inl, inr, arith, Option, Some, None, ◌⊎◌, unwrap_or, option_map, option_and_then}
 use Rattle.std.proofs.lemmas.List.{get_or-drop, length-append, length-drop, length-map}
-use Rattle.graph_run.proofs.Common.{cases_Bool, Reference, objects_at_end, form_of, object_at, image_held, ImageObject, ImageValue, In, in_slot, In-append, In-at, In-from_any, In-from_same, In-left, In-right, is_virtual_object, is_written, Kind, label_of, Lasts, NamedObject, optional_cells, Operand, Node, node_output, First, object_held, object_kind, ObjectValue, operand_held, option_or, outputs, parameters, slot_index_of, resolved_operand, run_of_graph, Samples, Verified, VirtualOutput, with_written, writes, operand_of}
+use Rattle.graph_run.proofs.Common.{cases_Bool, Reference, objects_at_end, form_of, object_at, image_held, ImageObject, ImageValue, In, in_slot, In-append, In-at, In-from_any, In-from_same, In-left, In-right, is_virtual_object, is_written, Kind, label_of, Lasts, NamedObject, optional_cells, Operand, Node, node_output, First, object_held, object_kind, ObjectValue, operand_held, option_or, outputs, parameters, slot_index_of, resolved_operand, run_of_graph, Verified, VirtualOutput, with_written, writes, operand_of}
 use Rattle.vx_base.specs.declared.kind.Kind.TheVariants as kind
 use Rattle.vx_base.specs.PartialDescription.{PartialDescription}
 use Rattle.graph_verify.specs.declared.operand.Operand.TheVariants.{Virtual}
+use Rattle.pixel_pool.specs.Block.{BlockValue}
 use Rattle.graph_steps.specs.declared.tally.Tally.{Tally}
 use Rattle.graph_steps.specs.Planes.{PlaneValue, block_image, block_images, no_plane}
 use Rattle.graph_steps.specs.Program.{KeepsBlock, SolvesSteps}
@@ -54,7 +55,7 @@ module _ {objects : List NamedObject} {v : Verified} {s : Schedule} (g : CanRunB
         lasting = forgotten_lasting (resolved_operand (operand_held objects) g.nodes) g.nodes objects _ l.lasting;
       }
 
-  module _ {blocks : List Samples} {first_planes : List PlaneValue} (t : ArePlanes objects v s blocks first_planes) {after : List PlaneValue} {counted : List Tally}
+  module _ {blocks : List BlockValue} {first_planes : List PlaneValue} (t : ArePlanes objects v s blocks first_planes) {after : List PlaneValue} {counted : List Tally}
       (leaves : Leaves (tables_of objects v.steps) (graph_tasks v.steps v.virtual_outputs g.slots (radius_of objects s.high)) (planes_of objects v.steps v.virtual_outputs t.virtuals) (tallies_of objects v.steps) after counted) where
     abbrev radius : Node → ℕ
     radius = radius_of objects s.high

@@ -1,8 +1,10 @@
 -- The table of a graph's objects while the samples of its images are in planes, and when they move back.
 use Rattle.std.proofs.Common.{◌≡◌, ◌≢◌, ℕ, suc, ◌+◌, ◌<◌, ◌≤◌, List, [], ◌∷◌, length, drop, get_or, refl, sym, ap, subst, ◌∙◌, inl, inr, arith, Option, Some, None, ◌⊎◌, IfSome, unwrap_or, option_map, option_and_then}
 use Rattle.std.proofs.lemmas.List.{get_or-drop, length-drop}
-use Rattle.graph_run.proofs.Common.{Reference, Function, object_at, HoldsImage, HoldsKind, image_held, ImageObject, ImageValue, In, In-at, Kind, kind_in, NamedObject, Node, object_kind, ObjectValue, operand_held, option_or, resolved_operand, run_of_graph, Samples, second_kind, Verified, with_written, description_of, parameters, DistributionObject, ExtremesObject}
+use Rattle.graph_run.proofs.Common.{Reference, Function, object_at, HoldsImage, HoldsKind, image_held, ImageObject, ImageValue, In, In-at, Kind, kind_in, NamedObject, Node, object_kind, ObjectValue, operand_held, option_or, resolved_operand, run_of_graph, second_kind, Verified, with_written, description_of, parameters, DistributionObject, ExtremesObject}
 use Rattle.vx_base.specs.declared.kind.Kind.TheVariants as kind
+use Rattle.vx_base.specs.Description.{sample_count}
+use Rattle.pixel_pool.specs.Block.{BlockValue, IsAllOrNone}
 use Rattle.graph_steps.specs.declared.tally.Tally.{Tally}
 use Rattle.graph_steps.specs.Tallies.{tally_at, tally_of}
 use Rattle.graph_steps.specs.Planes.{PlaneValue, no_plane, plane}
@@ -78,7 +80,7 @@ module _ (objects : List NamedObject) (cells : List Reference) (holds : HoldImag
 
   -- planes for the images are planes for these
   pub taken_for : (some : List Reference) (planes : List PlaneValue) → ((c : Reference) → In c some → In c cells) → AreFor objects some planes → AreFor taken some planes
-  taken_for (c ∷ some) (q ∷ planes) among are = (are.0 ∙ taken_description c (among c (inl refl)), are.1, taken_for some planes (λ d i. among d (inr i)) are.2)
+  taken_for (c ∷ some) (q ∷ planes) among are = (are.0 ∙ taken_description c (among c (inl refl)), are.1, are.2, taken_for some planes (λ d i. among d (inr i)) are.3)
   taken_for some planes among are = grind arith
 
   -- objects other than images stay
@@ -91,11 +93,12 @@ module _ (objects : List NamedObject) (cells : List Reference) (holds : HoldImag
 
 -- planes are for images where each is
 for_each : (objects : List NamedObject) (cells : List Reference) (planes : List PlaneValue) → length cells ≤ length planes
-    → ((k : ℕ) (d : Reference) → k < length cells → ((get_or planes k no_plane).desc ≡ description_of (image_held objects (get_or cells k d))) × ((get_or planes k no_plane).format ≡ (get_or planes k no_plane).desc.format))
+    → ((k : ℕ) (d : Reference) → k < length cells → ((get_or planes k no_plane).desc ≡ description_of (image_held objects (get_or cells k d))) × ((get_or planes k no_plane).format ≡ (get_or planes k no_plane).desc.format)
+    × IsAllOrNone (sample_count (get_or planes k no_plane).desc) (length (get_or planes k no_plane).samples))
     → AreFor objects cells planes
 for_each objects (c ∷ cells) (q ∷ planes) enough each =
     let own = each 0 c (omega arith) in
-    (own.0, own.1, for_each objects cells planes (omega (arith, enough)) (λ k d below. each (suc k) d (omega (arith, below))))
+    (own.0, own.1, own.2, for_each objects cells planes (omega (arith, enough)) (λ k d below. each (suc k) d (omega (arith, below))))
 for_each objects cells planes enough each = grind arith
 
 -- ---- tables
@@ -167,7 +170,7 @@ tallies_each l cells tallies enough each = grind arith
 -- ---- moving back
 
 module _ {objects : List NamedObject} {v : Verified} {s : Schedule} (g : CanRunBy objects v s)
-    {blocks : List Samples} {planes : List PlaneValue} (t : ArePlanes objects v s blocks planes) {after : List PlaneValue} {counted : List Tally}
+    {blocks : List BlockValue} {planes : List PlaneValue} (t : ArePlanes objects v s blocks planes) {after : List PlaneValue} {counted : List Tally}
     (leaves : Leaves (tables_of objects v.steps) (graph_tasks v.steps v.virtual_outputs g.slots (radius_of objects s.high)) (planes_of objects v.steps v.virtual_outputs t.virtuals) (tallies_of objects v.steps) after counted) where
   abbrev first_client : ℕ
   first_client = length v.virtual_outputs
@@ -193,6 +196,7 @@ module _ {objects : List NamedObject} {v : Verified} {s : Schedule} (g : CanRunB
     where
       each : (k : ℕ) (d : Reference) → k < length clients
           → ((get_or back k no_plane).desc ≡ description_of (image_held objects (get_or clients k d))) × ((get_or back k no_plane).format ≡ (get_or back k no_plane).desc.format)
+          × IsAllOrNone (sample_count (get_or back k no_plane).desc) (length (get_or back k no_plane).samples)
       each k d below =
           let at : ℕ = first_client + k in
           let c : Reference = get_or clients k d in
@@ -204,6 +208,7 @@ module _ {objects : List NamedObject} {v : Verified} {s : Schedule} (g : CanRunB
                 ∙ ap (λ (m : ℕ). (plane (planes_of objects v.steps v.virtual_outputs t.virtuals) m).desc) (sym index)
                 ∙ ap (λ (q : PlaneValue). q.desc) (client_plane g t c (In-at clients k d below)),
             subst (λ (q : PlaneValue). q.format ≡ q.desc.format) (sym there) (leaves.whole at keeps).format,
+            subst (λ (q : PlaneValue). IsAllOrNone (sample_count q.desc) (length q.samples)) (sym there) (inr (leaves.whole at keeps).size),
           )
 
   -- the images come back to cells that hold images of theirs

@@ -1,9 +1,11 @@
 -- Images that move from a table to planes for a run of a graph, and then back.
-use Rattle.std.specs.Prelude.{◌≡◌, ⊤, List, [], ◌∷◌, map}
+use Rattle.std.specs.Prelude.{◌≡◌, ⊤, List, [], ◌∷◌, length, map}
+use Rattle.vx_base.specs.Description.{sample_count}
 use Rattle.vx_base.specs.Reference.{Reference}
 use Rattle.vx_base.specs.Image.{ImageValue, image_over, description_of}
 use Rattle.vx_base.specs.Object.{ObjectValue, ImageObject}
 use Rattle.image_core.specs.Bands.{all_rows}
+use Rattle.pixel_pool.specs.Block.{IsAllOrNone}
 use Rattle.object_table.specs.NamedObject.{NamedObject}
 use Rattle.object_table.specs.Table.{HoldsImage, image_held}
 use Rattle.graph_verify.specs.Members.{In}
@@ -44,9 +46,10 @@ plane_objects (c ∷ cells) [] = []
 plane_objects (c ∷ cells) (p ∷ planes) = (c, ImageObject (block_image p)) ∷ plane_objects cells planes
 
 -- there is a plane for each reference, with the description of the reference's image, and with a
--- block of the image's format
+-- block of the image's format and number of samples, or without samples
 abbrev pub AreFor : List NamedObject → List Reference → List PlaneValue → Type 0
 AreFor objects [] planes = ⊤
 AreFor objects (c ∷ cells) [] = ⊥
 AreFor objects (c ∷ cells) (p ∷ planes) =
-    (p.desc ≡ description_of (image_held objects c)) × (p.format ≡ p.desc.format) × AreFor objects cells planes
+    (p.desc ≡ description_of (image_held objects c)) × (p.format ≡ p.desc.format)
+    × IsAllOrNone (sample_count p.desc) (length p.samples) × AreFor objects cells planes

@@ -5,6 +5,7 @@ use Rattle.vx_base.specs.declared.format.Format.TheVariants.{U8}
 use Rattle.vx_base.specs.declared.samples.Samples.{Samples}
 use Rattle.vx_base.specs.Description.{Description}
 use Rattle.vx_base.specs.Picture.{values, samples_format}
+use Rattle.pixel_pool.specs.Block.{BlockValue}
 use Rattle.pixel_pool.specs.Pool.{one_of}
 use Rattle.buffer_plan.specs.Plan.{PlanView}
 use Rattle.graph_verify.specs.declared.known.VirtualOutput.{VirtualOutput}
@@ -14,17 +15,29 @@ use Rattle.graph_steps.specs.declared.step.Task.TheVariants.{Write}
 use Rattle.graph_steps.specs.Program.{halo}
 use Rattle.graph_run.specs.Slots.{slot_index}
 
--- the format and the number of samples of a block
-abbrev pub block_size : Samples → Format × ℕ
-block_size block = (samples_format block, length (values block))
+-- the format and the number of samples
+abbrev pub samples_size : Samples → Format × ℕ
+samples_size samples = (samples_format samples, length (values samples))
+
+-- the format and the number of samples of a block; the number is 0 while the samples are lifted
+abbrev pub block_size : BlockValue → Format × ℕ
+block_size block = samples_size block.samples
+
+-- the format of a block, and the number of samples that the pool lent
+abbrev pub lent_size : BlockValue → Format × ℕ
+lent_size block = (samples_format block.samples, block.count)
 
 -- the format and the number of samples of the block at an index
-abbrev pub block_capacity : List Samples → ℕ → Format × ℕ
+abbrev pub block_capacity : List BlockValue → ℕ → Format × ℕ
 block_capacity blocks index = slice_index_or (map block_size blocks) index (U8, 0)
 
+-- the format of the block at an index, and the number of samples that the pool lent
+abbrev pub lent_capacity : List BlockValue → ℕ → Format × ℕ
+lent_capacity blocks index = slice_index_or (map lent_size blocks) index (U8, 0)
+
 -- the number of blocks of a format
-abbrev pub blocks_of_format : List Samples → Format → ℕ
-blocks_of_format blocks format = sum_by (λ b. one_of (samples_format b) format) blocks
+abbrev pub blocks_of_format : List BlockValue → Format → ℕ
+blocks_of_format blocks format = sum_by (λ b. one_of (lent_size b).0 format) blocks
 
 -- the number of blocks of this format, given the format and size of each block
 abbrev pub capacity_count : List (Format × ℕ) → Format → ℕ

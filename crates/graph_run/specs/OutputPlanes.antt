@@ -1,13 +1,14 @@
 -- Planes that hold the samples of a node's output images, from before the node is checked until it
 -- has run.
-use Rattle.std.specs.Prelude.{◌≡◌, ◌≢◌, IsTrue, is_some, List, map, Option, Some, None, IfSome, IfNone, IsSomeAnd, MatchOption}
+use Rattle.std.specs.Prelude.{◌≡◌, ◌≢◌, IsTrue, is_some, List, length, map, Option, Some, None, IfSome, IfNone, IsSomeAnd, MatchOption}
 use Rattle.vx_base.specs.declared.kind.Kind.{Kind}
 use Rattle.vx_base.specs.declared.kind.Kind.TheVariants as kind
 use Rattle.vx_base.specs.declared.node.Node.{Node}
 use Rattle.vx_base.specs.Reference.{Reference}
-use Rattle.vx_base.specs.Description.{Description}
+use Rattle.vx_base.specs.Description.{Description, sample_count}
 use Rattle.vx_base.specs.Function.{parameters}
 use Rattle.vx_base.specs.Object.{ImageObject}
+use Rattle.pixel_pool.specs.Block.{IsAllOrNone}
 use Rattle.object_table.specs.Context.{Context, object_named, with_objects}
 use Rattle.object_table.specs.NamedObject.{NamedObject, object_at, with_object}
 use Rattle.graph_verify.specs.declared.operand.Operand.TheVariants.{Image}
@@ -18,10 +19,11 @@ use Rattle.graph_run.specs.Lasting.{lasting_named}
 use Rattle.graph_run.specs.Operands.{HoldsOperand}
 
 -- the samples of the image that a reference names are in this plane; the image in the table has
--- no samples
+-- no samples. The plane has all samples of the image, or none if they were taken before
 pub record IsInPlane (objects : List NamedObject) (cell : Reference) (p : PlaneValue) : Type 0 where
   pub left : object_at objects cell ≡ Some (ImageObject (without_samples (block_image p)))
   pub whole : p ≡ image_plane (block_image p)
+  pub size : IsAllOrNone (sample_count p.desc) (length p.samples)
 
 -- if there is a plane, the output is given and its samples are in the plane
 abbrev pub IsInPlaneIf : List NamedObject → Option Reference → Option PlaneValue → Type 0

@@ -1,11 +1,11 @@
 -- Schedules: the planes, tasks and bands of a run of a verified graph.
-use Rattle.std.specs.Prelude.{◌≡◌, ◌≤◌, ◌<◌, ◌++◌, ℕ, List, drop, length, map, slice_index_or, All}
+use Rattle.std.specs.Prelude.{◌≡◌, ◌≤◌, ◌<◌, ◌++◌, ℕ, List, drop, length, map, slice_index_or, Some, All}
 use Rattle.std.specs.List.Sorted.{IsStrictlyIncreasing}
 use Rattle.vx_base.specs.declared.node.Node.{Node}
-use Rattle.vx_base.specs.declared.samples.Samples.{Samples}
 use Rattle.vx_base.specs.Reference.{Reference}
 use Rattle.vx_base.specs.Description.{IsDescription}
 use Rattle.vx_base.specs.Object.{ObjectValue, IsObject}
+use Rattle.pixel_pool.specs.Block.{BlockValue}
 use Rattle.object_table.specs.NamedObject.{NamedObject, with_written}
 use Rattle.object_table.specs.Table.{image_held}
 use Rattle.graph_verify.specs.declared.verified.Verified.{Verified}
@@ -13,16 +13,16 @@ use Rattle.buffer_plan.specs.Plan.{IsPlan, PlanView}
 use Rattle.graph_steps.specs.declared.tally.Tally.{Tally}
 use Rattle.graph_steps.specs.Planes.{PlaneValue, plane}
 use Rattle.graph_steps.specs.Program.{Suffice}
-use Rattle.graph_steps.specs.Steps.{capacities}
+use Rattle.graph_steps.specs.Steps.{capacities, capacity}
 use Rattle.graph_run.specs.declared.schedule.Schedule.{Schedule}
 use Rattle.graph_run.specs.Bind.{AreAllApart, AreFor, HoldImages, bare_images, image_planes, plane_objects}
-use Rattle.graph_run.specs.Blocks.{band_plan, block_capacity}
+use Rattle.graph_run.specs.Blocks.{band_plan, block_capacity, lent_capacity}
 use Rattle.graph_run.specs.Bound.{AreTalliesFor}
 use Rattle.graph_run.specs.Operands.{IsReady}
 use Rattle.graph_run.specs.Program.{AddOnce, client_cells, first_blocks, radius_of}
 use Rattle.graph_run.specs.Results.{tally_cells}
 use Rattle.graph_run.specs.Slots.{slot_index_of, planned_capacities}
-use Rattle.graph_run.specs.Tasks.{graph_cells, graph_tasks}
+use Rattle.graph_run.specs.Tasks.{graph_cells, graph_tasks, last_in}
 
 -- a schedule of a verified graph, with the slots of this plan
 pub record IsSchedule (objects : List NamedObject) (v : Verified) (p : PlanView) (s : Schedule) : Type 0 where
@@ -66,19 +66,19 @@ bare_objects objects v s = with_written objects (bare_images objects (schedule_c
 
 -- the planes before the tasks run: first the planes of virtual images, which have the slots'
 -- blocks, then the planes of the client's images
-pub record ArePlanes (objects : List NamedObject) (v : Verified) (s : Schedule) (blocks : List Samples) (planes : List PlaneValue) : Type 0 where
+pub record ArePlanes (objects : List NamedObject) (v : Verified) (s : Schedule) (blocks : List BlockValue) (planes : List PlaneValue) : Type 0 where
   pub virtuals : List PlaneValue
   pub descs : map (λ q. q.desc) virtuals ≡ map (λ o. o.desc) v.virtual_outputs
   pub first : capacities virtuals ≡ first_blocks s.slots.items (block_capacity blocks)
   pub all : planes ≡ virtuals ++ image_planes objects (schedule_clients v s)
 
 -- the samples of planes can move back to these blocks and objects, and the tallies to the objects
-pub record CanReturn (objects : List NamedObject) (v : Verified) (s : Schedule) (blocks : List Samples) (planes : List PlaneValue) (tallies : List Tally) : Type 0 where
+pub record CanReturn (objects : List NamedObject) (v : Verified) (s : Schedule) (blocks : List BlockValue) (planes : List PlaneValue) (tallies : List Tally) : Type 0 where
   pub slot_count : length s.slots.items ≡ length v.virtual_outputs
   pub cell_count : length v.virtual_outputs ≤ length s.cells.items
   pub plane_count : length v.virtual_outputs ≤ length planes
   pub within : (k : ℕ) → k < length s.slots.items → slice_index_or s.slots.items k 0 < length blocks
-  pub formats : (k : ℕ) → k < length s.slots.items → (plane planes k).format ≡ (block_capacity blocks (slice_index_or s.slots.items k 0)).0
+  pub sizes : (slot k : ℕ) → last_in slot s.slots.items ≡ Some k → capacity (capacities planes) k ≡ lent_capacity blocks slot
   pub images : HoldImages objects (schedule_clients v s)
   pub apart : AreAllApart (schedule_clients v s)
   pub planes_for : AreFor objects (schedule_clients v s) (drop (length v.virtual_outputs) planes)

@@ -1,7 +1,9 @@
 //! Moves images from a table of objects to planes before a run, and back after the run.
 ghost use Rattle.std.specs.Prelude.{◌≡◌, ◌+◌, ◌≤◌, ◌++◌, length, vec_capacity};
+ghost use Rattle.vx_base.specs.Description.{sample_count};
 ghost use Rattle.vx_base.specs.Image.{description_of};
 ghost use Rattle.vx_base.specs.Object.{ImageObject};
+ghost use Rattle.pixel_pool.specs.Block.{IsAllOrNone};
 ghost use Rattle.object_table.specs.Context.{with_objects};
 ghost use Rattle.object_table.specs.NamedObject.{with_object, with_written};
 ghost use Rattle.object_table.specs.Table.{HoldsImage, image_held};
@@ -63,6 +65,7 @@ pub fn put_image(table: &mut Table, cell: ObjRef, plane: &mut Plane)
     requires there { HoldsImage table.old.objects cell }
     requires desc { plane.old.desc ≡ description_of (image_held table.old.objects cell) }
     requires format { plane.old.format ≡ plane.old.desc.format }
+    requires size { IsAllOrNone (sample_count plane.old.desc) (length plane.old.samples) }
     ensures { table.new ≡ with_objects table.old
         (with_object table.old.objects cell (ImageObject (block_image plane.old))) }
 {

@@ -7,7 +7,7 @@ ghost use Rattle.object_table.specs.Blocks.{LendsAtLeast, LendsMore, LendsLess};
 ghost use Rattle.buffer_plan.specs.Places.{plan_view};
 ghost use Rattle.buffer_plan.specs.Plan.{IsPlan};
 ghost use Rattle.graph_run.specs.Blocks.{band_plan, band_samples, blocks_of_format, block_size};
-ghost use Rattle.graph_run.specs.Blocks.{capacity_count, samples_from};
+ghost use Rattle.graph_run.specs.Blocks.{capacity_count, lent_size, samples_from};
 ghost use Rattle.graph_run.specs.Slots.{slot_index_of, planned_capacities, capacities_for};
 ghost use Rattle.graph_run.specs.Slots.{slot_index};
 
@@ -160,6 +160,7 @@ pub fn take_blocks(
     capacities: &[(Format, usize)],
 ) -> Result<(), AllocError>
     ensures capacities { OnOk result (map block_size blocks.new.items ≡ capacities.now) }
+    ensures lent_sizes { OnOk result (map lent_size blocks.new.items ≡ capacities.now) }
     ensures lends { OnOk result
         (LendsMore pool.old pool.new (blocks_of_format blocks.new.items)) }
     ensures err { OnErr result (KeepsLent pool.old pool.new) }
@@ -186,6 +187,7 @@ fn add_blocks(
     requires none { blocks.old.items ≡ [] }
     requires room { length capacities.now ≤ vec_capacity blocks.old }
     ensures capacities { OnOk result (map block_size blocks.new.items ≡ capacities.now) }
+    ensures lent_sizes { OnOk result (map lent_size blocks.new.items ≡ capacities.now) }
     ensures lends { LendsMore pool.old pool.new (blocks_of_format blocks.new.items) }
     ensures adds { (format : SampleFormat) → blocks_of pool.new format
         ≤ blocks_of pool.old format + capacity_count capacities.now format }

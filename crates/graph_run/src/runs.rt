@@ -16,14 +16,13 @@ ghost use Rattle.buffer_plan.specs.Plan.{IsPlan, PlanView};
 ghost use Rattle.graph_run.specs.Graph.{run_of_graph};
 ghost use Rattle.graph_run.specs.Lasting.{Lasts};
 ghost use Rattle.graph_run.specs.Operands.{operand_held, IsReady};
-ghost use Rattle.vx_base.specs.Picture.{samples_format};
 ghost use Rattle.object_table.specs.Context.{with_objects};
 ghost use Rattle.object_table.specs.NamedObject.{with_written};
 ghost use Rattle.graph_steps.specs.Program.{IsProgram};
 ghost use Rattle.graph_steps.specs.Runs.{CanReduceBand};
 ghost use Rattle.graph_steps.specs.Steps.{capacities, capacity};
 ghost use Rattle.graph_run.specs.Bind.{AreAllApart, AreFor, HoldImages, plane_objects};
-ghost use Rattle.graph_run.specs.Blocks.{block_size, block_capacity, capacity_count};
+ghost use Rattle.graph_run.specs.Blocks.{block_size, block_capacity, capacity_count, lent_size};
 ghost use Rattle.graph_run.specs.Bound.{LendTables};
 ghost use Rattle.graph_run.specs.Program.{tables_of, tallies_of};
 ghost use Rattle.graph_run.specs.Results.{tally_objects};
@@ -184,7 +183,7 @@ fn fill_planes(
         schedule.now.tasks.items planes.new.items }
     ensures reduces { CanReduceBand 0 schedule.now.tasks.items planes.new.items
         (tallies_of table.old.objects verified.now.steps) }
-    ensures formats { map samples_format blocks.new ≡ map samples_format blocks.old }
+    ensures lent_sizes { map lent_size blocks.new ≡ map lent_size blocks.old }
     ensures unused { (s : ℕ) → last_in s schedule.now.slots.items ≡ None →
         block_capacity blocks.new s ≡ block_capacity blocks.old s }
     ensures left { table.new ≡ with_objects table.old
@@ -215,7 +214,7 @@ fn empty_planes(
         block_capacity blocks.new s ≡ capacity (capacities planes.old) k }
     ensures unused { (s : ℕ) → last_in s schedule.now.slots.items ≡ None →
         block_capacity blocks.new s ≡ block_capacity blocks.old s }
-    ensures formats { map samples_format blocks.new ≡ map samples_format blocks.old }
+    ensures lent_sizes { map lent_size blocks.new ≡ map lent_size blocks.old }
 {
     return_blocks(&schedule.slots, blocks, planes);
     put_behind(

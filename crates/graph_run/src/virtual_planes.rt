@@ -1,10 +1,8 @@
 //! Planes of virtual images, over the blocks of their slots.
 ghost use Rattle.std.specs.Prelude.{◌≡◌, ◌≤◌, ◌<◌, ℕ, [], None, Some, drop, length, map};
-ghost use Rattle.vx_base.specs.Picture.{samples_format};
 ghost use Rattle.std.specs.Prelude.{slice_index_or, vec_capacity};
-ghost use Rattle.graph_steps.specs.Planes.{plane};
 ghost use Rattle.graph_steps.specs.Steps.{capacities, capacity};
-ghost use Rattle.graph_run.specs.Blocks.{block_size, block_capacity};
+ghost use Rattle.graph_run.specs.Blocks.{block_capacity, lent_capacity, lent_size, samples_size};
 ghost use Rattle.graph_run.specs.Program.{first_blocks};
 ghost use Rattle.graph_run.specs.Tasks.{block_at, is_at, last_in};
 
@@ -31,7 +29,7 @@ pub fn add_virtual(
     ensures descs { map (λ q. q.desc) planes.new.items ≡ map (λ o. o.desc) images.now }
     ensures blocks { capacities planes.new.items
         ≡ first_blocks slots.now (block_capacity blocks.old) }
-    ensures formats { map samples_format blocks.new ≡ map samples_format blocks.old }
+    ensures lent_sizes { map lent_size blocks.new ≡ map lent_size blocks.old }
     ensures unused { (s : ℕ) → last_in s slots.now ≡ None →
         block_capacity blocks.new s ≡ block_capacity blocks.old s }
     ensures capacity { vec_capacity planes.new ≡ vec_capacity planes.old }
@@ -49,8 +47,8 @@ pub fn add_virtual(
 fn first_block(alloc: Global, slots: &[usize], k: usize, blocks: &mut [Block]) -> Samples
     requires there { k < length slots.now }
     requires within { slice_index_or slots.now k 0 < length blocks.old }
-    ensures size { block_size result ≡ block_at slots.now (block_capacity blocks.old) 0 k }
-    ensures formats { map samples_format blocks.new ≡ map samples_format blocks.old }
+    ensures size { samples_size result ≡ block_at slots.now (block_capacity blocks.old) 0 k }
+    ensures lent_sizes { map lent_size blocks.new ≡ map lent_size blocks.old }
     ensures others { (s j : ℕ) → last_in s slots.now ≡ Some j → k < j →
         block_capacity blocks.new s ≡ block_capacity blocks.old s }
     ensures unused { (s : ℕ) → last_in s slots.now ≡ None →
@@ -74,7 +72,7 @@ fn is_last(slots: &[usize], k: usize) -> bool
 
 /// Returns an empty list of samples of a format. Allocates nothing.
 fn empty_block(alloc: Global, format: Format) -> Samples
-    ensures { block_size result ≡ (format, 0) }
+    ensures { samples_size result ≡ (format, 0) }
 {
     match format {
         Format::U8 => Samples::U8(Vec::new(alloc)),
@@ -89,13 +87,13 @@ pub fn return_blocks(slots: &[usize], blocks: &mut [Block], planes: &mut [Plane]
     requires count { length slots.now ≤ length planes.old }
     requires within { (k : ℕ) → k < length slots.now →
         slice_index_or slots.now k 0 < length blocks.old }
-    requires formats { (k : ℕ) → k < length slots.now → (plane planes.old k).format
-        ≡ (block_capacity blocks.old (slice_index_or slots.now k 0)).0 }
+    requires sizes { (s k : ℕ) → last_in s slots.now ≡ Some k →
+        capacity (capacities planes.old) k ≡ lent_capacity blocks.old s }
     ensures back { (s k : ℕ) → last_in s slots.now ≡ Some k →
         block_capacity blocks.new s ≡ capacity (capacities planes.old) k }
     ensures unused { (s : ℕ) → last_in s slots.now ≡ None →
         block_capacity blocks.new s ≡ block_capacity blocks.old s }
-    ensures formats { map samples_format blocks.new ≡ map samples_format blocks.old }
+    ensures lent_sizes { map lent_size blocks.new ≡ map lent_size blocks.old }
     ensures others { drop (length slots.now) planes.new ≡ drop (length slots.now) planes.old }
     ensures count { length planes.new ≡ length planes.old }
 {

@@ -204,3 +204,10 @@ module _ (s : Step) (first : ImageValue) (second : Option ObjectValue) (p : Plan
       ∙ ap (λ (r : Band). block_image (with_rows r (image_from_inputs s first second (plane_image (with_read_rows r p))) p)) is
       ∙ ap (λ (own : ImageValue). block_image (with_rows (all_rows p.desc.height) (image_from_inputs s first second own) p)) all_own
       ∙ written_whole p made (sym (made_description s first second p.desc (block_image p) can refl)) whole made_size
+
+  -- the plane then has as many samples as before
+  pub all_size : (new : PlaneValue) (rows : Band) → rows ≡ all_rows p.desc.height → new ≡ with_rows rows (image_from_inputs s first second (plane_image (with_read_rows rows p))) p → length new.samples ≡ p.desc.height * p.desc.width
+  all_size new rows is written =
+      ap (λ (image : ImageValue). length image.samples) (all_written new rows is written)
+      ∙ made_size
+      ∙ ap (λ (d : Description). d.height * d.width) (made_description s first second p.desc (block_image p) can refl)

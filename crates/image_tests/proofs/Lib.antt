@@ -1,2 +1,2 @@
 mod ImageLaws
-mod BandLemmas
+mod RowLaws

@@ -1,7 +1,8 @@
-//! PGM texts: texts that encode pictures, and texts that don't.
-use pgm_images::{PgmFault, read};
+//! PGM texts: texts that encode pictures, texts that don't, and the text of an image.
+use crate::images::lend;
+use pgm_images::{PgmFault, read, write};
 use std::test::Fail;
-use vx_base::{Desc, Format, Samples};
+use vx_base::{Desc, Format, Rect, Samples};
 
 #[test]
 fn pictures(rt: HostRuntime) -> Result<(), Fail> {
@@ -83,4 +84,14 @@ fn what_is_cut_short_is_none(rt: HostRuntime) {
         }
         assert!(rt; fault(rt, text) == None);
     }
+}
+
+#[test]
+fn text_of_an_image(rt: HostRuntime) -> Result<(), Fail> {
+    let desc = Desc::new(3, 3, Format::U8).ok_or("a description")?;
+    let centre = Rect::new(1, 1, 2, 2).ok_or("a rectangle")?;
+    let mut samples = [1, 2, 9, 3, 4, 8, 5, 6, 7];
+    let text = write(rt.alloc(), &lend(desc, centre, &mut samples))?;
+    assert!(rt; text.as_slice() == b"P5\n3 3\n255\n\0\0\0\0\x04\0\0\0\0".as_slice());
+    Ok(())
 }

@@ -1,5 +1,5 @@
--- The items of a list of samples: the number that equal an item, and their least or greatest.
-use Rattle.std.proofs.Common.{◌≡◌, ℕ, ℤ, pos, ◌+◌, ◌-◌, ◌%◌, ◌^◌, ◌<◌, ◌≤◌, List, [], ◌∷◌, ◌++◌, length, map, take, get_or, cond, true, false, eqb, replicate, ap, ◌∙◌, sym, refl, arith, rules, inl, inr, to_z, of_z, w8, w16, FitsSigned, count_by, slice_range, eq-eqb, ne_eqb, map-id}
+-- The number of samples in a list that equal an item.
+use Rattle.std.proofs.Common.{◌≡◌, ℕ, ℤ, pos, ◌+◌, ◌-◌, ◌%◌, ◌^◌, ◌≤◌, List, [], ◌∷◌, ◌++◌, length, map, take, cond, true, false, eqb, replicate, ap, ◌∙◌, sym, refl, arith, rules, inl, inr, to_z, of_z, w8, w16, FitsSigned, count_by, slice_range, eq-eqb, ne_eqb, map-id}
 use Rattle.lane_rows.proofs.Common.{Each1, Width, cases_Bool, cases_eq, fold, int_eq, int_max, int_min, ints, length-map, ones, take-map, to_z-of_z, top, zip2, sum_by-append, sum_by-cons, count_by-le-length, best_of, count_of, common_steps, Each1-all}
 use Rattle.std.proofs.lemmas.Bool.Decides.{Decides-int_eq}
 use Rattle.lane_rows.proofs.BlockLaws.{block_read}
@@ -64,19 +64,3 @@ same_bits z v fits v_fits = elim (cases_eq (of_z w16 z) (of_z w16 v)) [
 pub shorts_counted : (v : ℤ) (zs : List ℤ) → length zs ≡ 32 → FitsSigned w16 v → Each1 (FitsSigned w16) zs
     → ones (mask 15 65535 (of_z w16 v) (map (of_z w16) zs) % 2 ^ 64) ≡ count_of v (map (λ z. z) zs)
 shorts_counted v zs long v_fits fits = coded w16 (λ z. z) (of_z w16) v zs long (Each1-weaker (FitsSigned w16) (λ z. eqb (of_z w16 z) (of_z w16 v) ≡ int_eq z v) (λ z p. same_bits z v p v_fits) zs fits)
-
--- ---- choices
-
-module _ (choose : ℤ → ℤ → ℤ) (same : (z : ℤ) → choose z z ≡ z) where
-  -- a choice that begins with the first item, and meets it again
-  first_again : {T : Type 0} (value : T → ℤ) (row : List T) (r : T) → 0 < length row → r ≡ get_or row 0 r → fold choose (value r) (map value row) ≡ best_of choose (map value row)
-  first_again value [] r some is = absurd (omega arith)
-  first_again value (x ∷ row) r some is = ap (λ a. fold choose a (map value row)) (ap (λ y. choose (value y) (value x)) is ∙ same (value x))
-
-pub least_again : {T : Type 0} (value : T → ℤ) (row : List T) (r : T) → 0 < length row → r ≡ get_or row 0 r → fold int_min (value r) (map value row) ≡ best_of int_min (map value row)
-least_again = first_again int_min (λ z. grind (arith, ints))
-
-pub greatest_again : {T : Type 0} (value : T → ℤ) (row : List T) (r : T) → 0 < length row → r ≡ get_or row 0 r → fold int_max (value r) (map value row) ≡ best_of int_max (map value row)
-greatest_again = first_again int_max (λ z. grind (arith, ints))
-
-pub ruleset extents = (common_steps, least_again, greatest_again)

@@ -12,6 +12,7 @@ mod ShortLanes
 mod ThresholdLaws
 mod StoreLaws
 pub mod CountLaws
+pub mod ExtentLaws
 mod RunningLaws
 mod TallyLaws
 pub mod RunLaws

@@ -1,19 +1,20 @@
 //! Comparisons of items, one by one and in lanes.
-ghost use Rattle.std.specs.Prelude.{◌≡◌, map, length};
+ghost use Rattle.std.specs.Prelude.{◌≡◌, ◌<◌, map, length};
 ghost use Rattle.std.specs.Int.{int_min, int_max};
 ghost use Rattle.std.specs.Ordering.{int_eq};
-ghost use Rattle.vx_base.specs.Statistics.{count_of};
+ghost use Rattle.vx_base.specs.Statistics.{best_of, count_of};
 
+use crate::extent::{extent_of_bytes, extent_of_shorts};
 use crate::item::{Short, bytes_of, shorts_of};
 use std::simd::prelude::*;
 
 /// An item type with an order: `u8` or `i16`.
 pub trait Compared: Short {
-    fn lesser(self, other: Self) -> Self
-        ensures { Self.value result ≡ int_min (Self.value self) (Self.value other) };
-
-    fn greater(self, other: Self) -> Self
-        ensures { Self.value result ≡ int_max (Self.value self) (Self.value other) };
+    /// Returns the least and the greatest item of a non-empty row.
+    fn extent_of(row: &[Self]) -> (Self, Self)
+        requires { 0 < length row.now }
+        ensures least { Self.value result.0 ≡ best_of int_min (map Self.value row.now) }
+        ensures greatest { Self.value result.1 ≡ best_of int_max (map Self.value row.now) };
 
     /// Returns whether the items are equal.
     fn is(self, other: Self) -> bool
@@ -26,12 +27,8 @@ pub trait Compared: Short {
 }
 
 impl Compared for u8 {
-    fn lesser(self, other: u8) -> u8 {
-        self.min(other)
-    }
-
-    fn greater(self, other: u8) -> u8 {
-        self.max(other)
+    fn extent_of(row: &[u8]) -> (u8, u8) {
+        extent_of_bytes(row)
     }
 
     fn is(self, other: u8) -> bool {
@@ -45,12 +42,8 @@ impl Compared for u8 {
 }
 
 impl Compared for i16 {
-    fn lesser(self, other: i16) -> i16 {
-        self.min(other)
-    }
-
-    fn greater(self, other: i16) -> i16 {
-        self.max(other)
+    fn extent_of(row: &[i16]) -> (i16, i16) {
+        extent_of_shorts(row)
     }
 
     fn is(self, other: i16) -> bool {

@@ -1,5 +1,6 @@
-//! Writes or updates rows item by item, for example the items after the last complete block.
+//! Writes, updates or folds rows item by item, for example the items after the last complete block.
 ghost use Rattle.std.specs.Prelude.{◌≡◌, map, length};
+ghost use Rattle.std.specs.List.{fold};
 ghost use Rattle.std.specs.Simd.Lanes.{zip2};
 
 use crate::item::Item;
@@ -43,4 +44,24 @@ pub fn update_items<A: Item, T: Item, K: OfSum<A, T>>(kernel: &K, row: &[A], sum
     for (i, sum) in sums.iter_mut().enumerate() {
         *sum = kernel.item(row[i], *sum);
     }
+}
+
+/// Folds a row: the kernel's result for `start` and the first item, then for that result and the
+/// second item, and so on.
+pub fn fold_items<T: Item, K: OfPair<T, T, T>>(kernel: &K, start: T, row: &[T]) -> T
+    ensures { T.value result ≡ fold (K.formula kernel.now) (T.value start) (map T.value row.now) }
+{
+    let mut total = start;
+    for item in row {
+        total = kernel.item(total, *item);
+    }
+    total
+}
+
+/// Folds two rows, one after the other.
+pub fn fold_rows<T: Item, K: OfPair<T, T, T>>(kernel: &K, start: T, row: &[T], next: &[T]) -> T
+    ensures { T.value result ≡ fold (K.formula kernel.now)
+        (fold (K.formula kernel.now) (T.value start) (map T.value row.now)) (map T.value next.now) }
+{
+    fold_items(kernel, fold_items(kernel, start, row), next)
 }

@@ -11,7 +11,8 @@
 //!
 //! - `item`: the number types of items
 //! - `kernel`: the traits of kernels, for one row, for two rows, and for updates
-//! - `rows`, `items`: write whole rows: blocks in lanes, then the remaining items one by one
+//! - `rows`, `items`: write whole rows: blocks in lanes, then the remaining items one by one. Fold
+//!   rows item by item
 //! - `stores`: stores of lanes, and stores for kernels without vector instructions
 //! - `overflow`: policies as types, so that no loop tests the policy
 //! - `arithmetic`: kernels of two U8 or S16 items
@@ -41,6 +42,11 @@
 //! they take half as many. A kernel that updates a row has blocks of 16 items. Kernels without a
 //! time were not measured on their own.
 //!
+//! The vision functions pass kernels to `map_row`, `zip_rows` and `update_row`, and to traits of
+//! their own for windows. Of the functions in the table they call only `running_sums`, `tally_row`,
+//! `Compared::extent_of`, `count_of`, `first_of` and `median9`. The other functions are for other
+//! programs in Rattle; `image_tests` calls each of them.
+//!
 //! | Kernel | Formula | Conditions | v2 | v3 |
 //! |---|---|---|---|---|
 //! | `and_u8`, `or_u8`, `xor_u8` | a AND b, a OR b, a XOR b | | 31 | 18 |
@@ -64,7 +70,7 @@
 //! | `running_sums` | b plus the sum of a and the items before it, modulo 2^32 | U8, U32 rows | | |
 //! | `tally_row` | c plus the count of each byte | updates four histograms | | |
 //! | `extremes_u8`, `extremes_s16` | least and greatest item, with their counts | not empty | | |
-//! | `least_of`, `greatest_of` | least item, greatest item | U8 or S16 row, not empty | | |
+//! | `Compared::extent_of` | least and greatest item | U8 or S16 row, not empty | | |
 //! | `count_of`, `first_of` | count of an item, its first index | U8 or S16 row | | |
 //! | `Rise` | z - x | U8 rows, or rows of weighted sums | | |
 //! | `Weighted` | x + 2y + z | U8 rows, or rows of differences | | |
@@ -119,7 +125,7 @@ pub use columns::{Change, OfColumn, Rise, Weighted, WeightedSum};
 pub use compared::Compared;
 pub use depths::{Narrowed, ShiftedUp, narrow, shift_up, widen};
 pub use distances::{Distance, absdiff_s16, absdiff_u8};
-pub use extent::{RowExtremes, extremes_s16, extremes_u8, greatest_of, least_of};
+pub use extent::{RowExtremes, extremes_s16, extremes_u8};
 pub use extremes::{Greater, Smaller, max_s16, max_u8, min_s16, min_u8};
 pub use gradients::{GradientX, GradientY, sobel_x, sobel_y};
 pub use item::{Item, Short};

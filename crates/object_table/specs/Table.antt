@@ -10,13 +10,14 @@ use Rattle.vx_base.specs.declared.kind.Kind.{Kind}
 use Rattle.vx_base.specs.declared.kind.Kind.TheVariants as kind
 use Rattle.vx_base.specs.declared.node.Node.{Node}
 use Rattle.vx_base.specs.Reference.{Reference}
-use Rattle.vx_base.specs.Description.{Description}
+use Rattle.vx_base.specs.Description.{Description, sample_count}
 use Rattle.vx_base.specs.Graph.{GraphValue}
 use Rattle.vx_base.specs.Image.{ImageValue, description_of, new_image}
 use Rattle.vx_base.specs.Object.{ObjectValue, ImageObject, object_bytes, object_kind}
 use Rattle.vx_base.specs.Picture.{values, samples_format}
 use Rattle.vx_base.specs.Rectangle.{Rectangle}
 use Rattle.vx_base.specs.declared.samples.Samples.{Samples}
+use Rattle.pixel_pool.specs.Block.{IsAllOrNone}
 use Rattle.object_table.specs.declared.table.Entry.{Entry}
 use Rattle.object_table.specs.Context.{Context, charge_of, object_named, with_objects}
 use Rattle.object_table.specs.NamedObject.{NamedObject, object_held, object_at, with_object}
@@ -64,6 +65,7 @@ pub record TakesImage (old new : Context) (cell : Reference) (image : Descriptio
   pub valid : image.1 ≡ (image_held old.objects cell).valid
   pub value : values image.2 ≡ (image_held old.objects cell).samples
   pub format : samples_format image.2 ≡ (image_held old.objects cell).format
+  pub size : IsAllOrNone (sample_count image.0) (length (values image.2))
   pub left : new ≡ with_objects old (with_object old.objects cell (with_samples (cell_object old.objects cell) (image_held old.objects cell).valid []))
 
 -- ---- entries

@@ -2,6 +2,7 @@
 ghost use Rattle.std.specs.Prelude.{◌≡◌, ◌<◌, ◌≤◌, ◌*◌, [], length, slice_get, slice_index_or};
 ghost use Rattle.std.specs.Prelude.{slice_set, sum_by, Some, None, IfOk, IfErr, OnErr};
 ghost use Rattle.vx_base.specs.declared.format.Format.TheVariants.{U8};
+ghost use Rattle.vx_base.specs.Description.{sample_count};
 ghost use Rattle.vx_base.specs.Rectangle.{IsWithin};
 ghost use Rattle.vx_base.specs.Image.{ImageValue, IsImage, new_image, image_over, description_of};
 ghost use Rattle.vx_base.specs.Image.{with_valid};
@@ -9,6 +10,7 @@ ghost use Rattle.vx_base.specs.Object.{IsDelay, image_bytes};
 ghost use Rattle.vx_base.specs.Picture.{values, samples_format, picture_image};
 ghost use Rattle.object_table.specs.declared.fault.TableFault.TheVariants.{InvalidValue};
 ghost use Rattle.pixel_pool.specs.Pool.{KeepsLent};
+ghost use Rattle.pixel_pool.specs.Block.{IsAllOrNone};
 ghost use Rattle.object_table.specs.Blocks.{delay_blocks, LendsAtLeast, LendsMore, LendsLess};
 ghost use Rattle.object_table.specs.Delay.{new_delay, aged_images, image_in};
 ghost use Rattle.vx_base.specs.declared.desc.TheConstants.{GREATEST_BYTES};
@@ -132,6 +134,8 @@ impl Delay {
         ensures desc { result.0 ≡ description_of (image_in self.old k) }
         ensures value { values result.1 ≡ (image_in self.old k).samples }
         ensures format { samples_format result.1 ≡ (image_in self.old k).format }
+        ensures size { IsAllOrNone (sample_count (description_of (image_in self.old k)))
+            (length (values result.1)) }
         ensures left { self.new ≡ slice_set self.old k
             (image_over (description_of (image_in self.old k)) (image_in self.old k).valid []) }
         ensures bytes { sum_by image_bytes self.new ≡ sum_by image_bytes self.old }
@@ -140,10 +144,13 @@ impl Delay {
         image.take()
     }
 
-    /// Puts samples into the image in a slot, and sets the image's valid rectangle.
+    /// Puts a sample for each pixel into the image in a slot, or none, and sets the image's valid
+    /// rectangle.
     pub fn put(&mut self, k: u8, samples: Samples, valid: Rect)
         requires within { k < length self.old }
         requires format { samples_format samples ≡ (image_in self.old k).format }
+        requires size { IsAllOrNone (sample_count (description_of (image_in self.old k)))
+            (length (values samples)) }
         ensures value { self.new ≡ slice_set self.old k
             (image_over (description_of (image_in self.old k)) valid (values samples)) }
         ensures bytes { sum_by image_bytes self.new ≡ sum_by image_bytes self.old }

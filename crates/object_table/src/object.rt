@@ -4,6 +4,7 @@ ghost use Rattle.std.specs.Prelude.{is_some};
 ghost use Rattle.std.specs.Prelude.{length, find, Some, IfOk, IfErr, OnOk, OnErr};
 ghost use Rattle.std.specs.Result.{is_err};
 ghost use Rattle.vx_base.specs.declared.kind.Kind.TheVariants as kind;
+ghost use Rattle.vx_base.specs.Description.{sample_count};
 ghost use Rattle.vx_base.specs.Rectangle.{IsWithin};
 ghost use Rattle.vx_base.specs.Image.{IsImage, description_of, with_valid};
 ghost use Rattle.std.specs.Prelude.{◌≢◌};
@@ -13,6 +14,7 @@ ghost use Rattle.vx_base.specs.Graph.{with_delays};
 ghost use Rattle.vx_base.specs.Object.{ImageObject, DelayObject, ExtremesObject, GraphObject};
 ghost use Rattle.vx_base.specs.Object.{IsObject, object_bytes, object_kind};
 ghost use Rattle.vx_base.specs.Picture.{values, samples_format, picture_image};
+ghost use Rattle.pixel_pool.specs.Block.{IsAllOrNone};
 ghost use Rattle.object_table.specs.Blocks.{object_blocks, LendsAtLeast, LendsLess};
 ghost use Rattle.object_table.specs.Delay.{in_slot, object_in, slot_kind, with_slot, HasImage};
 ghost use Rattle.object_table.specs.Object.{value_of, image_value, distribution_value, graph_value};
@@ -213,6 +215,8 @@ impl Object {
         ensures desc { result.0 ≡ description_of (image_value (object_in slot self.old)) }
         ensures value { values result.1 ≡ (image_value (object_in slot self.old)).samples }
         ensures format { samples_format result.1 ≡ (image_value (object_in slot self.old)).format }
+        ensures size { IsAllOrNone (sample_count (description_of (image_value (object_in slot self.old))))
+            (length (values result.1)) }
         ensures left { self.new ≡ with_slot slot
             (with_samples (object_in slot self.old)
             (image_value (object_in slot self.old)).valid []) self.old }
@@ -225,11 +229,13 @@ impl Object {
         }
     }
 
-    /// Puts samples into the image that `image(slot)` returns, and sets the image's valid
-    /// rectangle.
+    /// Puts a sample for each pixel into the image that `image(slot)` returns, or none, and sets
+    /// the image's valid rectangle.
     pub fn put(&mut self, slot: Option<u8>, samples: Samples, valid: Rect)
         requires there { HasImage slot self.old }
         requires format { samples_format samples ≡ (image_value (object_in slot self.old)).format }
+        requires size { IsAllOrNone (sample_count (description_of (image_value (object_in slot self.old))))
+            (length (values samples)) }
         ensures value { self.new ≡ with_slot slot
             (with_samples (object_in slot self.old) valid (values samples)) self.old }
         ensures bytes { object_bytes self.new ≡ object_bytes self.old }

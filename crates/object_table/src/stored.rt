@@ -1,10 +1,12 @@
 //! Images that a context holds.
 ghost use Rattle.std.specs.Prelude.{◌≡◌, ◌+◌, ◌*◌, ◌<◌, ◌≤◌, ◌^◌, [], length, IfOk, OnErr};
 ghost use Rattle.vx_base.specs.Rectangle.{IsWithin, whole_rectangle};
+ghost use Rattle.vx_base.specs.Description.{sample_count};
 ghost use Rattle.vx_base.specs.Image.{IsImage, new_image, image_over, description_of, with_valid};
 ghost use Rattle.vx_base.specs.Image.{band, zero_outside};
 ghost use Rattle.image_core.specs.Rows.{sample_from};
 ghost use Rattle.vx_base.specs.Picture.{values, samples_format, picture_of, picture_image};
+ghost use Rattle.pixel_pool.specs.Block.{IsAllOrNone};
 ghost use Rattle.object_table.specs.Blocks.{image_blocks, LendsAtLeast, LendsMore, LendsLess};
 
 use image_core::{Band, Image, clear_rows};
@@ -24,13 +26,15 @@ pub struct Stored {
 impl Model for Stored {
     ghost use Rattle.vx_base.specs.Image.{ImageValue, image_over};
     ghost use Rattle.std.specs.Prelude.{◌≡◌};
+    ghost use Rattle.vx_base.specs.Description.{sample_count};
     ghost use Rattle.vx_base.specs.Picture.{values, samples_format};
 
     ghost Value = { ImageValue };
 
-    ghost view = { λ i. image_over i.desc i.valid (values i.block) };
+    ghost view = { λ i. image_over i.desc i.valid (values i.block.samples) };
 
-    ghost invariant = { λ i. samples_format i.block ≡ i.desc.format };
+    ghost invariant = { λ i. (samples_format i.block.samples ≡ i.desc.format)
+        × (i.block.count ≡ sample_count i.desc) };
 }
 
 impl Stored {
@@ -136,14 +140,18 @@ impl Stored {
         ensures desc { result.0 ≡ description_of self.old }
         ensures value { values result.1 ≡ self.old.samples }
         ensures format { samples_format result.1 ≡ self.old.format }
+        ensures size { IsAllOrNone (sample_count (description_of self.old))
+            (length (values result.1)) }
         ensures left { self.new ≡ image_over (description_of self.old) self.old.valid [] }
     {
         (self.desc, self.block.lift())
     }
 
-    /// Puts samples into the image, and sets the valid rectangle.
+    /// Puts a sample for each pixel into the image, or none, and sets the valid rectangle.
     pub fn put(&mut self, samples: Samples, valid: Rect)
-        requires { samples_format samples ≡ self.old.format }
+        requires format { samples_format samples ≡ self.old.format }
+        requires size { IsAllOrNone (sample_count (description_of self.old))
+            (length (values samples)) }
         ensures { self.new ≡ image_over (description_of self.old) valid (values samples) }
     {
         self.block.put(samples);

@@ -6,6 +6,7 @@ ghost use Rattle.std.specs.Prelude.{if◌then◌else◌, length, map, IfOk, IfEr
 ghost use Rattle.std.specs.Prelude.{IfSome, IfNone};
 ghost use Rattle.std.specs.Option.{option_map};
 ghost use Rattle.vx_base.specs.declared.kind.Kind.TheVariants as kind;
+ghost use Rattle.vx_base.specs.Description.{sample_count};
 ghost use Rattle.vx_base.specs.Rectangle.{IsWithin};
 ghost use Rattle.vx_base.specs.Image.{IsImage, description_of, with_valid};
 ghost use Rattle.vx_base.specs.Object.{ImageObject, ExtremesObject, IsObject};
@@ -13,6 +14,7 @@ ghost use Rattle.vx_base.specs.Picture.{values, samples_format, picture_image};
 ghost use Rattle.object_table.specs.declared.fault.TableFault.TheVariants.{InvalidReference};
 ghost use Rattle.object_table.specs.declared.fault.TableFault.TheVariants.{NoMemory, NoResources};
 ghost use Rattle.vx_base.specs.Reference.{reference_to};
+ghost use Rattle.pixel_pool.specs.Block.{IsAllOrNone};
 ghost use Rattle.object_table.specs.Blocks.{blocks_in, LendsAtLeast, LendsLess};
 ghost use Rattle.object_table.specs.Context.{new_context, object_named, charge_of, can_insert};
 ghost use Rattle.object_table.specs.Context.{with_new, with_objects};
@@ -238,6 +240,9 @@ impl Table {
         ensures desc { result.0 ≡ description_of (image_held self.old.objects cell) }
         ensures value { values result.1 ≡ (image_held self.old.objects cell).samples }
         ensures format { samples_format result.1 ≡ (image_held self.old.objects cell).format }
+        ensures size { IsAllOrNone
+            (sample_count (description_of (image_held self.old.objects cell)))
+            (length (values result.1)) }
         ensures left { self.new ≡ with_objects self.old
             (with_object self.old.objects cell
             (with_samples (cell_object self.old.objects cell)
@@ -254,6 +259,9 @@ impl Table {
         ensures valid { result.1 ≡ (image_held self.old.objects cell).valid }
         ensures value { values result.2 ≡ (image_held self.old.objects cell).samples }
         ensures format { samples_format result.2 ≡ (image_held self.old.objects cell).format }
+        ensures size { IsAllOrNone
+            (sample_count (description_of (image_held self.old.objects cell)))
+            (length (values result.2)) }
         ensures left { self.new ≡ with_objects self.old
             (with_object self.old.objects cell
             (with_samples (cell_object self.old.objects cell)
@@ -286,10 +294,14 @@ impl Table {
         Some((desc, valid, samples))
     }
 
-    /// Puts samples into the image that a reference names, and sets the image's valid rectangle.
+    /// Puts a sample for each pixel into the image that a reference names, or none, and sets the
+    /// image's valid rectangle.
     pub fn put(&mut self, cell: ObjRef, samples: Samples, valid: Rect)
         requires there { HoldsImage self.old.objects cell }
         requires format { samples_format samples ≡ (image_held self.old.objects cell).format }
+        requires size { IsAllOrNone
+            (sample_count (description_of (image_held self.old.objects cell)))
+            (length (values samples)) }
         ensures { self.new ≡ with_objects self.old
             (with_object self.old.objects cell
             (with_samples (cell_object self.old.objects cell) valid (values samples))) }

@@ -5,8 +5,8 @@ use Rattle.std.proofs.lemmas.List.{length-map, map-set, get_or_past, get_or-set_
 use Rattle.std.proofs.Math.Nat.{mul-le-mul}
 use Rattle.std.proofs.Math.ListN.{get_or-map}
 use Rattle.std.proofs.lemmas.List.Sums.{sum_by-cons, get_or-le-sum_by}
-use Rattle.pixel_pool.specs.Classes.{class_capacity, class_count, FitsIn}
-use Rattle.pixel_pool.specs.Free.{free_count, HasCapacity, GetsFree, IsTrim, capacity_below}
+use Rattle.pixel_pool.specs.Classes.{class_size, class_count, FitsIn}
+use Rattle.pixel_pool.specs.Free.{free_count, HasBlockFor, GetsFree, IsTrim, samples_below}
 use Rattle.pixel_pool.proofs.ClassLemmas.{capacity_mono, capacity_small, capacity_steps}
 use Rattle.pixel_pool.specs.Shelf.{lengths, no_stack, stack_at}
 use Rattle.pixel_pool.specs.declared.stacks.Stack.{Stack}
@@ -30,12 +30,12 @@ pub none_free : (free : List ℕ) → ((class : ℕ) → class < length free →
 none_free [] none = refl
 none_free (n ∷ free) none = omega (arith, sum_by-cons (λ m. m) n free, none 0 (omega arith), none_free free (λ class inside. none (suc class) (omega arith)))
 
-pub below_zero : (free : List ℕ) → capacity_below free 0 ≡ 0
-unfolding capacity_below
+pub below_zero : (free : List ℕ) → samples_below free 0 ≡ 0
+unfolding samples_below
 below_zero free = refl
 
-pub below_more : (free : List ℕ) (class : ℕ) → capacity_below free (class + 1) ≡ capacity_below free class + get_or free class 0 * class_capacity class
-unfolding capacity_below
+pub below_more : (free : List ℕ) (class : ℕ) → samples_below free (class + 1) ≡ samples_below free class + get_or free class 0 * class_size class
+unfolding samples_below
 below_more free class = rw add-one refl
 
 -- the lengths of stacks, for loops over their classes
@@ -53,44 +53,44 @@ no_len : (free : List ℕ) → free_count free ≡ 0 → (class : ℕ) → get_o
 no_len free none class =
     omega (arith, class_within free class, none)
 
-pub no_capacity : (free : List ℕ) → free_count free ≡ 0 → (class : ℕ) → capacity_below free class ≡ 0
+pub no_capacity : (free : List ℕ) → free_count free ≡ 0 → (class : ℕ) → samples_below free class ≡ 0
 no_capacity free none zero = below_zero free
 no_capacity free none (suc class) =
     rw (← add-one) (below_more free class ∙ rw (no_capacity free none class, no_len free none class) (omega arith))
 
 -- without free blocks the limits are kept
 pub none_is_trim : (free : List ℕ) → free_count free ≡ 0 → IsTrim free
-none_is_trim free none = record { blocks = omega (arith, none); capacity = omega (arith, no_capacity free none class_count) }
+none_is_trim free none = record { blocks = omega (arith, none); samples = omega (arith, no_capacity free none class_count) }
 
 -- the total capacity of the free blocks can't overflow
-pub capacity_bound : (free : List ℕ) (class : ℕ) → class ≤ class_count → capacity_below free class ≤ class * (free_count free * 2 ^ 31)
+pub capacity_bound : (free : List ℕ) (class : ℕ) → class ≤ class_count → samples_below free class ≤ class * (free_count free * 2 ^ 31)
 capacity_bound free zero within = omega (arith, below_zero free)
 capacity_bound free (suc class) within =
-    let each : get_or free class 0 * class_capacity class ≤ free_count free * 2 ^ 31 =
+    let each : get_or free class 0 * class_size class ≤ free_count free * 2 ^ 31 =
     mul-le-mul (class_within free class) (omega (arith, capacity_small class (omega arith))) in
-    let more : capacity_below free (suc class) ≡ capacity_below free class + get_or free class 0 * class_capacity class = rw (← add-one) (below_more free class) in
+    let more : samples_below free (suc class) ≡ samples_below free class + get_or free class 0 * class_size class = rw (← add-one) (below_more free class) in
     omega (arith, more, each, capacity_bound free class (omega arith))
 
-capacity_elsewhere : (free : List ℕ) (class n top : ℕ) → top ≤ class → capacity_below (set free class n) top ≡ capacity_below free top
+capacity_elsewhere : (free : List ℕ) (class n top : ℕ) → top ≤ class → samples_below (set free class n) top ≡ samples_below free top
 capacity_elsewhere free class n zero within = below_zero (set free class n) ∙ sym (below_zero free)
 capacity_elsewhere free class n (suc top) within =
     let e : get_or (set free class n) top 0 ≡ get_or free top 0 = get_or-set_other free class top n 0 (λ e. absurd (omega (arith, e))) in
-    let more : capacity_below (set free class n) (top + 1) ≡ capacity_below (set free class n) top + get_or free top 0 * class_capacity top = rw e at (below_more (set free class n) top) in
+    let more : samples_below (set free class n) (top + 1) ≡ samples_below (set free class n) top + get_or free top 0 * class_size top = rw e at (below_more (set free class n) top) in
     rw (← add-one) (omega (arith, more, below_more free top, capacity_elsewhere free class n top (omega arith)))
 
 -- the total capacity of the free blocks after their number in one class changes
 pub capacity_set : (free : List ℕ) (class n top : ℕ) → class < length free → class < top
-    → capacity_below (set free class n) top + get_or free class 0 * class_capacity class ≡ capacity_below free top + n * class_capacity class
+    → samples_below (set free class n) top + get_or free class 0 * class_size class ≡ samples_below free top + n * class_size class
 capacity_set free class n zero inside below = absurd (omega arith)
 capacity_set free class n (suc top) inside below =
     elim (cases_eq top class) [
       | inl same ↦
           let e : get_or (set free class n) class 0 ≡ n = get_or-set_same free class n 0 inside in
-          let more : capacity_below (set free class n) (class + 1) ≡ capacity_below (set free class n) class + n * class_capacity class = rw e at (below_more (set free class n) class) in
+          let more : samples_below (set free class n) (class + 1) ≡ samples_below (set free class n) class + n * class_size class = rw e at (below_more (set free class n) class) in
           rw (← add-one, same) (omega (arith, more, below_more free class, capacity_elsewhere free class n class (omega arith)))
       | inr other ↦
           let e : get_or (set free class n) top 0 ≡ get_or free top 0 = get_or-set_other free class top n 0 other in
-          let more : capacity_below (set free class n) (top + 1) ≡ capacity_below (set free class n) top + get_or free top 0 * class_capacity top = rw e at (below_more (set free class n) top) in
+          let more : samples_below (set free class n) (top + 1) ≡ samples_below (set free class n) top + get_or free top 0 * class_size top = rw e at (below_more (set free class n) top) in
           rw (← add-one) (omega (arith, more, below_more free top, capacity_set free class n top inside (omega arith)))
     ]
 
@@ -101,7 +101,7 @@ none_left None stacks class all long none = none_free (lengths stacks) (λ k ins
 none_left (Some k) stacks class all long none = tt
 
 -- a block that was given back fits as many samples again
-pub fits_again : (count capacity : ℕ) (old new : List ℕ) → count ≤ class_capacity 192 → FitsIn count capacity → GetsFree capacity old new → HasCapacity new count
+pub fits_again : (count capacity : ℕ) (old new : List ℕ) → count ≤ class_size 192 → FitsIn count capacity → GetsFree capacity old new → HasBlockFor new count
 fits_again count capacity old new small fits gets =
     let x = fits small in
     (gets.class, gets.free, omega (arith, x.2, capacity_mono x.0 gets.class (gets.is_class.greatest x.0 x.1 x.3)))

@@ -5,9 +5,9 @@ use Rattle.std.proofs.lemmas.List.{length-map, length-replicate, get_or-set_same
 use Rattle.std.proofs.lemmas.List.Sums.{sum_by-set, get_or-le-sum_by}
 use Rattle.std.proofs.lemmas.List.Folds.{sum_by-replicate}
 use Rattle.slab.specs.Slab.{Slab, get, slab_len, Updates}
-use Rattle.pixel_pool.specs.Classes.{class_capacity, class_count, IsClassOf}
+use Rattle.pixel_pool.specs.Classes.{class_size, class_count, IsClassOf}
 use Rattle.pixel_pool.proofs.FreeLemmas.{length_at, lengths_set, free_within, no_capacity, capacity_set}
-use Rattle.pixel_pool.specs.Free.{free_count, capacity_below, HasFree, without_one, GetsFree}
+use Rattle.pixel_pool.specs.Free.{free_count, samples_below, HasFree, without_one, GetsFree}
 use Rattle.pixel_pool.specs.Shelf.{ShelfValue, block_count, lengths, no_stack, stack_at, IsTopOf, IsStack, IsStacked, AreStacks}
 use Rattle.pixel_pool.specs.declared.shelf.Free.{Free}
 use Rattle.pixel_pool.specs.declared.stacks.Stack.{Stack}
@@ -20,7 +20,7 @@ counted_set stacks class stack inside =
 
 -- the capacity of free blocks after a stack is changed
 pub capacity_changed : (stacks : List Stack) (class : ℕ) (stack : Stack) → class < length stacks → length stacks ≡ class_count
-    → capacity_below (lengths (set stacks class stack)) class_count + (stack_at stacks class).len * class_capacity class ≡ capacity_below (lengths stacks) class_count + stack.len * class_capacity class
+    → samples_below (lengths (set stacks class stack)) class_count + (stack_at stacks class).len * class_size class ≡ samples_below (lengths stacks) class_count + stack.len * class_size class
 capacity_changed stacks class stack inside all =
     rw (lengths_set stacks class stack, ← length_at stacks class) (capacity_set (lengths stacks) class stack.len class_count (simp length-map inside) (omega (arith, inside, all)))
 
@@ -42,7 +42,7 @@ empty_lengths (suc n) = ap (λ l. 0 ∷ l) (empty_lengths n)
 pub empty_count : (n : ℕ) → free_count (replicate n 0) ≡ 0
 empty_count n = omega (arith, sum_by-replicate (λ m. m) n 0)
 
-pub empty_capacity : capacity_below (lengths (replicate 193 no_stack)) class_count ≡ 0
+pub empty_capacity : samples_below (lengths (replicate 193 no_stack)) class_count ≡ 0
 empty_capacity = no_capacity (lengths (replicate 193 no_stack)) (ap free_count (empty_lengths 193) ∙ empty_count 193) class_count
 
 module _ {T : Type 0} where
@@ -56,7 +56,7 @@ module _ {T : Type 0} where
       → ◌≡◌ {A = ShelfValue} (record { lent = lent; free = lengths stacks }) was → AreStacks stacks free → HasFree was.free class
       → get free (stack_at stacks class).top ≡ Some block
       → (class < length stacks) × (0 < (stack_at stacks class).len) × IsTopOf class (stack_at stacks class).len block
-      × (class_capacity class ≤ vec_capacity block.samples) × (block.capacity ≡ class_capacity class)
+      × (class_size class ≤ vec_capacity block.samples) × (block.capacity ≡ class_size class)
   top_free stacks free lent class was block is are some found =
       let has : HasFree (lengths stacks) class = rw (← is) at some in
       let some_there : 0 < (stack_at stacks class).len = rw (← length_at stacks class) has in
@@ -165,7 +165,7 @@ module _ {T : Type 0} where
       ]
 
   pushed_each : (stacks : List Stack) (old new : Slab (Free T)) (key : ℕ) (block : Free T) (k : ℕ) (b : Free T) → AreStacks stacks old → block.class < length stacks
-      → class_capacity block.class ≤ vec_capacity block.samples → block.capacity ≡ class_capacity block.class → block.under ≡ stack_at stacks block.class → get old key ≡ None
+      → class_size block.class ≤ vec_capacity block.samples → block.capacity ≡ class_size block.class → block.under ≡ stack_at stacks block.class → get old key ≡ None
       → Updates old new key (Some block) → get new k ≡ Some b
       → IsStacked (set stacks block.class (record { top = key; len = block.under.len + 1 })) new b
   pushed_each stacks old new key block k b are inside capacity known under vacant came h =
@@ -237,7 +237,7 @@ module _ {T : Type 0} where
 
   -- the stacks once a block has come
   pub pushed : (stacks : List Stack) (old new : Slab (Free T)) (key : ℕ) (block : Free T) → AreStacks stacks old → block.class < length stacks
-      → class_capacity block.class ≤ vec_capacity block.samples → block.capacity ≡ class_capacity block.class → block.under ≡ stack_at stacks block.class → get old key ≡ None
+      → class_size block.class ≤ vec_capacity block.samples → block.capacity ≡ class_size block.class → block.under ≡ stack_at stacks block.class → get old key ≡ None
       → Updates old new key (Some block) → slab_len new ≡ slab_len old + 1
       → AreStacks (set stacks block.class (record { top = key; len = block.under.len + 1 })) new
   pushed stacks old new key block are inside capacity known under vacant came more =

@@ -4,8 +4,8 @@ use Rattle.std.proofs.Math.Nat.{add-mul}
 use Rattle.std.proofs.lemmas.Bool.{cases_lt}
 use Rattle.std.proofs.lemmas.List.{get_or-set_other}
 use Rattle.std.proofs.lemmas.List.Sums.{sum_by-set}
-use Rattle.pixel_pool.specs.Classes.{class_capacity, class_count}
-use Rattle.pixel_pool.specs.Free.{free_count, capacity_below, HasFree, IsTrim, with_one, without_one, DropsLargest, LosesBlocks, LosesLargestFirst, LosesNoMore}
+use Rattle.pixel_pool.specs.Classes.{class_size, class_count}
+use Rattle.pixel_pool.specs.Free.{free_count, samples_below, HasFree, IsTrim, with_one, without_one, DropsLargest, LosesBlocks, LosesLargestFirst, LosesNoMore}
 use Rattle.pixel_pool.proofs.ClassLemmas.{capacity_mono}
 use Rattle.pixel_pool.proofs.FreeLemmas.{free_within, capacity_set}
 
@@ -14,7 +14,7 @@ one_more : (free : List ℕ) (class : ℕ) → class < length free → free_coun
 one_more free class inside = omega (arith, sum_by-set (λ n. n) free class (get_or free class 0 + 1) 0 inside)
 
 capacity_more : (free : List ℕ) (class : ℕ) → class < length free → class < class_count
-    → capacity_below (with_one free class) class_count ≡ capacity_below free class_count + class_capacity class
+    → samples_below (with_one free class) class_count ≡ samples_below free class_count + class_size class
 capacity_more free class inside below =
     let set_more = rw add-mul at (capacity_set free class (get_or free class 0 + 1) class_count inside below) in
     omega (arith, set_more)
@@ -25,10 +25,10 @@ one_fewer free class some =
     omega (arith, sum_by-set (λ n. n) free class (get_or free class 0 - 1) 0 (free_within free class some))
 
 capacity_fewer : (free : List ℕ) (class : ℕ) → HasFree free class → class < class_count
-    → capacity_below (without_one free class) class_count + class_capacity class ≡ capacity_below free class_count
+    → samples_below (without_one free class) class_count + class_size class ≡ samples_below free class_count
 capacity_fewer free class some below =
     let count : get_or free class 0 ≡ get_or free class 0 - 1 + 1 = omega arith in
-    let product = ap (λ n. n * class_capacity class) count ∙ add-mul (get_or free class 0 - 1) 1 (class_capacity class) in
+    let product = ap (λ n. n * class_size class) count ∙ add-mul (get_or free class 0 - 1) 1 (class_size class) in
     omega (arith, product, capacity_set free class (get_or free class 0 - 1) class_count (free_within free class some) below)
 
 -- a class that lost blocks isn't below the class of the block that is dropped next
@@ -59,6 +59,6 @@ no_more old mid new all long drops first exceeds class loses trim =
     let more = one_more new class (omega arith) in
     let room = capacity_more new class (omega arith) (omega arith) in
     let fewer : free_count new + 1 ≡ free_count mid = rw drops.dropped (one_fewer mid drops.class drops.free) in
-    let freed : capacity_below new class_count + class_capacity drops.class ≡ capacity_below mid class_count =
+    let freed : samples_below new class_count + class_size drops.class ≡ samples_below mid class_count =
     rw drops.dropped (capacity_fewer mid drops.class drops.free (omega arith)) in
-    exceeds (record { blocks = omega arith; capacity = omega (arith, capacity_mono drops.class class least) })
+    exceeds (record { blocks = omega arith; samples = omega (arith, capacity_mono drops.class class least) })

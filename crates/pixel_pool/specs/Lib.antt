@@ -1,3 +1,4 @@
+pub mod Block
 pub mod Classes
 pub mod Free
 pub mod Shelf

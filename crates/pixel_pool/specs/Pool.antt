@@ -6,14 +6,20 @@ use Rattle.vx_base.specs.declared.format.Format.TheVariants.{U8, S16, U32}
 use Rattle.vx_base.specs.declared.samples.Samples.{Samples}
 use Rattle.vx_base.specs.declared.samples.Samples.TheVariants as samples
 use Rattle.vx_base.specs.Sample.{same_format}
-use Rattle.pixel_pool.specs.Free.{free_count, HasCapacity, LendsSmallest}
+use Rattle.pixel_pool.specs.Block.{BlockValue}
+use Rattle.pixel_pool.specs.Classes.{FitsIn}
+use Rattle.pixel_pool.specs.Free.{free_count, HasBlockFor, LendsSmallest}
 use Rattle.pixel_pool.specs.declared.pool.Pool.{Pool}
 
--- the capacity of a block's memory
+-- the number of samples for which a block has memory
 abbrev pub capacity_of : Samples → ℕ
 capacity_of (samples.U8 items) = vec_capacity items
 capacity_of (samples.S16 items) = vec_capacity items
 capacity_of (samples.U32 items) = vec_capacity items
+
+-- the block has at least as many samples once it is free, if any class has as many
+abbrev pub KeepsMemory : BlockValue → Type 0
+KeepsMemory block = FitsIn block.count (capacity_of block.samples)
 
 -- the number of lent blocks of a format
 abbrev pub lent_of : Pool → Format → ℕ
@@ -47,13 +53,13 @@ Lends old new format = (f : Format) → lent_of new f ≡ lent_of old f + one_of
 abbrev pub KeepsOtherFree : Pool → Pool → Format → Type 0
 KeepsOtherFree old new format = (f : Format) → f ≢ format → free_of new f ≡ free_of old f
 
--- a block of the format for `count` samples was lent: the smallest free one that fits, or if none
--- does, a new one
+-- a block of the format for `count` samples was lent: the smallest free one with as many, or if
+-- there is none, a new one
 pub record LendsBlock (format : Format) (count : ℕ) (old new : Pool) : Type 0 where
   pub lends : Lends old new format
   pub smallest : LendsSmallest count (free_of old format) (free_of new format)
   pub most : blocks_of new format ≤ blocks_of old format + 1
-  pub none : HasCapacity (free_of old format) count → blocks_of new format ≡ blocks_of old format
+  pub none : HasBlockFor (free_of old format) count → blocks_of new format ≡ blocks_of old format
   pub other_free : KeepsOtherFree old new format
 
 -- one fewer block of this format is lent than before; other formats' counts are unchanged

@@ -1,7 +1,7 @@
 -- The view of a `Shelf` (the blocks of one format), and the links between its free blocks.
 use Rattle.std.specs.Prelude.{◌≡◌, ◌≤◌, ◌<◌, ℕ, ◌+◌, List, length, map, Some, IsSomeAnd, slice_index_or, vec_capacity}
 use Rattle.slab.specs.Slab.{Slab, get, slab_len}
-use Rattle.pixel_pool.specs.Classes.{class_capacity, class_count}
+use Rattle.pixel_pool.specs.Classes.{class_size, class_count}
 use Rattle.pixel_pool.specs.Free.{free_count}
 use Rattle.pixel_pool.specs.declared.shelf.Free.{Free}
 use Rattle.pixel_pool.specs.declared.stacks.Stack.{Stack}
@@ -37,11 +37,11 @@ module _ {T : Type 0} where
   abbrev pub IsStack : Slab (Free T) → ℕ → Stack → Type 0
   IsStack free class stack = 0 < stack.len → IsSomeAnd (get free stack.top) (IsTopOf class stack.len)
 
-  -- a block's memory has at least the capacity of its class, and the block holds the part of the
+  -- a block has memory for the samples of its class, and the block holds the part of the
   -- class's stack that is below the block
   pub record IsStacked (stacks : List Stack) (free : Slab (Free T)) (block : Free T) : Type 0 where
-    pub capacity : class_capacity block.class ≤ vec_capacity block.samples
-    pub capacity_known : block.capacity ≡ class_capacity block.class
+    pub capacity : class_size block.class ≤ vec_capacity block.samples
+    pub capacity_known : block.capacity ≡ class_size block.class
     pub within : block.under.len < (stack_at stacks block.class).len
     pub linked : IsStack free block.class block.under
 

@@ -1,7 +1,7 @@
 //! Facts about sequences of calls on a pool.
 ghost use Rattle.std.specs.Prelude.{◌≡◌, ◌≤◌, ◌+◌, length, IfOk, OnOk};
 ghost use Rattle.vx_base.specs.Picture.{values, samples_format};
-ghost use Rattle.pixel_pool.specs.Free.{HasCapacity};
+ghost use Rattle.pixel_pool.specs.Free.{HasBlockFor};
 ghost use Rattle.pixel_pool.specs.Pool.{free_of, blocks_of, Lends, KeepsLent};
 
 use crate::block::Block;
@@ -13,8 +13,8 @@ use vx_base::Format;
 /// block, so the two calls add at most one block.
 pub fn taken_again(pool: &mut Pool, format: Format, count: usize) -> Result<Block, AllocError>
     requires { count ≤ 67108864 }
-    ensures format { IfOk result (λ taken. samples_format taken ≡ format) }
-    ensures count { IfOk result (λ taken. length (values taken) ≡ count) }
+    ensures format { IfOk result (λ taken. samples_format taken.samples ≡ format) }
+    ensures count { IfOk result (λ taken. length (values taken.samples) ≡ count) }
     ensures lends { OnOk result (Lends pool.old pool.new format) }
     ensures blocks { blocks_of pool.new format ≤ blocks_of pool.old format + 1 }
 {
@@ -26,12 +26,12 @@ pub fn taken_again(pool: &mut Pool, format: Format, count: usize) -> Result<Bloc
 }
 
 /// Takes a block and gives it back. The number of lent blocks of each format is unchanged. On
-/// success there is then a free block that fits `count` samples.
+/// success there is then a free block with `count` samples.
 pub fn taken_and_given_back(pool: &mut Pool, format: Format, count: usize) -> Result<(), AllocError>
     requires { count ≤ 67108864 }
     ensures lent { KeepsLent pool.old pool.new }
     ensures blocks { blocks_of pool.new format ≤ blocks_of pool.old format + 1 }
-    ensures capacity { OnOk result (HasCapacity (free_of pool.new format) count) }
+    ensures samples { OnOk result (HasBlockFor (free_of pool.new format) count) }
 {
     let block = pool.take(format, count)?;
     pool.give_back(block);

@@ -2,10 +2,12 @@
 ghost use Rattle.std.specs.Prelude.{◌≡◌, ◌≤◌, ◌+◌, length, pos, replicate};
 ghost use Rattle.std.specs.Prelude.{IfOk, IsOk, OnErr, OnOk};
 ghost use Rattle.vx_base.specs.Picture.{values, samples_format};
-ghost use Rattle.pixel_pool.specs.Classes.{class_count, FitsIn};
-ghost use Rattle.pixel_pool.specs.Free.{HasCapacity, IsTrim, IsFewer, GetsFree};
+ghost use Rattle.pixel_pool.specs.Block.{HasAllSamples};
+ghost use Rattle.pixel_pool.specs.Classes.{class_count};
+ghost use Rattle.pixel_pool.specs.Free.{HasBlockFor, IsTrim, IsFewer, GetsFree};
 ghost use Rattle.pixel_pool.specs.Free.{LosesLargestFirst, LosesNoMore, free_count};
 ghost use Rattle.pixel_pool.specs.Pool.{lent_of, free_of, blocks_of, capacity_of, HasLent};
+ghost use Rattle.pixel_pool.specs.Pool.{KeepsMemory};
 ghost use Rattle.pixel_pool.specs.Pool.{LendsBlock, GetsBack, KeepsLent, KeepsBlockCounts};
 ghost use Rattle.pixel_pool.specs.Pool.{KeepsOtherFree};
 
@@ -40,18 +42,20 @@ impl Pool {
     /// Lends a block of `count` samples of a format; the samples may have any value. An error means
     /// that there is no memory for a new block; the pool is then unchanged.
     ///
-    /// The smallest free block that fits is used; if none fits, a block is added. A free block with
-    /// a capacity above 1,024 and above `2 * count + 1` samples is shrunk before it is lent, unless
-    /// the system refuses. The capacity of a new block is at most an eighth above `count`.
+    /// The smallest free block with at least `count` samples is used; if there is none, a block is
+    /// added. A free block with a capacity above 1,024 and above `2 * count + 1` samples is shrunk
+    /// before it is lent, unless the system refuses. The capacity of a new block is at most an
+    /// eighth above `count`.
     pub fn take(&mut self, format: Format, count: usize) -> Result<Block, AllocError>
-        ensures format { IfOk result (λ taken. samples_format taken ≡ format) }
-        ensures count { IfOk result (λ taken. length (values taken) ≡ count) }
-        ensures capacity { IfOk result (λ taken. FitsIn count (capacity_of taken)) }
+        ensures format { IfOk result (λ taken. samples_format taken.samples ≡ format) }
+        ensures count { IfOk result (λ taken. length (values taken.samples) ≡ count) }
+        ensures whole { IfOk result HasAllSamples }
+        ensures memory { IfOk result KeepsMemory }
         ensures lends { OnOk result (LendsBlock format count self.old self.new) }
         ensures err { OnErr result (self.new ≡ self.old) }
 
-        // If a free block fits, `take` can't fail.
-        ensures fits { HasCapacity (free_of self.old format) count → IsOk result }
+        // If a free block of the format has `count` samples, `take` can't fail.
+        ensures fits { HasBlockFor (free_of self.old format) count → IsOk result }
     {
         match format {
             Format::U8 => Ok(Block::new(Samples::U8(self.u8s.take(0, count)?))),
@@ -62,11 +66,12 @@ impl Pool {
 
     /// Lends a block as `take` does, with all samples 0.
     pub fn take_zeros(&mut self, format: Format, count: usize) -> Result<Block, AllocError>
-        ensures format { IfOk result (λ taken. samples_format taken ≡ format) }
-        ensures zero { IfOk result (λ taken. values taken ≡ replicate count (pos 0)) }
+        ensures format { IfOk result (λ taken. samples_format taken.samples ≡ format) }
+        ensures zero { IfOk result (λ taken. values taken.samples ≡ replicate count (pos 0)) }
+        ensures whole { IfOk result HasAllSamples }
         ensures lends { OnOk result (LendsBlock format count self.old self.new) }
         ensures err { OnErr result (self.new ≡ self.old) }
-        ensures fits { HasCapacity (free_of self.old format) count → IsOk result }
+        ensures fits { HasBlockFor (free_of self.old format) count → IsOk result }
     {
         let mut block = self.take(format, count)?;
         let mut samples = block.lift();
@@ -78,12 +83,15 @@ impl Pool {
     /// Takes back a block that the pool lent, and adds it to the free blocks. Its samples are
     /// unchanged. Allocates and drops nothing.
     pub fn give_back(&mut self, block: Block)
-        requires { HasLent self.old (samples_format block) }
-        ensures gets_back { GetsBack self.old self.new (samples_format block) }
+        requires { HasLent self.old (samples_format block.samples) }
+        ensures gets_back { GetsBack self.old self.new (samples_format block.samples) }
         ensures blocks { KeepsBlockCounts self.old self.new }
-        ensures free { GetsFree (capacity_of block) (free_of self.old (samples_format block))
-            (free_of self.new (samples_format block)) }
-        ensures other_free { KeepsOtherFree self.old self.new (samples_format block) }
+        ensures free { GetsFree (capacity_of block.samples)
+            (free_of self.old (samples_format block.samples))
+            (free_of self.new (samples_format block.samples)) }
+        ensures samples { KeepsMemory block → block.count ≤ 67108864 →
+            HasBlockFor (free_of self.new (samples_format block.samples)) block.count }
+        ensures other_free { KeepsOtherFree self.old self.new (samples_format block.samples) }
     {
         match block.into_samples() {
             Samples::U8(samples) => self.u8s.give_back(samples),

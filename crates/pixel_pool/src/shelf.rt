@@ -2,8 +2,8 @@
 ghost use Rattle.std.specs.Prelude.{◌≡◌, ℕ, ◌+◌, ◌/◌, ◌≤◌, ◌<◌, [], length, replicate, IfOk, OnErr};
 ghost use Rattle.std.specs.Prelude.{OnOk};
 ghost use Rattle.std.specs.Prelude.{IsOk, IsTrue, ◌↔◌, IfSome, IfNone, vec_capacity, slice_index};
-ghost use Rattle.pixel_pool.specs.Classes.{class_count, class_capacity, FitsIn};
-ghost use Rattle.pixel_pool.specs.Free.{HasFree, HasCapacity, LendsSmallest, IsTrim, IsFewer};
+ghost use Rattle.pixel_pool.specs.Classes.{class_count, class_size, FitsIn};
+ghost use Rattle.pixel_pool.specs.Free.{HasFree, HasBlockFor, LendsSmallest, IsTrim, IsFewer};
 ghost use Rattle.pixel_pool.specs.Free.{LosesLargestFirst, LosesNoMore, DropsLargest};
 ghost use Rattle.pixel_pool.specs.Free.{free_count, without_one, GetsFree};
 ghost use Rattle.pixel_pool.specs.Shelf.{block_count};
@@ -25,8 +25,8 @@ const KEPT_CAPACITY: u128 = 67_108_864;
 /// in each of 1,024 delays.
 const KEPT_BLOCKS: usize = 16_384;
 
-/// A free block: its memory, its class, the class's capacity, and the part of the class's stack
-/// below this block.
+/// A free block: its memory, its class, the class's size, and the part of the class's stack below
+/// this block.
 #[derive(Drop)]
 struct Free<T> {
     samples: Vec<T>,
@@ -36,8 +36,8 @@ struct Free<T> {
 }
 
 /// The blocks of one format: the number of lent blocks, and the free blocks in a slab, with one
-/// stack for each class. `capacity` is the total capacity of the free blocks, in samples. In this
-/// total, a block has the capacity of its class.
+/// stack for each class. `capacity` is the total size of the free blocks, in samples. The size of a
+/// block is that of its class.
 #[derive(Drop)]
 pub struct Shelf<T> {
     alloc: Global,
@@ -51,7 +51,7 @@ impl<T> Model for Shelf<T> {
     ghost use Rattle.std.specs.Prelude.{◌≡◌, ◌+◌, ◌≤◌};
     ghost use Rattle.slab.specs.Slab.{slab_len};
     ghost use Rattle.pixel_pool.specs.Classes.{class_count};
-    ghost use Rattle.pixel_pool.specs.Free.{capacity_below};
+    ghost use Rattle.pixel_pool.specs.Free.{samples_below};
     ghost use Rattle.pixel_pool.specs.Shelf.{ShelfValue, lengths, AreStacks};
 
     ghost Value = { ShelfValue };
@@ -62,7 +62,7 @@ impl<T> Model for Shelf<T> {
     // nothing.
     ghost invariant = { λ s. (s.lent + slab_len s.free ≤ s.free.capacity)
         × AreStacks s.stacks s.free
-        × (s.capacity ≡ capacity_below (lengths s.stacks) class_count) };
+        × (s.capacity ≡ samples_below (lengths s.stacks) class_count) };
 }
 
 impl<T: Copy + Drop> Shelf<T> {
@@ -109,9 +109,9 @@ impl<T: Copy + Drop> Shelf<T> {
         ensures lent { OnOk result (self.new.lent ≡ self.old.lent + 1) }
         ensures smallest { OnOk result (LendsSmallest count self.old.free self.new.free) }
         ensures most { block_count self.new ≤ block_count self.old + 1 }
-        ensures none { HasCapacity self.old.free count →
+        ensures none { HasBlockFor self.old.free count →
             block_count self.new ≡ block_count self.old }
-        ensures fits { HasCapacity self.old.free count → IsOk result }
+        ensures fits { HasBlockFor self.old.free count → IsOk result }
         ensures err { OnErr result (self.new ≡ self.old) }
     {
         match smallest(&self.stacks, count) {
@@ -139,7 +139,7 @@ impl<T: Copy + Drop> Shelf<T> {
     /// Lends the top block of a class's stack.
     fn lend(&mut self, class: usize) -> Vec<T>
         requires { HasFree self.old.free class }
-        ensures capacity { class_capacity class ≤ vec_capacity result }
+        ensures capacity { class_size class ≤ vec_capacity result }
         ensures value { self.new ≡ record {
           lent = self.old.lent + 1;
           free = without_one self.old.free class;
@@ -159,6 +159,8 @@ impl<T: Copy + Drop> Shelf<T> {
         requires { 1 ≤ self.old.lent }
         ensures lent { self.new.lent + 1 ≡ self.old.lent }
         ensures free { GetsFree (vec_capacity samples) self.old.free self.new.free }
+        ensures samples { (count : ℕ) → FitsIn count (vec_capacity samples) → count ≤ 67108864 →
+            HasBlockFor self.new.free count }
         ensures blocks { block_count self.new ≡ block_count self.old }
     {
         let _fit = self.free.capacity();
@@ -231,8 +233,8 @@ impl<T: Copy + Drop> Shelf<T> {
     }
 }
 
-/// Returns new memory with `count` samples. It has at least the capacity of the smallest class that
-/// fits them, if there is such a class.
+/// Returns new memory with `count` samples. Its capacity is at least the size of the smallest class
+/// that fits them, if there is such a class.
 fn new_samples<T: Copy + Drop>(alloc: Global, zero: T, count: usize) -> Result<Vec<T>, AllocError>
     ensures count { IfOk result (λ samples. length samples.items ≡ count) }
     ensures capacity { IfOk result (λ samples. FitsIn count (vec_capacity samples)) }

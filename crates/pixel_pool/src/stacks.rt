@@ -1,7 +1,7 @@
 //! Stacks of free blocks, one for each class.
 ghost use Rattle.std.specs.Prelude.{◌≡◌, ℕ, ◌≤◌, IfSome, IfNone};
-ghost use Rattle.pixel_pool.specs.Classes.{class_capacity};
-ghost use Rattle.pixel_pool.specs.Free.{HasFree, HasCapacity, free_count};
+ghost use Rattle.pixel_pool.specs.Classes.{class_size};
+ghost use Rattle.pixel_pool.specs.Free.{HasFree, HasBlockFor, free_count};
 ghost use Rattle.pixel_pool.specs.Shelf.{lengths};
 
 use crate::classes::{CLASSES, step};
@@ -21,11 +21,11 @@ pub const EMPTY: Stack = Stack { top: 0, len: 0 };
 #[tactic(auto, using(crate::proofs::FreeLemmas::stack_steps))]
 pub fn smallest(stacks: &[Stack; CLASSES], count: usize) -> Option<usize>
     ensures free { IfSome result (HasFree (lengths stacks.now)) }
-    ensures fits { IfSome result (λ class. count ≤ class_capacity class) }
+    ensures fits { IfSome result (λ class. count ≤ class_size class) }
     ensures least { IfSome result (λ class. (other : ℕ) → HasFree (lengths stacks.now) other →
-        count ≤ class_capacity other → class ≤ other) }
+        count ≤ class_size other → class ≤ other) }
     ensures none { IfNone result ((other : ℕ) → HasFree (lengths stacks.now) other →
-        count ≤ class_capacity other → ⊥) }
+        count ≤ class_size other → ⊥) }
 {
     let mut capacity = 0;
     for class in 0..CLASSES {

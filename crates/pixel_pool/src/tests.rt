@@ -10,7 +10,7 @@ use vx_base::{Format, Samples};
 
 /// Gives a U8 block back and returns its capacity in samples.
 fn give_back(pool: &mut Pool, block: Block) -> usize
-    requires { HasLent pool.old (samples_format block) }
+    requires { HasLent pool.old (samples_format block.samples) }
 {
     let capacity = match block.samples() {
         Samples::U8(samples) => samples.capacity(),

@@ -3,7 +3,7 @@ ghost use Rattle.std.specs.Prelude.{◌≡◌, ◌+◌, ◌<◌, ◌^◌, ℕ, �
 ghost use Rattle.vx_base.specs.Image.{run};
 ghost use Rattle.vx_base.specs.Statistics.{row_pixels, count_of, first_of};
 
-use lane_rows::{Compared, count_of, first_of, greatest_of, least_of};
+use lane_rows::{Compared, count_of, first_of};
 use vx_base::Extremes;
 
 /// The least or the greatest of some samples, the number of pixels that have it, and the column and
@@ -114,7 +114,7 @@ impl Found {
         if row.is_empty() {
             return self;
         }
-        let (low, high) = (least_of(row), greatest_of(row));
+        let (low, high) = T::extent_of(row);
         let is_below = low.short() < self.least.value;
         let is_above = high.short() > self.greatest.value;
         Found {

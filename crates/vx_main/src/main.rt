@@ -1,26 +1,13 @@
-//! The server's program.
+//! The server's program: `vx_programs::run` over standard input and standard output.
 //!
-//! `vx_main serve` reads request frames from standard input, and writes a reply frame for each to
-//! standard output. `vx_main apply` reads one PGM text from standard input, applies one function,
-//! and writes the resulting text to standard output. `program::run` runs either command over any
-//! reader and writer. `main` calls `run` with the reader and the writer of the process. After a
-//! failure, `main` prints a message to standard error, and exits with the failure's status.
+//! After a failure, `main` prints a message to standard error, and exits with the failure's status.
 #![tactic(auto)]
 
-mod apply;
-mod command_line;
-mod ended;
-mod job;
-mod output;
-mod program;
-#[cfg(test)]
-mod tests;
-
-use ended::Ended;
 use std::io::BufWriter;
 use std::process::ExitCode;
 use std::{env, io};
 use vx_base::Code;
+use vx_programs::{Ended, run};
 
 /// The size in bytes of the buffer for replies.
 const REPLY_BUFFER: usize = 65_536;
@@ -41,7 +28,7 @@ fn run_process(rt: &HostRuntime) -> Result<(), Ended> {
     let args = words(rt)?;
     let words: Vec<&str> = args.iter().map(|word| word.as_str()).collect(alloc)?;
     match BufWriter::with_capacity(alloc, REPLY_BUFFER, io::writer(rt)) {
-        Ok(writer) => program::run(alloc, words.as_slice(), rt.reader(), writer),
+        Ok(writer) => run(alloc, words.as_slice(), rt.reader(), writer),
         Err(_) => Err(Ended::Refused(Code::NoMemory)),
     }
 }

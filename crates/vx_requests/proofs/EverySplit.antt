@@ -3,7 +3,7 @@ use Rattle.std.proofs.Common.{◌≡◌, ℕ, ◌+◌, ◌-◌, ◌<◌, ◌≤�
 use Rattle.vx_requests.proofs.Common.{w16, w32, to_be_bytes, from_be_bytes, All-drop, All-take, be_bytes_2, be_bytes_4, Frame, IsFrame, IsLength, IsRest, Splits, said_length, frame_bytes, frames_bytes}
 use Rattle.std.proofs.lemmas.List.Elements.{All-cons}
 
-abbrev IsBytes : List ℕ → Type 0
+abbrev pub IsBytes : List ℕ → Type 0
 IsBytes stream = All (λ byte. byte < 256) stream
 
 abbrev HasSplit : List ℕ → Type 0
@@ -32,7 +32,7 @@ each_byte (b ∷ bytes) are zero = are 0 0 (omega arith)
 each_byte (b ∷ bytes) are (suc i) = each_byte bytes (λ k d within. are (suc k) d (omega arith)) i
 
 -- the frame at the front, if the bytes begin with a length in range and are long enough
-first_frame : (stream : List ℕ) → IsBytes stream → 4 ≤ length stream → IsLength (said_length stream) → said_length stream + 4 ≤ length stream
+pub first_frame : (stream : List ℕ) → IsBytes stream → 4 ≤ length stream → IsLength (said_length stream) → said_length stream + 4 ≤ length stream
     → (f : Frame) × (later : List ℕ) × IsFrame f × (stream ≡ frame_bytes f ++ later) × (length later < length stream) × IsBytes later
 first_frame (a ∷ b ∷ c ∷ d ∷ e ∷ g ∷ op ∷ tail) bytes four ok whole =
     let said : ℕ = from_be_bytes w32 (a ∷ b ∷ c ∷ d ∷ []) in

@@ -19,3 +19,6 @@ pub mod AnswerCodes
 pub mod KeptStates
 pub mod RequestFrames
 pub mod RequestSizes
+pub mod LongReplies
+pub mod OneFrame
+pub mod WholeFrames

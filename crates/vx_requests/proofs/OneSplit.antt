@@ -9,7 +9,7 @@ frame_eq f g p q r =
     ap (λ c. at c f.op f.body) p ∙ ap (λ o. at g.client o f.body) q ∙ ap (at g.client g.op) r
 
 -- the length at the front of a frame
-frame_length : (f : Frame) (x : List ℕ) → IsFrame f → said_length (frame_bytes f ++ x) ≡ length f.body + 3
+pub frame_length : (f : Frame) (x : List ℕ) → IsFrame f → said_length (frame_bytes f ++ x) ≡ length f.body + 3
 frame_length f x is = let len = is.len in from_be_bytes-to_be_bytes_4 (length f.body + 3) (omega arith)
 
 frame_client : (f : Frame) (x : List ℕ) → IsFrame f → from_be_bytes w16 (take 2 (drop 4 (frame_bytes f ++ x))) ≡ f.client
@@ -28,7 +28,7 @@ same_front f g x y is is' e =
     (frame_eq f g client op body, later)
 
 -- no whole frame is left in a rest
-not_rest : (rest : List ℕ) (g : Frame) (y : List ℕ) → IsRest rest → IsFrame g → rest ≡ frame_bytes g ++ y → ⊥
+pub not_rest : (rest : List ℕ) (g : Frame) (y : List ℕ) → IsRest rest → IsFrame g → rest ≡ frame_bytes g ++ y → ⊥
 not_rest rest g y (inl begun) is e =
     let said : said_length rest ≡ length g.body + 3 = ap said_length e ∙ frame_length g y is in
     let long : length rest ≡ length (frame_bytes g) + length y = ap length e ∙ length-append (frame_bytes g) y in
@@ -38,7 +38,7 @@ not_rest rest g y (inr bad) is e =
     let len = is.len in
     bad.1 (omega arith, omega arith)
 
-one_rest : (fs gs : List Frame) (r s : List ℕ) → All IsFrame fs → All IsFrame gs → IsRest r → IsRest s → frames_bytes fs ++ r ≡ frames_bytes gs ++ s → (fs ≡ gs) × (r ≡ s)
+pub one_rest : (fs gs : List Frame) (r s : List ℕ) → All IsFrame fs → All IsFrame gs → IsRest r → IsRest s → frames_bytes fs ++ r ≡ frames_bytes gs ++ s → (fs ≡ gs) × (r ≡ s)
 one_rest [] [] r s each each' is is' e = (refl, e)
 one_rest [] (g ∷ gs) r s each each' is is' e = absurd (not_rest r g (frames_bytes gs ++ s) is (All-head IsFrame g gs each') (e ∙ append_assoc (frame_bytes g) (frames_bytes gs) s))
 one_rest (f ∷ fs) [] r s each each' is is' e = absurd (not_rest s f (frames_bytes fs ++ r) is' (All-head IsFrame f fs each) (sym e ∙ append_assoc (frame_bytes f) (frames_bytes fs) r))

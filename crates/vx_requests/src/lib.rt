@@ -7,7 +7,7 @@
 //! - `frame`: reads the length, the client, the op and the body of a request frame; writes frames
 //!   of requests (`write_request`) and of replies (`write_reply`); reads and writes samples.
 //! - `serving`: `serve` answers a stream of requests frame by frame, and returns a `Summary`.
-//! - `laws::frames`, `laws::streams`: laws about the definitions of `specs/Frame` and
+//! - `laws::frames`, `laws::replies`, `laws::streams`: laws about the definitions of `specs/Frame` and
 //!   `specs/Serving`.
 //!
 //! The headline theorem is `Session` (`specs/Serving/Session.antt`), the clause `session` of
@@ -20,7 +20,9 @@ pub mod laws;
 mod serving;
 mod stream;
 
-pub use frame::{fits_a_frame, write_reply, write_request};
-pub use serving::{Summary, serve};
+pub use frame::{Reader, fits_a_frame, is_one_frame, said_length, write_reply, write_request};
+pub use serving::{
+    FRAME_READS, ReplyContent, Summary, answer_body, serve, serve_frame, write_content,
+};
 pub use stream::{Failed, FromRead, FromWrite, Sink, Source, StreamFault, fill, write_all};
 pub use vx_wire::{ParseFault, parse};

@@ -1,5 +1,5 @@
 //! Reads request frames, and writes reply frames.
-ghost use Rattle.std.specs.Prelude.{◌≡◌, ◌+◌, ◌<◌, ◌≤◌, ◌^◌, IfOk};
+ghost use Rattle.std.specs.Prelude.{◌≡◌, ◌≢◌, ◌+◌, ◌<◌, ◌≤◌, ◌^◌, Err, IfOk};
 ghost use Rattle.vx_requests.specs.Stream.Transfer.{read_failures, write_failures};
 ghost use Rattle.vx_requests.specs.Serving.Clients.{states_of};
 ghost use Rattle.vx_requests.specs.Frame.Reading.{CanRead, KeepsCount};
@@ -15,6 +15,8 @@ mod texts;
 use crate::frame::Reader;
 use crate::stream::{Sink, Source, StreamFault};
 use answered::write_answered;
+pub use answered::{ReplyContent, write_content};
+pub use answering::answer_body;
 use answering::answer_payload;
 use client_contexts::Runtime;
 use std::alloc::Global;
@@ -22,6 +24,9 @@ pub use summary::Summary;
 
 /// The most reads of the source in one call of `serve`: 2^40.
 const MOST_READS: u64 = 1_099_511_627_776;
+
+/// One more than the most reads of the source for one frame: 2^29 + 5.
+pub const FRAME_READS: u64 = 536_870_917;
 
 /// Serves the frames of the source, from the first to the last.
 ///
@@ -77,7 +82,37 @@ pub fn serve<S: Source, K: Sink>(
     Ok(summary)
 }
 
-/// Serves one frame, and returns the code of its reply. `None`: the stream has ended.
+/// Serves one frame: reads it, answers it, and writes and flushes its reply. No byte after the
+/// frame is read. Returns the code of the reply, or `None` if the stream has ended.
+///
+/// The faults are those of `serve`, except `ReaderWouldNotEnd`: a frame takes at most one read for
+/// each byte.
+pub fn serve_frame<S: Source, K: Sink>(
+    alloc: Global,
+    source: &mut S,
+    sink: &mut K,
+    runtime: &mut Runtime,
+) -> Result<Option<u8>, StreamFault>
+    requires reads_fit { S.reads source.old < 2 ^ 62 }
+    requires read_failures_fit { S.failures source.old < 2 ^ 62 }
+    requires write_failures_fit { K.failures sink.old < 2 ^ 62 }
+    ensures turn { Turn runtime.old.limits (S.left source.old) (S.left source.new)
+        (K.taken sink.old) (K.taken sink.new)
+        (states_of runtime.old) (states_of runtime.new) result }
+    ensures limits { runtime.new.limits ≡ runtime.old.limits }
+    ensures read_failed { S.failures source.new ≡ S.failures source.old + read_failures result }
+    ensures write_failed { K.failures sink.new ≡ K.failures sink.old + write_failures result }
+    ensures sparing { S.reads source.new ≤ S.reads source.old + (2 ^ 29 + 4) }
+    ensures ends { result ≢ Err StreamFault.ReaderWouldNotEnd }
+{
+    let mut reader = Reader {
+        source,
+        budget: FRAME_READS,
+    };
+    serve_one(alloc, &mut reader, sink, runtime)
+}
+
+/// Serves one frame, as `serve_frame` does, within the reader's budget.
 fn serve_one<S: Source, K: Sink>(
     alloc: Global,
     reader: &mut Reader<S>,
@@ -93,6 +128,8 @@ fn serve_one<S: Source, K: Sink>(
     ensures limits { runtime.new.limits ≡ runtime.old.limits }
     ensures counted { KeepsCount S.reads S.failures reader.old reader.new result }
     ensures once { IfOk result (λ code. reader.new.budget < reader.old.budget) }
+    ensures sparing { S.reads reader.new.source.now
+        ≤ S.reads reader.old.source.now + (2 ^ 29 + 4) }
     ensures write_failed { K.failures sink.new ≡ K.failures sink.old + write_failures result }
 {
     let Some(length) = reader.read_length()? else {

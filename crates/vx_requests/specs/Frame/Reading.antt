@@ -1,5 +1,5 @@
 -- The effects of reading the parts of a frame.
-use Rattle.std.specs.Prelude.{◌≡◌, ℕ, ℤ, ◌+◌, ◌*◌, ◌<◌, ◌^◌, List, [], length, All, Option, Some, None, Result, Ok, Err, ⊤, OnOk, IfErr}
+use Rattle.std.specs.Prelude.{◌≡◌, ℕ, ℤ, ◌+◌, ◌*◌, ◌<◌, ◌≤◌, ◌^◌, List, [], length, All, Option, Some, None, Result, Ok, Err, ⊤, OnOk, IfErr}
 use Rattle.std.specs.Int.{w32, to_be_bytes}
 use Rattle.std.specs.Io.KnownBytes.{Consumes, IsAtEnd}
 use Rattle.vx_base.specs.declared.format.Format.{Format}
@@ -62,8 +62,9 @@ pub record KeepsCount {S T : Type 0} (reads failures : S → ℕ) (old new : Rea
   pub failed : failures new.source.now ≡ failures old.source.now + read_failures result
 
 -- the samples were read, in this format; or reading stopped before all bytes of the samples were
--- read
+-- read. There was at most one read for each byte
 pub record ReadsOver {S : Type 0} (left : S → Option (List ℕ)) (reads failures : S → ℕ) (old new : Reader S) (format : Format) (samples : List ℤ) (result : Result ⊤ StreamFault) : Type 0 where
   pub ok : OnOk result (ReadsSamples (left old.source.now) (left new.source.now) format samples)
   pub err : IfErr result (ReadsPart (left old.source.now) (left new.source.now) (length samples * sample_bytes format))
   pub counted : KeepsCount reads failures old new result
+  pub sparing : reads new.source.now ≤ reads old.source.now + length samples * sample_bytes format

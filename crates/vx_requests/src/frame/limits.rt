@@ -4,6 +4,9 @@ ghost use Rattle.vx_requests.specs.Frame.Frames.{fits_a_frame};
 
 use client_model::Request;
 
+/// The least length of a request frame: the client and the op.
+pub const LEAST_LENGTH: u32 = 3;
+
 /// The greatest length of a request frame: 2^29. The length counts the bytes after the length
 /// field.
 pub const GREATEST_LENGTH: u32 = 536_870_912;

@@ -1,15 +1,13 @@
 //! The parts of a frame, read from a source.
-ghost use Rattle.std.specs.Prelude.{◌≡◌, ◌<◌, ◌^◌, [], ◌∷◌, ◌++◌, length, All, OnOk, IfOk, IfErr};
+ghost use Rattle.std.specs.Prelude.{◌≡◌, ◌+◌, ◌<◌, ◌≤◌, ◌^◌, [], ◌∷◌, ◌++◌, length, All};
+ghost use Rattle.std.specs.Prelude.{OnOk, IfOk, IfErr};
 ghost use Rattle.std.specs.Int.{w16, w32, to_be_bytes};
 ghost use Rattle.std.specs.Io.KnownBytes.{Consumes};
 ghost use Rattle.vx_requests.specs.Frame.Reading.{ReadsPart, ReadsSome, ReadsLength, CanRead};
 ghost use Rattle.vx_requests.specs.Frame.Reading.{KeepsCount};
 
-use crate::frame::limits::GREATEST_LENGTH;
+use crate::frame::limits::{GREATEST_LENGTH, LEAST_LENGTH};
 use crate::stream::{Source, StreamFault, fill};
-
-/// The least number of bytes after a frame's length: the client and the op.
-const LEAST_LENGTH: u32 = 3;
 
 /// The most bytes that are skipped at a time.
 const PAST: usize = 4096;
@@ -31,6 +29,7 @@ impl<S: Source> Reader<'_, S> {
             (S.left self.old.source.now) (S.left self.new.source.now) result }
         ensures counted { KeepsCount S.reads S.failures self.old self.new result }
         ensures once { IfOk result (λ length. self.new.budget < self.old.budget) }
+        ensures sparing { S.reads self.new.source.now ≤ S.reads self.old.source.now + 4 }
     {
         let mut bytes = [0u8; 4];
         let count = fill(self.source, &mut self.budget, &mut bytes)?;
@@ -57,6 +56,8 @@ impl<S: Source> Reader<'_, S> {
             (S.left self.old.source.now) (S.left self.new.source.now) (length buf.new)) }
         ensures bytes { All (λ b. b < 2 ^ 8) buf.new }
         ensures counted { KeepsCount S.reads S.failures self.old self.new result }
+        ensures sparing { S.reads self.new.source.now
+            ≤ S.reads self.old.source.now + length buf.new }
     {
         let count = fill(self.source, &mut self.budget, buf)?;
         if count < buf.len() {
@@ -73,6 +74,7 @@ impl<S: Source> Reader<'_, S> {
         ensures err { IfErr result (ReadsPart
             (S.left self.old.source.now) (S.left self.new.source.now) count) }
         ensures counted { KeepsCount S.reads S.failures self.old self.new result }
+        ensures sparing { S.reads self.new.source.now ≤ S.reads self.old.source.now + count }
     {
         let mut buf = [0u8; PAST];
         let mut rest = count;
@@ -93,6 +95,7 @@ impl<S: Source> Reader<'_, S> {
         ensures err { IfErr result (ReadsPart
             (S.left self.old.source.now) (S.left self.new.source.now) 3) }
         ensures counted { KeepsCount S.reads S.failures self.old self.new result }
+        ensures sparing { S.reads self.new.source.now ≤ S.reads self.old.source.now + 3 }
     {
         let mut bytes = [0u8; 3];
         self.read_exactly(&mut bytes)?;

@@ -1,5 +1,6 @@
 //! Samples of pictures, entries of lookup tables, coefficients and counts, as bytes.
-ghost use Rattle.std.specs.Prelude.{◌≡◌, ◌*◌, ◌<◌, ◌≤◌, ◌^◌, length, map, take, IfOk, IfErr, OnOk};
+ghost use Rattle.std.specs.Prelude.{◌≡◌, ◌+◌, ◌*◌, ◌<◌, ◌≤◌, ◌^◌, length, map, take, IfOk, IfErr};
+ghost use Rattle.std.specs.Prelude.{OnOk};
 ghost use Rattle.std.specs.List.{flat_map};
 ghost use Rattle.vx_base.specs.Sample.{sample_bytes};
 ghost use Rattle.vx_base.specs.Picture.{values, samples_format};
@@ -88,6 +89,8 @@ fn read_samples<S: Source>(reader: &mut Reader<S>, samples: &mut Samples) -> Res
     ensures format { samples_format samples.new ≡ samples_format samples.old }
     ensures size { length (values samples.new) ≡ length (values samples.old) }
     ensures counted { KeepsCount S.reads S.failures reader.old reader.new result }
+    ensures sparing { S.reads reader.new.source.now ≤ S.reads reader.old.source.now
+        + length (values samples.old) * sample_bytes (samples_format samples.old) }
 {
     match samples {
         Samples::U8(bytes) => reader.read_exactly(bytes.as_mut_slice()),
@@ -109,6 +112,8 @@ fn read_wide<S: WideSample, R: Source>(
         (R.left reader.old.source.now) (R.left reader.new.source.now)
         (length samples.old * sample_bytes S.format)) }
     ensures counted { KeepsCount R.reads R.failures reader.old reader.new result }
+    ensures sparing { R.reads reader.new.source.now
+        ≤ R.reads reader.old.source.now + length samples.old * sample_bytes S.format }
 {
     let mut piece = [0u8; LONGEST_READ];
     let mut done = 0;
@@ -136,6 +141,10 @@ fn read_piece<S: WideSample, R: Source>(
         (R.left reader.old.source.now) (R.left reader.new.source.now)
         (length samples.old * sample_bytes S.format)) }
     ensures counted { KeepsCount R.reads R.failures reader.old reader.new result }
+    ensures sparing { IfOk result (λ count. R.reads reader.new.source.now
+        ≤ R.reads reader.old.source.now + count * sample_bytes S.format) }
+    ensures sparing_err { R.reads reader.new.source.now
+        ≤ R.reads reader.old.source.now + length samples.old * sample_bytes S.format }
 {
     let size = S::size();
     let count = samples.len().min(piece.len() / size);

@@ -3,7 +3,8 @@ ghost use Rattle.std.specs.Prelude.{◌≡◌, ◌<◌, ◌^◌, IfOk};
 ghost use Rattle.vx_requests.specs.Stream.Transfer.{Sends};
 ghost use Rattle.vx_requests.specs.Frame.Frames.{reply_bytes};
 ghost use Rattle.vx_requests.specs.Serving.Clients.{states_of, spelled_frame};
-ghost use Rattle.vx_requests.specs.Serving.Turn.{reply_frame};
+ghost use Rattle.vx_requests.specs.Serving.Turn.{reply_frame, said_in};
+ghost use Rattle.client_contexts.specs.World.{state_of};
 ghost use Rattle.vx_wire.specs.Replies.{said_of};
 
 use crate::frame::{code_of, write_image_reply, write_image_text_reply, write_reply};
@@ -47,16 +48,38 @@ pub fn write_answered<K: Sink>(
         code ≡ (reply_frame runtime.now.limits (states_of runtime.now) answered.now).code) }
 {
     let (client, op) = (answered.client, answered.op);
-    match &answered.content {
+    write_content(sink, runtime, client, client, op, &answered.content)
+}
+
+/// Writes the frame of a reply to `client`, whose number in the runtime is `number`. Flushes the
+/// sink, and returns the reply's code. An image's samples are read from `runtime`, which must be in
+/// the state after the request.
+pub fn write_content<K: Sink>(
+    sink: &mut K,
+    runtime: &Runtime,
+    number: u16,
+    client: u16,
+    op: u8,
+    content: &ReplyContent,
+) -> Result<u8, StreamFault>
+    requires { K.failures sink.old < 2 ^ 62 }
+    ensures sent { Sends K.taken K.failures sink.old sink.new
+        (reply_bytes (spelled_frame client op
+        (said_in runtime.now.limits (state_of number runtime.now) content.now)))
+        result }
+    ensures code { IfOk result (λ code.
+        code ≡ (said_in runtime.now.limits (state_of number runtime.now) content.now).code) }
+{
+    match content {
         ReplyContent::Made(reply) => write_made_reply(sink, client, op, reply),
-        ReplyContent::Samples(image) => match runtime.image(client, *image) {
+        ReplyContent::Samples(image) => match runtime.image(number, *image) {
             Ok(image) => {
                 write_image_reply(sink, client, op, image)?;
                 Ok(0)
             }
             Err(code) => write_made_reply(sink, client, op, &Reply::Refused(code)),
         },
-        ReplyContent::Text(image) => match runtime.text_image(client, *image) {
+        ReplyContent::Text(image) => match runtime.text_image(number, *image) {
             Ok(image) => {
                 write_image_text_reply(sink, client, op, image)?;
                 Ok(0)

@@ -1,5 +1,5 @@
 //! Reads the payload of a frame (the client, the op and the body), and answers the frame.
-ghost use Rattle.std.specs.Prelude.{◌≡◌, ℕ, ◌<◌, ◌≤◌, ◌^◌, List, length, All, Ok, IfOk};
+ghost use Rattle.std.specs.Prelude.{◌≡◌, ℕ, ◌+◌, ◌<◌, ◌≤◌, ◌^◌, List, length, All, Ok, IfOk};
 ghost use Rattle.client_model.specs.Limits.{LimitsValue};
 ghost use Rattle.client_model.specs.Context.{State};
 ghost use Rattle.vx_requests.specs.Frame.Frames.{IsLength, frame_of, payload};
@@ -45,6 +45,7 @@ pub fn answer_payload<S: Source>(
         (states_of runtime.old) (states_of runtime.new) length result }
     ensures limits { runtime.new.limits ≡ runtime.old.limits }
     ensures counted { KeepsCount S.reads S.failures reader.old reader.new result }
+    ensures sparing { S.reads reader.new.source.now ≤ S.reads reader.old.source.now + length }
 {
     let count = length as usize;
     if count <= SMALL {
@@ -74,6 +75,8 @@ fn answer_small<S: Source>(
         (states_of runtime.old) (states_of runtime.new) (length buffer.new) result }
     ensures limits { runtime.new.limits ≡ runtime.old.limits }
     ensures counted { KeepsCount S.reads S.failures reader.old reader.new result }
+    ensures sparing { S.reads reader.new.source.now
+        ≤ S.reads reader.old.source.now + length buffer.new }
 {
     reader.read_exactly(buffer)?;
     let frame = frame_in(buffer);
@@ -84,6 +87,34 @@ fn answer_small<S: Source>(
         op,
         content,
     })
+}
+
+/// The longest body that is read into a fixed buffer.
+const SMALL_BODY: usize = SMALL - 3;
+
+/// Reads a body of `count` bytes, and answers its frame, as `serve` does. `client` is the client's
+/// number in the runtime.
+pub fn answer_body<S: Source>(
+    alloc: Global,
+    reader: &mut Reader<S>,
+    runtime: &mut Runtime,
+    client: u16,
+    op: u8,
+    count: usize,
+) -> Result<ReplyContent, StreamFault>
+    requires { CanRead S.reads S.failures reader.old }
+    ensures answered { AnswersBody runtime.old.limits
+        (S.left reader.old.source.now) (S.left reader.new.source.now)
+        (states_of runtime.old) (states_of runtime.new) client op count result }
+    ensures limits { runtime.new.limits ≡ runtime.old.limits }
+    ensures counted { KeepsCount S.reads S.failures reader.old reader.new result }
+    ensures sparing { S.reads reader.new.source.now ≤ S.reads reader.old.source.now + count }
+{
+    if count <= SMALL_BODY {
+        let mut small = [0u8; SMALL_BODY];
+        return answer_in(alloc, reader, runtime, client, op, &mut small[..count]);
+    }
+    answer_large(alloc, reader, runtime, client, op, count)
 }
 
 /// Reads a body of `count` bytes, and answers its frame. If no memory can be allocated for the
@@ -104,6 +135,7 @@ fn answer_large<S: Source>(
         (states_of runtime.old) (states_of runtime.new) client op count result }
     ensures limits { runtime.new.limits ≡ runtime.old.limits }
     ensures counted { KeepsCount S.reads S.failures reader.old reader.new result }
+    ensures sparing { S.reads reader.new.source.now ≤ S.reads reader.old.source.now + count }
 {
     match Op::from_number(op) {
         Some(Op::WriteImage) => answer_write_image(reader, runtime, client, op, count),
@@ -136,6 +168,8 @@ fn answer_in<S: Source>(
         (states_of runtime.old) (states_of runtime.new) client op (length body.new) result }
     ensures limits { runtime.new.limits ≡ runtime.old.limits }
     ensures counted { KeepsCount S.reads S.failures reader.old reader.new result }
+    ensures sparing { S.reads reader.new.source.now
+        ≤ S.reads reader.old.source.now + length body.new }
 {
     reader.read_exactly(body)?;
     Ok(answer_frame(alloc, runtime, &RequestFrame { client, op, body }))
@@ -155,6 +189,7 @@ fn lose_body<S: Source>(
         (S.left reader.old.source.now) (S.left reader.new.source.now)
         states states client op count result }
     ensures counted { KeepsCount S.reads S.failures reader.old reader.new result }
+    ensures sparing { S.reads reader.new.source.now ≤ S.reads reader.old.source.now + count }
 {
     reader.skip(count)?;
     Ok(ReplyContent::Made(Reply::Refused(Code::NoMemory)))

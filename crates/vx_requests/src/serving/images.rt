@@ -1,6 +1,6 @@
 //! Answers WriteImage. The samples are read into a block of the pool. The image then gets the
 //! block's memory.
-ghost use Rattle.std.specs.Prelude.{◌≡◌, ◌<◌, Some, OnOk, IfOk, IfErr};
+ghost use Rattle.std.specs.Prelude.{◌≡◌, ◌+◌, ◌<◌, ◌≤◌, Some, OnOk, IfOk, IfErr};
 ghost use Rattle.client_model.specs.declared.reply.Reply.TheVariants.{Refused};
 ghost use Rattle.vx_requests.specs.declared.serving.answered.ReplyContent.TheVariants.{Made};
 ghost use Rattle.vx_wire.specs.declared.op.Op.TheVariants.{WriteImage};
@@ -39,6 +39,7 @@ pub fn answer_write_image<S: Source>(
         (states_of runtime.old) (states_of runtime.new) client op count result }
     ensures limits { runtime.new.limits ≡ runtime.old.limits }
     ensures counted { KeepsCount S.reads S.failures reader.old reader.new result }
+    ensures sparing { S.reads reader.new.source.now ≤ S.reads reader.old.source.now + count }
 {
     let mut head = [0u8; HEAD];
     reader.read_exactly(&mut head)?;
@@ -66,6 +67,7 @@ fn refuse<S: Source>(
     ensures err { IfErr result (ReadsPart
         (S.left reader.old.source.now) (S.left reader.new.source.now) rest) }
     ensures counted { KeepsCount S.reads S.failures reader.old reader.new result }
+    ensures sparing { S.reads reader.new.source.now ≤ S.reads reader.old.source.now + rest }
 {
     reader.skip(rest)?;
     Ok(ReplyContent::Made(Reply::Refused(code)))

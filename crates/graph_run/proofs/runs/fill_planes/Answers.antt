@@ -68,7 +68,7 @@ returns c =
       lent = rw left (lends g c.args.blocks.now c.requires.sizes t);
       program = rw left (runs g c.args.blocks.now c.requires.sizes t);
       reduces = reduces g c.args.blocks.now c.requires.sizes t;
-      formats = c.add_virtual.ensures.formats;
+      lent_sizes = c.add_virtual.ensures.lent_sizes;
       unused = rw slots at c.add_virtual.ensures.unused;
       left = left;
     }

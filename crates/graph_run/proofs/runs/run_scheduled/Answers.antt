@@ -1,12 +1,13 @@
 use Rattle.std.proofs.Common.{◌≡◌, ℕ, List, ◌++◌, All, ap, arith, drop, length, map, subst, sym, take, ◌∙◌}
 use Rattle.std.proofs.lemmas.List.{length-map}
-use Rattle.graph_run.proofs.Common.{Context, IsDescription, IsObject, IsPlan, IsReady, IsStrictlyIncreasing, Lasts, NamedObject, Node, PlanView, Samples, Verified, names_of, samples_format, with_objects, with_written}
+use Rattle.graph_run.proofs.Common.{Context, IsDescription, IsObject, IsPlan, IsReady, IsStrictlyIncreasing, Lasts, NamedObject, Node, PlanView, Verified, names_of, with_objects, with_written}
+use Rattle.pixel_pool.specs.Block.{BlockValue}
 use Rattle.graph_steps.specs.declared.step.Task.{Task}
 use Rattle.graph_steps.specs.declared.tally.Tally.{Tally}
 use Rattle.graph_steps.specs.Planes.{PlaneValue}
 use Rattle.graph_steps.specs.Steps.{capacities}
 use Rattle.graph_run.specs.declared.schedule.Schedule.{Schedule}
-use Rattle.graph_run.specs.Blocks.{block_size}
+use Rattle.graph_run.specs.Blocks.{block_size, lent_size}
 use Rattle.graph_run.specs.Bound.{KeepTallies}
 use Rattle.graph_run.specs.Program.{tables_of, tallies_of}
 use Rattle.graph_run.specs.Results.{Leaves, tally_objects}
@@ -28,8 +29,8 @@ left_by : (objects bare : List NamedObject) (ns steps : List Node) (ts tasks : L
 left_by objects bare ns steps ts tasks ps planes after ls tallies counted o n t p l leaves = rw (← o, ← n, ← t, ← p, ← l) leaves
 
 -- the blocks, after they were lent as a slice
-blocks_back : (old lent between new : List Samples) (len : ℕ) → lent ≡ old → map samples_format between ≡ map samples_format lent → map samples_format new ≡ map samples_format between → len ≡ length old
-    → map samples_format (take len (new ++ drop (length new) old)) ≡ map samples_format old
+blocks_back : (old lent between new : List BlockValue) (len : ℕ) → lent ≡ old → map lent_size between ≡ map lent_size lent → map lent_size new ≡ map lent_size between → len ≡ length old
+    → map lent_size (take len (new ++ drop (length new) old)) ≡ map lent_size old
 blocks_back old lent between new len lent_is first then all = grind (arith, length-map, written_back)
 
 pub begin_tallies-requires : goal.begin_tallies-requires
@@ -42,14 +43,15 @@ empty_planes-requires c =
     let objects = c.args.table.now.objects in
     let g = can_run objects c.args.verified.now c.args.schedule.now c.requires.objects c.requires.names c.requires.ready c.requires.schedule c.prove_descriptions.ensures in
     let sizes = ap (map block_size) c.as_mut_slice-slots.ensures.value ∙ c.in_ok-take_blocks.ensures.capacities ∙ c.deref.ensures.value in
+    let lent_sizes = ap (map lent_size) c.as_mut_slice-slots.ensures.value ∙ c.in_ok-take_blocks.ensures.lent_sizes ∙ c.deref.ensures.value in
     let bare = ap (λ (x : Context). x.objects) c.fill_planes.ensures.left in
     let planes = c.as_mut_slice-planes.ensures.value in
     let tallies = c.as_mut_slice-tallies.ensures.value ∙ c.in_ok-begin_tallies.ensures ∙ ap (tallies_of objects) c.steps.ensures.steps in
     let leaves : Leaves (tables_of c.fill_planes.new.table.objects c.steps-2.result.now) c.deref-2.result.now c.as_mut_slice-planes.result.now c.as_mut_slice-tallies.result.now c.run.new.planes c.run.new.tallies =
     record { images = c.run.ensures.solution; reductions = c.run.ensures.reductions; whole = c.run.ensures.whole; descs = c.run.ensures.descs; planes_count = c.run.ensures.count; tallies_count = c.run.auto.tallies } in
     rw bare
-    (can_return g c.as_mut_slice-slots.result.now sizes c.fill_planes.ensures.planes (left_by _ _ _ _ _ _ _ _ _ _ _ _ bare c.steps-2.ensures.steps c.deref-2.ensures.value planes tallies leaves)
-    (c.run.ensures.blocks ∙ ap capacities planes) c.fill_planes.new.blocks c.fill_planes.ensures.formats)
+    (can_return g c.as_mut_slice-slots.result.now sizes c.fill_planes.ensures.planes (left_by _ _ _ _ _ _ _ _ _ _ _ _ bare c.steps-2.ensures.steps c.deref-2.ensures.value planes tallies leaves) lent_sizes
+    (c.run.ensures.blocks ∙ ap capacities planes) c.fill_planes.new.blocks c.fill_planes.ensures.lent_sizes)
 
 pub give_back-requires : goal.give_back-requires
 give_back-requires c = grind (arith, blocks_back, counts_stay)

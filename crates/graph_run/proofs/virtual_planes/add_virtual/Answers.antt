@@ -18,13 +18,13 @@ loop-k-preserved c =
     let inv = c.loop-k.invariant in
     let pushed : c.push_reserved.new.self.items ≡ planes ++ p ∷ [] = c.push_reserved.ensures.items in
     let size : (p.format, length p.samples) ≡ block_at slots (block_capacity c.args.blocks.now) 0 k =
-    ap (λ (q : PlaneValue). (q.format, length q.samples)) c.of_block.ensures ∙ block.ensures.size ∙ same_block slots c.args.blocks.now c.loop-k.blocks k inv.formats inv.others in
+    ap (λ (q : PlaneValue). (q.format, length q.samples)) c.of_block.ensures ∙ block.ensures.size ∙ same_block slots c.args.blocks.now c.loop-k.blocks k inv.lent_sizes inv.others in
     record {
       room = omega (arith, ap length pushed, length_push planes p, inv.room, c.push_reserved.ensures.capacity);
       capacity = c.push_reserved.ensures.capacity ∙ inv.capacity;
       descs = ap (λ l. map (λ (q : PlaneValue). q.desc) l) pushed ∙ descs_more planes p c.args.images.now k c.index-images-k.result inv.descs c.loop-k-test.true c.index-images-k.is (ap (λ (q : PlaneValue). q.desc) c.of_block.ensures ∙ ap (λ (o : VirtualOutput). o.desc) (sym c.index-images-k.is));
       blocks = ap capacities pushed ∙ capacities_more planes p (block_at slots (block_capacity c.args.blocks.now) 0) k inv.blocks size;
-      formats = block.ensures.formats ∙ inv.formats;
+      lent_sizes = block.ensures.lent_sizes ∙ inv.lent_sizes;
       others = λ s j there later. block.ensures.others s j there (omega (arith, later)) ∙ inv.others s j there (omega (arith, later));
       unused = λ s none. block.ensures.unused s none ∙ inv.unused s none;
     }

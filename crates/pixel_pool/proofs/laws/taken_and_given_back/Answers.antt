@@ -1,12 +1,7 @@
-use Rattle.std.proofs.Common.{◌≤◌, arith}
-use Rattle.pixel_pool.specs.Classes.{class_capacity}
-use Rattle.pixel_pool.specs.Pool.{capacity_of}
-use Rattle.pixel_pool.proofs.ClassLemmas.{largest_capacity}
-use Rattle.pixel_pool.proofs.FreeLemmas.{fits_again}
+use Rattle.std.proofs.Common.{◌≡◌, sym, ◌∙◌, arith}
 use Rattle.pixel_pool.proofs.laws.taken_and_given_back.Goals as goal
 
-pub returns-clause-capacity : goal.returns-clause-capacity
-returns-clause-capacity c =
-    let fits : c.args.count ≤ class_capacity 192 = omega (arith, largest_capacity, c.requires) in
-    let gets = rw c.in_ok-block.ensures.format at c.give_back.ensures.free in
-    fits_again c.args.count (capacity_of c.in_ok-block.block) _ _ fits c.in_ok-block.ensures.capacity gets
+pub returns-clause-samples : goal.returns-clause-samples
+returns-clause-samples c =
+    let is : c.in_ok-block.block.count ≡ c.args.count = sym c.in_ok-block.ensures.whole ∙ c.in_ok-block.ensures.count in
+    rw (c.in_ok-block.ensures.format, is) at (c.give_back.ensures.samples c.in_ok-block.ensures.memory (omega (arith, is, c.requires)))

@@ -1,5 +1,5 @@
 use Rattle.std.proofs.Common.{◌≡◌, ℕ, ◌<◌, ◌≤◌}
-use Rattle.pixel_pool.specs.Classes.{class_capacity}
+use Rattle.pixel_pool.specs.Classes.{class_size}
 use Rattle.pixel_pool.specs.Free.{HasFree}
 use Rattle.pixel_pool.specs.Shelf.{lengths}
 use Rattle.pixel_pool.proofs.stacks.smallest.Given as goal
@@ -7,6 +7,6 @@ use Rattle.pixel_pool.proofs.stacks.smallest.Given as goal
 abbrev pub invariant-loop-class : goal.invariant-loop-class
 invariant-loop-class l =
     record {
-      capacity : l.capacity ≡ class_capacity l.class;
-      none : (other : ℕ) → other < l.class → HasFree (lengths l.stacks) other → l.count ≤ class_capacity other → ⊥;
+      capacity : l.capacity ≡ class_size l.class;
+      none : (other : ℕ) → other < l.class → HasFree (lengths l.stacks) other → l.count ≤ class_size other → ⊥;
     }

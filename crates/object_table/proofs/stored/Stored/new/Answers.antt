@@ -12,4 +12,4 @@ zeros_are_new d area samples count all long zero = grind (arith, samples-new_ima
 -- (that the samples are 0 is searched for, not named: a body that takes what is not cleared is refused for the fact that it lacks)
 pub returns-clause-value : goal.returns-clause-value
 returns-clause-value c =
-    zeros_are_new c.args.desc c.whole.result c.in_ok-block.block c.sample_count.result c.whole.ensures c.sample_count.ensures.value (search rules)
+    zeros_are_new c.args.desc c.whole.result c.in_ok-block.block.samples c.sample_count.result c.whole.ensures c.sample_count.ensures.value (search rules)

@@ -2,8 +2,8 @@ use Rattle.std.proofs.Common.{◌<◌, ◌+◌, length, refl, arith}
 use Rattle.pixel_pool.specs.Shelf.{stack_at, lengths}
 use Rattle.pixel_pool.specs.Classes.{class_count}
 use Rattle.std.proofs.Math.Nat.{add-mul}
-use Rattle.pixel_pool.proofs.ClassLemmas.{capacity_small}
-use Rattle.pixel_pool.proofs.FreeLemmas.{capacity_bound}
+use Rattle.pixel_pool.proofs.ClassLemmas.{capacity_small, largest_capacity}
+use Rattle.pixel_pool.proofs.FreeLemmas.{capacity_bound, fits_again}
 use Rattle.pixel_pool.proofs.StackLemmas.{lent_some, stack_counted, pushed, capacity_changed, back_value, back_count}
 use Rattle.pixel_pool.proofs.shelf.Shelf.give_back.Goals as goal
 
@@ -32,6 +32,10 @@ pub returns-clause-free : goal.returns-clause-free
 returns-clause-free g c =
     let inside : c.class_of-class.result.0 < length c.self.inside.stacks = omega (arith, c.class_of-class.ensures.class.class_known, c.self.invariant.1.all) in
     rw (← c.capacity.ensures) (back_value c.self.inside.stacks c.class_of-class.result.0 c.self.inside.lent c.capacity.result c.insert_reserved-top.result c.args.self.now c.self.view_is c.class_of-class.ensures.class inside)
+
+pub returns-clause-samples : goal.returns-clause-samples
+returns-clause-samples g c count fits small =
+    fits_again count _ _ _ (omega (arith, largest_capacity, small)) fits (returns-clause-free g c)
 
 pub returns-clause-blocks : goal.returns-clause-blocks
 returns-clause-blocks g c =

@@ -17,6 +17,6 @@ returns g c f n row =
     let a = c.args.self in
     let low = same_order c.short.result a.least.value (search rules) (search rules) ∙ ap (λ z. int_lt z a.least.value) c.short.ensures in
     let high = same_order a.greatest.value c.short-2.result (search rules) (search rules) ∙ ap (int_lt a.greatest.value) c.short-2.ensures in
-    let least = c.include_row.ensures f n row ∙ row_merged int_min int_lt f ps ws (g.T.Item.value c.least_of-low.result) _ a.least samples c.least_of-low.ensures low in
-    let greatest = c.include_row-2.ensures f n row ∙ row_merged int_max (λ z v. int_lt v z) f ps ws (g.T.Item.value c.greatest_of-high.result) _ a.greatest samples c.greatest_of-high.ensures high in
+    let least = c.include_row.ensures f n row ∙ row_merged int_min int_lt f ps ws (g.T.Item.value c.extent_of-low.result.0) _ a.least samples c.extent_of-low.ensures.least low in
+    let greatest = c.include_row-2.ensures f n row ∙ row_merged int_max (λ z v. int_lt v z) f ps ws (g.T.Item.value c.extent_of-low.result.1) _ a.greatest samples c.extent_of-low.ensures.greatest high in
     rw (least, greatest) refl

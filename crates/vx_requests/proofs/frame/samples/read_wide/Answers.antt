@@ -1,5 +1,6 @@
-use Rattle.std.proofs.Common.{rules}
-use Rattle.vx_requests.proofs.Common.{err_from_is_err_and}
+use Rattle.std.proofs.Common.{arith, rules}
+use Rattle.std.proofs.Math.Nat.{add-mul}
+use Rattle.vx_requests.proofs.Common.{err_from_is_err_and, sample_bytes}
 use Rattle.vx_requests.proofs.ReadCounts.{KeepsCount-more}
 use Rattle.vx_requests.proofs.SampleReads.{reads_piece, part_of_samples}
 use Rattle.vx_requests.proofs.frame.samples.read_wide.Goals as goal
@@ -18,4 +19,5 @@ loop-done-preserved g c =
       within = search rules;
       samples = reads_piece g.S.WideSample.value _ _ _ g.S.WideSample.format c.loop-done.done c.in_ok-done.field-0 c.loop-done.samples c.read_piece.new.samples before.within read.within before.samples read.ok;
       counted = KeepsCount-more _ _ _ _ _ _ _ 0 before.counted read.counted;
+      sparing = omega (arith, before.sparing, read.sparing, add-mul c.loop-done.done c.in_ok-done.field-0 (sample_bytes g.S.WideSample.format));
     }

@@ -17,4 +17,5 @@ loop-rest-preserved g c =
     record {
       bytes = (done ++ c.read_exactly.new.buf, Consumes-trans _ _ _ _ _ before read.ok, ap (λ n. n + (c.loop-rest.rest - c.min-now.result)) (length-append done c.read_exactly.new.buf) ∙ search rules, All-append (λ b. b < 2 ^ 8) done c.read_exactly.new.buf bytes read.bytes);
       counted = KeepsCount-more _ _ _ _ _ _ _ 0 c.loop-rest.invariant.counted read.counted;
+      sparing = search rules;
     }
