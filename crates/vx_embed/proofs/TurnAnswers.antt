@@ -1,0 +1,71 @@
+-- From the server's turn to the answer that C gets.
+use Rattle.std.proofs.Common.{◌≡◌, ◌≢◌, ℕ, ◌+◌, ◌<◌, ◌≤◌, List, [], ◌∷◌, ◌++◌, Option, Some, Result, Ok, Err, is_ok, false, inr, arith, length, take, sym, ap, ◌∙◌, subst, length-append}
+use Rattle.std.proofs.lemmas.List.{take_all}
+use Rattle.client_contexts.specs.World.{World}
+use Rattle.vx_requests.specs.declared.serving.summary.Summary.{Summary}
+use Rattle.vx_requests.specs.declared.stream.fault.StreamFault.{StreamFault}
+use Rattle.vx_requests.specs.declared.stream.fault.StreamFault.TheVariants.{ReadFailed, WriteFailed, ReaderWouldNotEnd}
+use Rattle.vx_requests.specs.Stream.Transfer.{read_failures, write_failures}
+use Rattle.vx_requests.specs.Frame.Frames.{said_length}
+use Rattle.vx_requests.specs.Serving.Clients.{states_of}
+use Rattle.vx_requests.specs.Serving.OneFrame.{ServesOneFrame}
+use Rattle.vx_requests.specs.Serving.Session.{Session}
+use Rattle.client_model.specs.Limits.{LimitsValue}
+use Rattle.client_model.specs.Context.{State}
+use Rattle.vx_requests.specs.Serving.Turn.{Turn}
+use Rattle.vx_requests.proofs.LongReplies.{long_leaves}
+use Rattle.vx_requests.proofs.OneFrame.{turn_stops, one_session}
+use Rattle.vx_requests.proofs.WholeFrames.{said_of_front}
+use Rattle.vx_embed.specs.Serves.{Answers, IsOneFrame, Serves}
+use Rattle.vx_embed.specs.Status.{status_number}
+use Rattle.vx_embed.specs.declared.handle.Handle.{Handle}
+use Rattle.vx_embed.specs.declared.status.Status.{Status}
+use Rattle.vx_embed.specs.declared.status.Status.TheVariants as status
+
+-- the fault of a turn that the source didn't cause
+not_read_failed : (e : StreamFault) → 0 ≡ 0 + read_failures {T = Option ℕ} (Err e) → e ≢ ReadFailed
+not_read_failed e none is = let one : read_failures {T = Option ℕ} (Err e) ≡ 1 = ap (λ x. read_failures {T = Option ℕ} (Err x)) is in omega (arith, none, one)
+
+-- the sink counted a failure
+counts_failure : (e : StreamFault) (earlier failures : ℕ) → e ≡ WriteFailed → failures ≡ earlier + write_failures {T = Option ℕ} (Err e) → 0 < failures
+counts_failure e earlier failures is counted = let one : write_failures {T = Option ℕ} (Err e) ≡ 1 = ap (λ x. write_failures {T = Option ℕ} (Err x)) is in omega (arith, counted, one)
+
+-- the bytes after the name of the buffer
+tails : (name name' n : ℕ) (xs ys zs : List ℕ) → n ≡ 0 → name' ∷ xs ≡ (name ∷ take n ys) ++ zs → xs ≡ zs
+tails name name' n xs ys zs none e = let rest : name' ∷ xs ≡ name ∷ zs = e ∙ ap (λ k. (name ∷ take k ys) ++ zs) none in cc
+
+-- a reply was cut short, so the buffer is full and is the front of the reply. The sink's first
+-- number is the name of its buffer, and `n` bytes were taken before
+module _ (limits : LimitsValue) (old new : ℕ → State) (front back : List ℕ) (left : Option (List ℕ)) (name name' n count earlier failures : ℕ) (before buffer : List ℕ) where
+  abbrev Takes-turn : List ℕ → Result (Option ℕ) StreamFault → Type 0
+  Takes-turn read result = Turn limits (Some read) left (Some (name ∷ take n before)) (Some (name' ∷ take count buffer)) old new result
+
+  pub cut_reply : (result : Result (Option ℕ) StreamFault) → IsOneFrame (front ++ back) → n ≡ 0 → Takes-turn (front ++ back) result → is_ok result ≡ false
+      → 0 ≡ 0 + read_failures result → result ≢ Err ReaderWouldNotEnd → failures ≡ earlier + write_failures result → (0 < failures → count ≡ length buffer)
+      → (rest : List ℕ) × ServesOneFrame limits (front ++ back) (buffer ++ rest) old new
+  cut_reply (Ok code) framed none turn cut read ends wrote full = absurd cc
+  cut_reply (Err fault) (frame, is, e) none turn cut read ends wrote full =
+      let (failed, part, rest, now, one) = turn_stops limits frame left (name ∷ take n before) (name' ∷ take count buffer) old new fault is (not_read_failed fault read) (λ x. ends (ap (λ y. Err y) x))
+      (subst (λ bytes. Takes-turn bytes (Err fault)) e turn) in
+      let all : count ≡ length buffer = full (counts_failure fault earlier failures failed wrote) in
+      let whole : part ≡ buffer = sym (tails name name' n (take count buffer) before part none now) ∙ take_all count buffer (omega (arith, all)) in
+      (rest, subst (λ l. ServesOneFrame limits (front ++ back) (l ++ rest) old new) whole (subst (λ bytes. ServesOneFrame limits bytes (part ++ rest) old new) (sym e) one))
+
+-- a reply that begins with the whole buffer is long, so the states are as before
+pub too_short : (old new : World) (front back buffer bytes rest : List ℕ) (needed : ℕ) → buffer ≡ bytes → 28 ≤ length buffer → needed ≡ said_length buffer + 4
+    → ServesOneFrame old.limits (front ++ back) (bytes ++ rest) (states_of old) (states_of new) → Answers old new front back buffer needed status.TooShort
+too_short old new front back buffer bytes rest needed same long says served =
+    let one = subst (λ l. ServesOneFrame old.limits (front ++ back) (l ++ rest) (states_of old) (states_of new)) (sym same) served in
+    let size = length-append buffer rest in
+    let said : said_length (buffer ++ rest) ≡ said_length buffer = said_of_front buffer rest (omega (arith, long)) in
+    let reply_long : 28 ≤ length (buffer ++ rest) = omega (arith, size, long) in (
+      long_leaves old.limits one.frame (states_of old) (states_of new) one.reply one.replied (subst (λ l. 28 ≤ length l) one.written_is reply_long),
+      inr (buffer ++ rest, one, omega (arith, size), says ∙ ap (λ n. n + 4) (sym said)),
+    )
+
+-- a call that ends with Ok is a session of one frame
+pub session_of : (old new : Handle) (front back buffer : List ℕ) (count : ℕ) (result : Status) → Serves old new front back buffer count result → status_number result ≡ 0
+    → (summary : Summary) × Session old.world.limits (Some (front ++ back)) (Some []) (Some []) (Some (take count buffer)) (states_of old.world) (states_of new.world) (Ok summary)
+session_of old new front back buffer count status.Ok serves zero =
+    one_session old.world.limits (front ++ back) (take count buffer) (states_of old.world) (states_of new.world) serves.3.1
+session_of old new front back buffer count other serves zero = absurd (omega (arith, zero))

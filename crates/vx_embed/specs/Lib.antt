@@ -1,0 +1,4 @@
+pub mod Status
+pub mod Ownership
+pub mod Opens
+pub mod Serves
