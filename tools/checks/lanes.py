@@ -15,7 +15,8 @@ from collections import Counter
 from typing import Iterable, NamedTuple
 
 FUNCTION = re.compile(r"^[0-9a-f]+ <(.*)>:$")
-INSTRUCTION = re.compile(r"^ +[0-9a-f]+:\s+v?([a-z0-9]+)")
+# The name without the v of AVX. On aarch64, the type of the result's lanes follows.
+INSTRUCTION = re.compile(r"^ +[0-9a-f]+:\s+v?([a-z0-9]+)(?:\s+v\d+(\.\w+))?")
 LIBRARY = re.compile(r"^(core|io|libc|memchr|os|std|std_\w+)::")
 
 OWN = ""
@@ -23,8 +24,8 @@ WINDOWS = "window_kernels::"
 
 
 class Kernel(NamedTuple):
-    """A kernel's characteristic instruction, with or without the v of AVX. There must be at least
-    `least` of it in the functions whose names contain `word`."""
+    """A kernel's characteristic instruction. There must be at least `least` of it in the functions
+    whose names contain `word`."""
 
     name: str
     instruction: str
@@ -65,6 +66,43 @@ KERNELS = [
     Kernel("convolution, by single products", "pmulld", 0, WINDOWS),
 ]
 
+FOR_AARCH64 = [
+    Kernel("and_u8", "and.16b", 1),
+    Kernel("or_u8", "orr.16b", 1),
+    Kernel("xor_u8", "eor.16b", 1),
+    Kernel("not_u8", "mvn.16b", 1),
+    Kernel("add_u8, wrapping", "add.16b", 1),
+    Kernel("add_u8, saturating", "uqadd.16b", 1),
+    Kernel("sub_u8, wrapping", "sub.16b", 1),
+    Kernel("sub_u8, saturating", "uqsub.16b", 1),
+    Kernel("absdiff_u8", "uabd.16b", 1),
+    Kernel("min_u8", "umin.16b", 1),
+    Kernel("max_u8", "umax.16b", 1),
+    Kernel("add_s16, wrapping", "add.8h", 1),
+    Kernel("add_s16, saturating", "sqadd.8h", 1),
+    Kernel("sub_s16, wrapping", "sub.8h", 1),
+    Kernel("sub_s16, absdiff_s16, saturating", "sqsub.8h", 1),
+    Kernel("min_s16", "smin.8h", 1),
+    Kernel("max_s16", "smax.8h", 1),
+    Kernel("mul_u8", "umull.8h", 1),
+    Kernel("mul_s16", "smull.4s", 1),
+    Kernel("threshold_u8", "cmhi.16b", 1),
+    Kernel("threshold_s16", "cmgt.8h", 1),
+    Kernel("shift_up", "ushl.8h", 1),
+    Kernel("narrow", "sshl.8h", 1),
+    Kernel("narrow, saturating", "sqxtun.8b", 1),
+    Kernel("accumulate, accumulate_square", "umin.8h", 1),
+    Kernel("erode3, median3", "umin.16b", 4, WINDOWS),
+    Kernel("dilate3, median3", "umax.16b", 4, WINDOWS),
+    Kernel("box3, gaussian3, sobel3", "add.8h", 4, WINDOWS),
+    Kernel("scale_u8, scale_s16", "sshl.4s", 1, WINDOWS),
+    Kernel("scale_s16", "sqxtn.4h", 1, WINDOWS),
+    Kernel("convolution", "smlal.4s", 4, WINDOWS),
+]
+# The machine in the header of a program, with the kernels' instructions and a disassembler.
+AARCH64 = (183).to_bytes(2, "little")
+MACHINES = {AARCH64: (FOR_AARCH64, "aarch64-linux-gnu-objdump")}
+
 Counts = dict[str, Counter[str]]
 
 
@@ -77,11 +115,11 @@ def counted(lines: Iterable[str]) -> Counts:
             function = start[1]
         elif (found := INSTRUCTION.match(line)) and "::" in function:
             if not LIBRARY.match(function):
-                counts.setdefault(function, Counter())[found[1]] += 1
+                counts.setdefault(function, Counter())[found[1] + (found[2] or "")] += 1
     return counts
 
 
-def wrong(counts: Counts, kernels: Iterable[Kernel] = KERNELS) -> list[str]:
+def wrong(counts: Counts, kernels: Iterable[Kernel]) -> list[str]:
     """Returns a line for each kernel that isn't vectorized as it should be."""
     lines = []
     for kernel in kernels:
@@ -106,16 +144,19 @@ def main() -> None:
     arguments = [word for word in sys.argv[1:] if word != "--faults"]
     if len(arguments) != 1:
         sys.exit("usage: tools/check_lanes [--faults] PROGRAM")
-    if shutil.which("objdump") is None:
-        print("vector instructions not counted: no objdump")
+    with open(arguments[0], "rb") as file:
+        machine = file.read(20)[18:]
+    kernels, disassembler = MACHINES.get(machine, (KERNELS, "objdump"))
+    if shutil.which(disassembler) is None:
+        print(f"vector instructions not counted: no {disassembler}")
         return
-    command = ["objdump", "-d", "--no-show-raw-insn", arguments[0]]
+    command = [disassembler, "-d", "--no-show-raw-insn", arguments[0]]
     listing = subprocess.run(command, check=True, capture_output=True, text=True).stdout
     counts = counted(listing.splitlines())
     if "--faults" in sys.argv:
-        hidden = [k.name for k in KERNELS if not wrong(planted(counts, k), [k])]
-        print(f"{len(KERNELS) - len(hidden)} of {len(KERNELS)} planted kernels are found")
+        hidden = [k.name for k in kernels if not wrong(planted(counts, k), [k])]
+        print(f"{len(kernels) - len(hidden)} of {len(kernels)} planted kernels are found")
         sys.exit("\n".join(f"not found: {name}" for name in hidden) or None)
-    lines = wrong(counts)
-    print(f"{len(KERNELS) - len(lines)} of {len(KERNELS)} kernels run in their lanes")
+    lines = wrong(counts, kernels)
+    print(f"{len(kernels) - len(lines)} of {len(kernels)} kernels run in their lanes")
     sys.exit("\n".join(lines) or None)

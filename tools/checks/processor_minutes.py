@@ -6,6 +6,7 @@ import subprocess
 import sys
 import threading
 import time
+from concurrent.futures import ThreadPoolExecutor
 from typing import DefaultDict, Dict, List, Optional, Tuple
 
 TICKS = os.sysconf("SC_CLK_TCK")
@@ -16,19 +17,24 @@ Work = Optional[Tuple[str, str]]
 Sums = DefaultDict[str, Dict[str, float]]
 
 
+def read(path: str) -> str:
+    """Returns a file's text. Any process may have bytes in its name or command line that aren't
+    UTF-8."""
+    with open(path, errors="surrogateescape") as file:
+        return file.read()
+
+
 def stat(pid: str) -> Tuple[Process, int, float]:
     """Returns a process by number and start time, its parent's number, and the processor seconds of
     it and its finished children."""
-    with open(f"/proc/{pid}/stat") as file:
-        fields = file.read().rsplit(")", 1)[1].split()
+    fields = read(f"/proc/{pid}/stat").rsplit(")", 1)[1].split()
     ticks = sum(map(int, fields[11:15]))
     return (int(pid), fields[19]), int(fields[1]), ticks / TICKS
 
 
 def work_of(pid: int) -> Work:
     """Returns the crate and the kind of work of a prover process, or None for any other process."""
-    with open(f"/proc/{pid}/cmdline") as file:
-        words = file.read().split("\0")
+    words = read(f"/proc/{pid}/cmdline").split("\0")
     if os.path.basename(words[0]) != "rattle" or "--crate-name" not in words:
         return None
     if "--test" in words:
@@ -78,8 +84,9 @@ def line(words: str, minutes: Dict[str, float]) -> str:
     return f"{words:22} {kinds}  {sum(minutes.values()):7.1f}"
 
 
-def run(command: List[str]) -> Tuple[int, Sums]:
-    """Runs a command, and returns its status, and the minutes of each crate by kind."""
+def run(command: List[str]) -> Tuple[int, Sums, Optional[BaseException]]:
+    """Runs a command. Returns its status, the minutes of each crate by kind, and the error at which
+    the count broke off, if it did."""
     process = subprocess.Popen(command)
     times: Dict[Process, float] = {}
     works: Dict[Process, Work] = {}
@@ -89,20 +96,19 @@ def run(command: List[str]) -> Tuple[int, Sums]:
         while not ended.wait(0.25):
             sample(process.pid, times, works)
 
-    watcher = threading.Thread(target=watch)
-    watcher.start()
-    try:
-        status = process.wait()
-    finally:
-        ended.set()
-        watcher.join()
+    with ThreadPoolExecutor(max_workers=1) as pool:
+        watching = pool.submit(watch)
+        try:
+            status = process.wait()
+        finally:
+            ended.set()
     sums: Sums = collections.defaultdict(lambda: dict.fromkeys(KINDS, 0.0))
     for counted, seconds in times.items():
         work = works[counted]
         if work is not None:
             crate, kind = work
             sums[crate][kind] += seconds / 60
-    return status, sums
+    return status, sums, watching.exception()
 
 
 def main() -> int:
@@ -110,9 +116,13 @@ def main() -> int:
         sys.exit("usage: tools/processor_minutes COMMAND [WORD ..]")
     start = time.time()
     try:
-        status, sums = run(sys.argv[1:])
+        status, sums, failure = run(sys.argv[1:])
     except OSError as error:
         sys.exit(f"processor_minutes: {sys.argv[1]} can't be run: {error.strerror}")
+    if failure is not None:
+        print(f"processor_minutes: the count broke off, so no minutes are printed: {failure!r}; "
+              f"{sys.argv[1]} ended with status {status}", file=sys.stderr)
+        return status or 1
     print(f"\nprocessor minutes      {'  '.join(f'{kind:>7}' for kind in KINDS)}      all")
     for crate, minutes in sums.items():
         print(line(crate, minutes))

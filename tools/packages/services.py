@@ -14,7 +14,7 @@ from typing import Dict, List, Tuple
 
 import feqyldan
 
-from . import ROOT, debian, wheels
+from . import ROOT, Machine, debian, wheels
 from .debian import Data
 
 SERVER, PYTHON, SERVICES = "feqyldan-server", "python3-feqyldan", "feqyldan"
@@ -47,8 +47,8 @@ sys.exit(main())
 COMMANDS = ("door", "broker")
 # The units of deploy/ for each package, and the replacements made in them when they are packaged.
 SERVER_UNITS = ("feqyldan.slice", "feqyldan.socket", "feqyldan@.service")
-SERVICE_UNITS = tuple(f"feqyldan-{module}.{kind}" for module in COMMANDS
-                      for kind in ("service", "socket"))
+SERVICE_UNITS = tuple(f"feqyldan-{module}{kind}" for module in COMMANDS
+                      for kind in (".service", ".socket", "-status.socket"))
 PROGRAM = "/opt/feqyldan/bin/vx_main"
 # A link to the program for this machine's processors, made once before the socket listens.
 CHOSEN = "/run/feqyldan/program"
@@ -121,7 +121,8 @@ def documents() -> Dict[str, Data]:
     return {f"usr/share/doc/{SERVICES}/{path}": debian.text_of(path) for path in paths}
 
 
-def build_server(programs: Dict[str, bytes], c_library: Tuple[int, int], folder: str) -> str:
+def build_server(programs: Dict[str, bytes], c_library: Tuple[int, int], folder: str,
+                 machine: Machine) -> str:
     with tempfile.TemporaryDirectory() as stage:
         places = {f"usr/lib/feqyldan/{name}": data for name, data in programs.items()}
         debian.put(stage, {**units(SERVER_UNITS), **debian.manual("feqyldan.1"),
@@ -130,14 +131,15 @@ def build_server(programs: Dict[str, bytes], c_library: Tuple[int, int], folder:
         debian.put(stage, {**places, "usr/bin/feqyldan": debian.text_of("deploy", "starter")},
                    0o755)
         # Remove debug information.
-        subprocess.run(["strip", "--strip-unneeded",
+        subprocess.run([f"{machine.prefix}strip", "--strip-unneeded",
                         *(os.path.join(stage, place) for place in places)], check=True)
         return debian.finish(
             stage, folder,
             {"postinst": AFTER_INSTALL.format(lines=f"{ADD_USER}\n{RELOAD}"),
              "prerm": BEFORE_REMOVAL.format(units="feqyldan.socket", more=STOP_ALL),
              "postrm": AFTER_REMOVAL},
-            name=SERVER, architecture="amd64", section="science", description=SERVER_DESCRIPTION,
+            name=SERVER, architecture=machine.debian, section="science",
+            description=SERVER_DESCRIPTION,
             relations="Depends: libc6 (>= {}.{})\nSuggests: feqyldan, libfeqyldan-dev, "
                       "python3-feqyldan".format(*c_library))
 
@@ -173,7 +175,7 @@ def build_services(folder: str) -> str:
 
 
 def build(wheel: str, programs: Dict[str, bytes], c_library: Tuple[int, int],
-          folder: str) -> List[str]:
+          folder: str, machine: Machine) -> List[str]:
     """Builds the packages, with the Python package from a wheel, and returns their paths."""
-    return [build_server(programs, c_library, folder), build_python(wheel, folder),
+    return [build_server(programs, c_library, folder, machine), build_python(wheel, folder),
             build_services(folder)]

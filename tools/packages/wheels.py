@@ -1,4 +1,4 @@
-"""Builds wheels: the Python package alone, and with the server's programs."""
+"""Builds wheels: the Python package alone, and with the server as programs and as libraries."""
 
 import base64
 import hashlib
@@ -9,9 +9,9 @@ import time
 import zipfile
 from typing import Dict, Tuple
 
-from . import PYTHON
+from . import Machine, PYTHON
 
-# The folder in which feqyldan.program looks for the programs.
+# The folder in which feqyldan.program looks for the programs and the libraries.
 FOLDER = "feqyldan/programs"
 PURE_TAG = "py3-none-any"
 
@@ -45,10 +45,10 @@ def entries_of(path: str) -> Dict[str, bytes]:
 
 
 def with_programs(path: str, programs: Dict[str, bytes], c_library: Tuple[int, int],
-                  folder: str) -> str:
+                  folder: str, machine: Machine) -> str:
     """Builds a wheel with the programs, for machines with at least this C library. Returns its
     path."""
-    tag = f"py3-none-manylinux_{c_library[0]}_{c_library[1]}_x86_64"
+    tag = f"py3-none-manylinux_{c_library[0]}_{c_library[1]}_{machine.wheel}"
     entries = entries_of(path)
     about, = (name for name in entries if name.endswith(".dist-info/WHEEL"))
     said = entries[about].decode()

@@ -10,6 +10,8 @@ NAME = r"[A-Za-z_][\w']*"
 # Folders that builds and tools create.
 BUILT = {".git", "out", "build", "__pycache__", ".mypy_cache"}
 
+# A variable of the environment.
+VARIABLE = r"\"(FEQYLDAN_[A-Z]+)\""
 # Patterns of definitions in each language. The last group is the name.
 RATTLE = [
     rf"\b(?:fn|struct|enum|trait|const|static|type|mod|macro_rules!)\s+({NAME})",
@@ -23,9 +25,10 @@ DEFINITIONS = [
     rf"^\s+({NAME}) :",
 ]
 PYTHON = [rf"\b(?:def|class)\s+({NAME})", rf"^({NAME})\s*(?::[^=]*)?=",
-          rf"^({NAME}(?:, {NAME})+) =", rf"^    ({NAME})\s*(?::[^=]*)?=", r"\"(--[a-z-]+)\""]
+          rf"^({NAME}(?:, {NAME})+) =", rf"^    ({NAME})\s*(?::[^=]*)?=", r"\"(--[a-z-]+)\"",
+          VARIABLE]
 C = [rf"\b({NAME})\s*\(", rf"\b(?:struct|enum)\s+({NAME})", rf"^\s+({NAME}) =",
-     rf"#define ({NAME})", rf"\}} ({NAME});", rf"^\s+({NAME}),"]
+     rf"#define ({NAME})", rf"\}} ({NAME});", rf"^\s+({NAME}),", VARIABLE]
 SHELL = [rf"^\s*({NAME})\(\)", rf"^({NAME})="]
 PATTERNS = {".rt": RATTLE, ".antt": DEFINITIONS, ".py": PYTHON, ".c": C, ".h": C,
             "": PYTHON + SHELL}

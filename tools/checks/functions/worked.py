@@ -79,7 +79,8 @@ WORKED_PICTURES = (
      ([0], (0, 0, 1, 1))),
     *((wire.CONVOLVE, Way(fmt), GREATEST_9_BY_9, Convolution(9, 9, exponent, (-32768,) * 81),
        ([0] * 40 + [sample] + [0] * 40, (4, 4, 5, 5)))
-      for fmt, exponent, sample in ((S16, 0, -32768), (S16, 15, -20655), (S16, 31, 0), (U8, 0, 0))),
+      for fmt, exponent, sample in ((S16, 0, -32768), (S16, 15, -20655), (S16, 31, 0),
+                                    (U8, 0, 0), (U8, 15, 0), (U8, 31, 0))),
     (wire.INTEGRAL, Way(U32), (2, 2, [1, 2, 3, 4]), None, ([1, 3, 4, 10], (0, 0, 2, 2))),
     (wire.HISTOGRAM, UNDEFINED, (3, 1, [85, 86, 255]), Bins(3, 0, 256), [1, 1, 1]),
     (wire.HISTOGRAM, UNDEFINED, (6, 1, [9, 10, 12, 13, 19, 20]), Bins(4, 10, 10), [2, 1, 0, 1]),

@@ -58,8 +58,9 @@ def check_apply(program: Program) -> None:
         for text in texts:
             program.check(f"apply on {text}", text, b"", 5, wire.CODES[code].encode() + b"\n",
                           ("apply", "median", "--border=replicate"))
-    program.check("apply box on a picture of S16", b"P2 1 1 300 5", b"", 5, b"INVALID_FORMAT\n",
-                  ("apply", "box", "--border", "replicate"))
+    for words in ("not",), ("box", "--border", "replicate"):
+        program.check(f"apply {words} on a picture of S16", b"P2 1 1 300 5", b"", 5,
+                      b"INVALID_FORMAT\n", ("apply", *words))
     program.check("apply on the largest picture", b"P5 8192 8192 255\n" + bytes(2**26),
                   b"P5\n8192 8192\n255\n" + b"\xff" * 2**26, words=("apply", "not"))
     check_pieces(program)
