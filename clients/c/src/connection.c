@@ -13,17 +13,25 @@
 #include <unistd.h>
 
 /* Of LEAST_LENT bytes or more the pages are lent to the pipe; fewer are copied. */
-enum { HEAD = 7, REPLY_HEAD = 8, CODES = 14, LEAST_LENT = 1 << 16 };
+enum { CODES = 14, LEAST_LENT = 1 << 16 };
 
-bool connection_open(struct connection *connection, char *why, size_t size) {
+bool connection_open(struct connection *connection, const feqyldan_connection_t *given, char *why,
+                     size_t size) {
     connection->in = connection->out = connection->pipe_reader = connection->errors = -1;
+    connection->transport = &stream_transport;
     connection->last = &connection->first;
-    return reach_server(connection, why, size);
+    return reach_server(connection, given, why, size);
 }
 
 void connection_close(struct connection *connection) {
     connection->has_ended = true;
-    end_server(connection);
+    connection->transport->end(connection);
+}
+
+void connection_cancel(struct connection *connection) {
+    connection->is_cancelled = true;
+    if (connection->in >= 0)
+        shutdown(connection->in, SHUT_RDWR);
 }
 
 /* Stops sending and reading. Returns false, for the caller to return. */
@@ -40,18 +48,20 @@ static bool time_out(struct connection *connection) {
 
 /* ---- Replies ---- */
 
+bool is_reply_to(const struct request *request, const uint8_t *head) {
+    if (head[6] != request->op || head[7] >= CODES)
+        return false;
+    size_t body = head[7] == 0 ? request->body_length + request->samples_length : 0;
+    return get32(head) == 4 + body && get16(head + 4) == 0;
+}
+
 /* Parses the head of the next reply. Returns false where it doesn't answer the oldest request. */
 static bool parse_head(struct connection *connection) {
     while (connection->head_count < REPLY_HEAD && connection->chunk_at < connection->chunk_end)
         connection->head[connection->head_count++] = connection->chunk[connection->chunk_at++];
     if (connection->head_count < REPLY_HEAD)
         return true;
-    struct request *request = connection->first;
-    const uint8_t *head = connection->head;
-    if (request == NULL || head[6] != request->op || head[7] >= CODES)
-        return false;
-    size_t body = head[7] == 0 ? request->body_length + request->samples_length : 0;
-    return get32(head) == 4 + body && get16(head + 4) == 0;
+    return connection->first != NULL && is_reply_to(connection->first, connection->head);
 }
 
 static size_t missing_bytes(const struct connection *connection) {
@@ -225,23 +235,53 @@ static bool send_parts(struct connection *connection, struct iovec *parts, int c
     return true;
 }
 
-bool connection_begin(struct connection *connection, struct request *request, const uint8_t *body,
-                      size_t length, size_t more) {
+void put_head(uint8_t *head, const struct request *request, size_t length) {
+    put8(put16(put32(head, (vx_uint32)length + 3), 0), request->op);
+}
+
+static bool stream_begin(struct connection *connection, struct request *request,
+                         const uint8_t *body, size_t length, size_t more) {
     uint8_t head[HEAD];
-    put8(put16(put32(head, (vx_uint32)(length + more) + 3), 0), request->op);
+    put_head(head, request, length + more);
     struct iovec parts[2] = {{head, HEAD}, {(void *)body, length}};
-    if (connection->has_ended)
-        return false;
-    request->is_done = false;
     request->next = NULL;
     *connection->last = request;
     connection->last = &request->next;
     return send_parts(connection, parts, length == 0 ? 1 : 2);
 }
 
-bool connection_go_on(struct connection *connection, const uint8_t *bytes, size_t count) {
+static bool stream_go_on(struct connection *connection, const uint8_t *bytes, size_t count) {
     struct iovec part = {(void *)bytes, count};
     return send_parts(connection, &part, 1);
+}
+
+/* Samples are read to their places. */
+static bool stream_reserve(struct connection *connection, size_t samples) {
+    (void)connection;
+    (void)samples;
+    return true;
+}
+
+const struct transport stream_transport = {stream_begin, stream_go_on, stream_reserve, end_server};
+
+/* ---- Any transport ---- */
+
+bool connection_begin(struct connection *connection, struct request *request, const uint8_t *body,
+                      size_t length, size_t more) {
+    if (connection->is_cancelled)
+        connection->has_ended = true;
+    if (connection->has_ended)
+        return false;
+    request->is_done = false;
+    return connection->transport->begin(connection, request, body, length, more);
+}
+
+bool connection_go_on(struct connection *connection, const uint8_t *bytes, size_t count) {
+    return connection->transport->go_on(connection, bytes, count);
+}
+
+bool connection_reserve(struct connection *connection, size_t samples) {
+    return connection->transport->reserve(connection, samples);
 }
 
 bool connection_send(struct connection *connection, struct request *request, const uint8_t *body,
@@ -261,11 +301,20 @@ void connection_say_end(struct connection *connection, char *words, size_t size)
         snprintf(words, size, "the server is the parent process's: make a context in this process");
         return;
     }
+    if (connection->is_cancelled) {
+        snprintf(words, size, "the program cancelled the context: make a new one");
+        return;
+    }
+    if (connection->transport == &core_transport) {
+        snprintf(words, size, "the server in this process gave no reply, as if its memory were "
+                              "spoiled: see whether FEQYLDAN_SERVER=process helps");
+        return;
+    }
     if (connection->has_timed_out) {
         snprintf(words, size,
-                 "the server didn't answer within the %g s that FEQYLDAN_TIMEOUT allows: allow "
-                 "more, or see what keeps it busy",
-                 connection->timeout / 1000.0);
+                 "the server didn't answer within the %g s that %s allows: allow more, or see what "
+                 "keeps it busy",
+                 connection->timeout / 1000.0, connection->timeout_owner);
         return;
     }
     ssize_t count = 0;

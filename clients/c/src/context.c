@@ -154,8 +154,9 @@ static void make_base(vx_reference reference, vx_context context, vx_enum type, 
 }
 
 /* Connects to a server, which opens a context. Where that fails, writes why. */
-static bool open_server(vx_context context, char *why, size_t size) {
-    if (!connection_open(&context->connection, why, size))
+static bool open_server(vx_context context, const feqyldan_connection_t *given, char *why,
+                        size_t size) {
+    if (!connection_open(&context->connection, given, why, size))
         return false;
     end_look(context);
     vx_status status = ask(context, OPEN_CONTEXT, NULL, 0, NULL, 0);
@@ -168,8 +169,9 @@ static bool open_server(vx_context context, char *why, size_t size) {
     return status == VX_SUCCESS;
 }
 
-PUBLIC vx_context VX_API_CALL vxCreateContext(void) {
-    char why[VX_MAX_LOG_MESSAGE_LEN];
+/* Makes a context. Where that fails, returns NULL and writes why. */
+static vx_context open_context(const feqyldan_connection_t *given, char *why, size_t size) {
+    snprintf(why, size, "out of memory");
     vx_context context = calloc(1, sizeof *context);
     if (context == NULL)
         return NULL;
@@ -181,8 +183,7 @@ PUBLIC vx_context VX_API_CALL vxCreateContext(void) {
     context->base.context = context;
     context->border.mode = VX_BORDER_UNDEFINED;
     context->border_policy = VX_BORDER_POLICY_DEFAULT_TO_UNDEFINED;
-    if (!open_server(context, why, sizeof why)) {
-        fprintf(stderr, "vxCreateContext: %s\n", why);
+    if (!open_server(context, given, why, size)) {
         free_context(context);
         return NULL;
     }
@@ -191,6 +192,27 @@ PUBLIC vx_context VX_API_CALL vxCreateContext(void) {
     for (vx_status status = -1; status > VX_STATUS_MIN; status--)
         make_base(&context->errors[-status], context, VX_TYPE_ERROR, status);
     return context;
+}
+
+PUBLIC vx_context VX_API_CALL vxCreateContext(void) {
+    char why[VX_MAX_LOG_MESSAGE_LEN];
+    vx_context context = open_context(&(feqyldan_connection_t){0}, why, sizeof why);
+    if (context == NULL)
+        fprintf(stderr, "vxCreateContext: %s\n", why);
+    return context;
+}
+
+PUBLIC vx_context VX_API_CALL feqyldanCreateContext(const feqyldan_connection_t *connection,
+                                                    vx_char *fault, vx_size size) {
+    static const feqyldan_connection_t by_environment;
+    return open_context(connection == NULL ? &by_environment : connection, fault, size);
+}
+
+PUBLIC vx_status VX_API_CALL feqyldanCancel(vx_context context) {
+    if (look(context, VX_TYPE_CONTEXT) == NULL)
+        return VX_ERROR_INVALID_REFERENCE;
+    connection_cancel(&context->connection);
+    return look_away(context, VX_SUCCESS);
 }
 
 void leave_context(vx_context context) {

@@ -11,6 +11,16 @@ static bool is_layout(const vx_imagepatch_addressing_t *addr, vx_size size) {
             (vx_int64)addr->stride_y >= (vx_int64)addr->stride_x * (vx_int64)addr->dim_x);
 }
 
+/* Makes an image whose samples can be read without memory. */
+static vx_reference create_readable(vx_context context, struct _vx_image described) {
+    vx_reference made = create_image(context, described);
+    size_t samples = (size_t)described.width * described.height * sample_size(described.format);
+    if (made->type != VX_TYPE_IMAGE || connection_reserve(&context->connection, samples))
+        return made;
+    release(&made, VX_TYPE_IMAGE);
+    return error_of(context, VX_ERROR_NO_MEMORY);
+}
+
 PUBLIC vx_image VX_API_CALL vxCreateImageFromHandle(vx_context context, vx_df_image color,
                                                     const vx_imagepatch_addressing_t addrs[],
                                                     void *const ptrs[], vx_enum memory_type) {
@@ -24,9 +34,9 @@ PUBLIC vx_image VX_API_CALL vxCreateImageFromHandle(vx_context context, vx_df_im
         status = VX_ERROR_INVALID_PARAMETERS;
     vx_reference made = error_of(context, status);
     if (status == VX_SUCCESS)
-        made = create_image(context, (struct _vx_image){.width = addrs[0].dim_x,
-                                                        .height = addrs[0].dim_y,
-                                                        .format = color});
+        made = create_readable(context, (struct _vx_image){.width = addrs[0].dim_x,
+                                                           .height = addrs[0].dim_y,
+                                                           .format = color});
     if (made->type == VX_TYPE_IMAGE) {
         vx_image image = (vx_image)made;
         image->is_handle = true;

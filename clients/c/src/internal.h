@@ -8,109 +8,17 @@
 
 #include <VX/vx.h>
 #include <VX/vxu.h>
+#include <feqyldan/context.h>
+#include "connection.h"
 #include "functions.h"
 #include <pthread.h>
-#include <stdbool.h>
 #include <stdio.h>
-#include <sys/types.h>
 
 #define PUBLIC __attribute__((visibility("default")))
 #define REFERENCE(object) ((vx_reference)(object))
 
 enum { GREATEST_SIDE = 8192, STATUSES = -VX_STATUS_MIN, NODE_BYTES = 25, NO_SLOT = 255,
        SPARES = 2 };
-
-/* The op of a request, see docs/wire.md. */
-enum op {
-    OPEN_CONTEXT = 1,
-    CREATE_IMAGE = 3,
-    QUERY_IMAGE = 4,
-    WRITE_IMAGE = 5,
-    READ_IMAGE = 7,
-    SET_VALID = 9,
-    RELEASE = 10,
-    CREATE_LUT = 11,
-    CREATE_THRESHOLD = 12,
-    CREATE_CONVOLUTION = 13,
-    CREATE_DISTRIBUTION = 14,
-    READ_DISTRIBUTION = 15,
-    CREATE_MIN_MAX = 16,
-    READ_MIN_MAX = 17,
-    CREATE_GRAPH = 18,
-    CREATE_VIRTUAL_IMAGE = 19,
-    ADD_NODE = 20,
-    REMOVE_NODE = 21,
-    VERIFY_GRAPH = 22,
-    PROCESS_GRAPH = 23,
-    IMMEDIATE = 24,
-    CREATE_DELAY = 25,
-    AGE_DELAY = 26,
-    REGISTER_AUTO_AGING = 27
-};
-
-/* ---- connection.c: requests and replies ---- */
-
-/* A request that was sent, and its reply. The reply is refused with a code other than 0, or has a
-   body of exactly body_length + samples_length bytes. */
-struct request {
-    uint8_t op, code;
-    /* Whether the reply is there; whether a refusal adds no log entry. */
-    bool is_done, is_quiet;
-    uint8_t *body;
-    size_t body_length;
-    /* Where the samples at the end of the body go: rows of row bytes, each stride bytes after the
-       one before. Without gaps all are one row. A sample has unit bytes. The first turned bytes of
-       the samples are in this machine's byte order already. */
-    uint8_t *samples;
-    size_t samples_length, row, stride, unit, turned;
-    struct request *next;
-};
-
-struct connection {
-    /* Descriptors. A socket that was connected to is both in and out. A program that was started
-       has a socket as its output and a pipe as its input, of which this process has both ends. */
-    int in, out, pipe_reader;
-    /* The program that was started, and a file with its standard error; 0 and -1 for a socket that
-       was connected to. */
-    pid_t process;
-    int errors;
-    /* The longest wait for the server, in milliseconds; -1 for no limit. */
-    int timeout;
-    /* Whether nothing more is sent or read; and the reason, where it isn't the server's end: a
-       timeout, or that a fork made this process. */
-    bool has_ended, has_timed_out, is_inherited;
-    /* Requests without a reply, the oldest first. */
-    struct request *first, **last;
-    /* The reply that is being read: its head, and how many bytes of head and body are there. */
-    uint8_t head[8];
-    size_t head_count, body_count;
-    /* Bytes that were read, and which of them are still to be parsed. */
-    uint8_t chunk[65536];
-    size_t chunk_at, chunk_end;
-};
-
-bool connection_open(struct connection *connection, char *why, size_t size);
-void connection_close(struct connection *connection);
-/* Says in words why the connection has ended. */
-void connection_say_end(struct connection *connection, char *words, size_t size);
-/* Sends a request's frame; false where the server has ended. */
-bool connection_send(struct connection *connection, struct request *request, const uint8_t *body,
-                     size_t length);
-/* Sends the head of a frame and the beginning of its body. The caller sends more bytes by
-   connection_go_on. */
-bool connection_begin(struct connection *connection, struct request *request, const uint8_t *body,
-                      size_t length, size_t more);
-/* Sends more bytes of a body, which mustn't change before the reply is there. */
-bool connection_go_on(struct connection *connection, const uint8_t *bytes, size_t count);
-/* Waits for the reply; false where the server has ended. */
-bool connection_wait(struct connection *connection, struct request *request);
-
-/* ---- process.c: reaching a server ---- */
-
-bool reach_server(struct connection *connection, char *why, size_t size);
-void end_server(struct connection *connection);
-/* After a fork, in the child: leaves the server to the parent. */
-void leave_to_parent(struct connection *connection);
 
 /* ---- reference.c ---- */
 
@@ -166,12 +74,6 @@ bool is_copy(vx_enum usage, vx_enum memory);
 
 /* ---- context.c ---- */
 
-/* Memory for samples that are sent or read. */
-struct buffer {
-    uint8_t *bytes;
-    size_t capacity;
-};
-
 struct _vx_context {
     struct _vx_reference base;
     struct connection connection;
@@ -190,6 +92,8 @@ struct _vx_context {
     vx_enum border_policy;
     /* The name of the object for vxuMinMaxLoc's extremes; 0 before the first call. */
     vx_uint32 extremes;
+    /* The words of the last log entry. */
+    char fault[VX_MAX_LOG_MESSAGE_LEN];
     vx_log_callback_f callback;
     bool is_logging, is_in_callback;
     /* The thread that the callback runs in. */
@@ -316,6 +220,8 @@ void free_spares(vx_context context);
 /* Converts samples of unit bytes between the byte order of frames and this machine's. The places
    may be the same. */
 void turn_samples(uint8_t *to, const uint8_t *from, size_t bytes, size_t unit);
+/* Makes a buffer of zeros, or with NULL where there is no memory. */
+struct buffer make_buffer(size_t length);
 
 /* ---- view.c ---- */
 

@@ -14,14 +14,15 @@ static vx_reference entry_object(vx_reference reference) {
 
 static void tell_list(vx_reference reference, vx_status status, const char *words, va_list list) {
     vx_context context = reference->context;
-    if (context->callback == NULL || !context->is_logging || context->is_in_callback)
-        return;
-    char message[VX_MAX_LOG_MESSAGE_LEN];
-    vsnprintf(message, sizeof message, words, list);
     /* Calls of the callback add no entries: else it might call itself without end. */
+    if (context->is_in_callback)
+        return;
+    vsnprintf(context->fault, sizeof context->fault, words, list);
+    if (context->callback == NULL || !context->is_logging)
+        return;
     context->is_in_callback = true;
     context->caller = pthread_self();
-    context->callback(context, entry_object(reference), status, message);
+    context->callback(context, entry_object(reference), status, context->fault);
     context->is_in_callback = false;
 }
 
@@ -54,6 +55,15 @@ PUBLIC void VX_API_CALL vxAddLogEntry(vx_reference ref, vx_status status, const 
     tell_list(ref, status, message, list);
     va_end(list);
     leave(context, VX_SUCCESS);
+}
+
+PUBLIC vx_status VX_API_CALL feqyldanGetFault(vx_context context, vx_char *fault, vx_size size) {
+    if (look(context, VX_TYPE_CONTEXT) == NULL)
+        return VX_ERROR_INVALID_REFERENCE;
+    if (fault == NULL || size == 0)
+        return look_away(context, VX_ERROR_INVALID_PARAMETERS);
+    snprintf(fault, size, "%s", context->fault);
+    return look_away(context, VX_SUCCESS);
 }
 
 PUBLIC vx_status VX_API_CALL vxDirective(vx_reference reference, vx_enum directive) {

@@ -7,12 +7,10 @@
 #include <string.h>
 #include <sys/mman.h>
 
-/* DESCRIBED and WRITE_HEAD are the bytes before the samples in a reply and in a request. Samples
-   are converted and sent PIECE bytes at a time, so that the server reads one piece while the next
-   is converted. Buffers from LEAST_KEPT to GREATEST_KEPT bytes are kept. HUGE_PAGE is the size of
-   the processor's larger pages. LEAD is explained at lead_of. */
-enum { DESCRIBED = 5, WRITE_HEAD = 10, PIECE = 1 << 17, LEAST_KEPT = 1 << 16,
-       GREATEST_KEPT = 1 << 26, HUGE_PAGE = 1 << 21, LEAD = 16 };
+/* Samples are converted and sent PIECE bytes at a time, so that the server reads one piece while
+   the next is converted. Buffers from LEAST_KEPT to GREATEST_KEPT bytes are kept. HUGE_PAGE is the
+   size of the processor's larger pages. LEAD is explained at lead_of. */
+enum { PIECE = 1 << 17, LEAST_KEPT = 1 << 16, HUGE_PAGE = 1 << 21, LEAD = 16 };
 
 static vx_size samples_of(const struct _vx_image *image) {
     return (vx_size)image->width * image->height * sample_size(image->format);
@@ -20,9 +18,9 @@ static vx_size samples_of(const struct _vx_image *image) {
 
 /* ---- Buffers ---- */
 
-/* Makes a buffer of zeros, or with NULL where there is no memory. A large one is in huge pages, as
-   far as the system has them: such a buffer is filled and lent to the pipe in less time. */
-static struct buffer make_buffer(size_t length) {
+/* A large buffer is in huge pages, as far as the system has them: such a buffer is filled and lent
+   to the pipe in less time. */
+struct buffer make_buffer(size_t length) {
     size_t huge = (length + HUGE_PAGE / 2) / HUGE_PAGE * HUGE_PAGE;
     struct buffer made = {NULL, length > huge ? length : huge};
     void *bytes;

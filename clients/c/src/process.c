@@ -37,12 +37,10 @@ static bool no_server(char *why, size_t size, const char *what, const char *path
     return false;
 }
 
-/* Whether the program has more rights than its user, as a setuid program has. By the environment
-   the user could misuse them. */
-static bool is_privileged(void) { return getauxval(AT_SECURE) != 0; }
+/* By the environment the user could misuse the program's rights. */
+bool is_privileged(void) { return getauxval(AT_SECURE) != 0; }
 
-/* A variable of the environment; NULL where it is empty, and in a privileged program. */
-static const char *setting(const char *name) {
+const char *setting(const char *name) {
     const char *value = is_privileged() ? NULL : getenv(name);
     return value != NULL && *value != '\0' ? value : NULL;
 }
@@ -62,16 +60,20 @@ static double parse_number(const char *text, char **rest) {
     return number;
 }
 
-/* Sets how long to wait for the server to accept or send a byte. */
-static bool set_timeout(struct connection *connection, char *why, size_t size) {
-    const char *said = setting("FEQYLDAN_TIMEOUT");
+/* Sets how long to wait for the server to accept or send a byte: the given seconds, or for 0 those
+   of the environment. */
+static bool set_timeout(struct connection *connection, double given, char *why, size_t size) {
+    const char *said = given == 0 ? setting("FEQYLDAN_TIMEOUT") : NULL;
+    char *rest = "", number[32];
+    double seconds = said == NULL ? given : parse_number(said, &rest);
     connection->timeout = -1;
-    if (said == NULL)
+    connection->timeout_owner = said == NULL ? "the program" : "FEQYLDAN_TIMEOUT";
+    if (said == NULL && given == 0)
         return true;
-    char *rest;
-    double seconds = parse_number(said, &rest);
     if (*rest != '\0' || !(seconds >= 0.001 && seconds <= GREATEST_TIMEOUT)) {
-        snprintf(why, size, "FEQYLDAN_TIMEOUT is %s, and has to be 0.001 to %d seconds", said,
+        snprintf(number, sizeof number, "%g", given);
+        snprintf(why, size, "%s is %s, and has to be 0.001 to %d seconds",
+                 said == NULL ? "the timeout" : "FEQYLDAN_TIMEOUT", said == NULL ? number : said,
                  GREATEST_TIMEOUT);
         return false;
     }
@@ -192,9 +194,8 @@ static int spawn(const char *program, char **environment, struct ends theirs, pi
     return error;
 }
 
-/* Starts the program that is named, or else the first one that is found. */
-static int spawn_found(struct ends theirs, pid_t *process) {
-    const char *program = named_program();
+/* Starts a program, or for NULL the first one that is found. */
+static int spawn_found(const char *program, struct ends theirs, pid_t *process) {
     char **environment = copy_environment();
     if (environment == NULL)
         return ENOMEM;
@@ -240,14 +241,13 @@ static int make_ends(int ends[5]) {
     return error;
 }
 
-static bool start(struct connection *connection, char *why, size_t size) {
+static bool start(struct connection *connection, const char *named, char *why, size_t size) {
     int ends[5];
-    const char *named = named_program();
     const char *program = named != NULL ? named : "feqyldan or vx_main";
     int error = make_ends(ends);
     if (error != 0)
         return no_server(why, size, "start", program, error);
-    error = spawn_found((struct ends){ends[0], ends[3], ends[4]}, &connection->process);
+    error = spawn_found(named, (struct ends){ends[0], ends[3], ends[4]}, &connection->process);
     if (error != 0) {
         connection->process = 0;
         close_all(ends, 5);
@@ -267,11 +267,78 @@ static bool start(struct connection *connection, char *why, size_t size) {
     return true;
 }
 
-bool reach_server(struct connection *connection, char *why, size_t size) {
-    const char *path = setting("FEQYLDAN_SOCKET");
-    if (!set_timeout(connection, why, size))
+/* How a server is reached. FOUND: in this process if its library is found, else as a process. */
+enum way { FOUND, CORE, PROCESS, SOCKET };
+
+static const char *or_none(const char *text) { return text != NULL ? text : "not given"; }
+
+/* Checks that the arguments name at most one server, and what FEQYLDAN_SERVER and `server` say. */
+static bool check_server(const feqyldan_connection_t *given, char *why, size_t size) {
+    const char *server = given->server != NULL ? given->server : setting("FEQYLDAN_SERVER");
+    if ((given->program != NULL) + (given->socket != NULL) + (given->server != NULL) > 1) {
+        snprintf(why, size,
+                 "program is %s, socket is %s and server is %s: give at most one of them",
+                 or_none(given->program), or_none(given->socket), or_none(given->server));
         return false;
-    return path != NULL ? reach_socket(connection, path, why, size) : start(connection, why, size);
+    }
+    if (server == NULL || strcmp(server, "core") == 0 || strcmp(server, "process") == 0)
+        return true;
+    snprintf(why, size, "%s is %s, and has to be core or process",
+             given->server != NULL ? "server" : "FEQYLDAN_SERVER", server);
+    return false;
+}
+
+static enum way way_of(const char *server) {
+    return strcmp(server, "core") == 0 ? CORE : PROCESS;
+}
+
+/* The arguments decide before the environment. A program means a process, and so does a timeout:
+   only a process can be given up. */
+static enum way choose_way(const feqyldan_connection_t *given) {
+    if (given->server != NULL)
+        return way_of(given->server);
+    if (given->program != NULL)
+        return PROCESS;
+    if (given->socket != NULL || setting("FEQYLDAN_SOCKET") != NULL)
+        return SOCKET;
+    if (given->timeout != 0)
+        return PROCESS;
+    if (setting("FEQYLDAN_SERVER") != NULL)
+        return way_of(setting("FEQYLDAN_SERVER"));
+    if (setting("FEQYLDAN_CORE") != NULL)
+        return CORE;
+    bool needs_process =
+        setting("FEQYLDAN_PROGRAM") != NULL || setting("FEQYLDAN_TIMEOUT") != NULL;
+    return needs_process ? PROCESS : FOUND;
+}
+
+/* Opens the server in this process that was asked for. */
+static bool open_wanted_core(struct connection *connection, const feqyldan_connection_t *given,
+                             char *why, size_t size) {
+    if (connection->timeout < 0)
+        return find_core(&connection->core, why, size) && open_core(connection, why, size);
+    snprintf(why, size,
+             "%s is set, and a call of a server in this process can't be given up: unset it, or "
+             "set %s to process",
+             given->timeout != 0 ? "the timeout" : "FEQYLDAN_TIMEOUT",
+             given->server != NULL ? "server" : "FEQYLDAN_SERVER");
+    return false;
+}
+
+bool reach_server(struct connection *connection, const feqyldan_connection_t *given, char *why,
+                  size_t size) {
+    if (!check_server(given, why, size) || !set_timeout(connection, given->timeout, why, size))
+        return false;
+    enum way way = choose_way(given);
+    if (way == SOCKET)
+        return reach_socket(connection,
+                            given->socket != NULL ? given->socket : setting("FEQYLDAN_SOCKET"),
+                            why, size);
+    if (way == CORE)
+        return open_wanted_core(connection, given, why, size);
+    if (way == FOUND && find_core(&connection->core, why, size))
+        return open_core(connection, why, size);
+    return start(connection, given->program != NULL ? given->program : named_program(), why, size);
 }
 
 /* Reads until the server closes its output, or sends nothing for END_TIME. */
@@ -314,7 +381,7 @@ void end_server(struct connection *connection) {
         close(connection->out);
         connection->pipe_reader = connection->out = -1;
         /* One that didn't answer in time may not end in time either. */
-        if (connection->has_timed_out)
+        if (connection->has_timed_out || connection->is_cancelled)
             kill(connection->process, SIGKILL);
         drain(connection->in);
         await_process(connection->process);

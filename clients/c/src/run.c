@@ -211,13 +211,17 @@ PUBLIC vx_status VX_API_CALL vxProcessGraph(vx_graph graph) {
     return leave(context, end_run(graph, status));
 }
 
-/* Starts a graph on the server by its name, and doesn't wait for the end of the run. */
+/* Starts a graph on the server by its name, and doesn't wait for the end of the run. A server in
+   this process has run it when this returns. */
 static vx_status start(vx_graph graph, vx_uint32 name) {
     uint8_t body[4];
     vx_context context = graph->base.context;
     graph->run = (struct request){.op = PROCESS_GRAPH, .is_quiet = true};
     put32(body, name);
-    if (!connection_send(&context->connection, &graph->run, body, sizeof body))
+    let_look(context);
+    bool is_sent = connection_send(&context->connection, &graph->run, body, sizeof body);
+    end_look(context);
+    if (!is_sent)
         return await_reply(context, &graph->run, false);
     graph->is_scheduled = true;
     graph->state = VX_GRAPH_STATE_RUNNING;

@@ -214,9 +214,12 @@ static void use_without_standard_descriptors(void) {
 int main(void) {
     keep_pipes();
     leave_to_parents();
-    ask_while_waiting();
-    give_up(0);
-    give_up(1);
+    /* The driver has no process to stop where the server is in this one. */
+    if (getenv("SERVER_PROCESS") != NULL) {
+        ask_while_waiting();
+        give_up(0);
+        give_up(1);
+    }
     limit_images();
     use_few_descriptors();
     use_without_standard_descriptors();

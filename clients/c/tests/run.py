@@ -1,8 +1,10 @@
 """
 The tests of the C library: builds its sources and each test program under the sanitizers of
 addresses and of undefined behaviour, and runs them on the program that FEQYLDAN_PROGRAM names.
+Tests in both ways run them also with the server in the process, by the library next to the program.
 """
 
+import functools
 import os
 import re
 import shutil
@@ -13,6 +15,7 @@ import sys
 import tempfile
 import time
 import unittest
+import unittest.mock
 
 sys.dont_write_bytecode = True
 HERE = os.path.dirname(os.path.abspath(__file__))
@@ -23,7 +26,8 @@ import feqyldan as vx  # noqa: E402
 FLAGS = ["-std=c11", "-Wall", "-Wextra", "-Werror", "-pedantic", "-D_POSIX_C_SOURCE=200809L", "-g",
          "-O1", "-fno-sanitize-recover=all", "-pthread", "-I" + os.path.join(HOME, "include")]
 MEMORY, THREADS = "address,undefined", "thread"
-HEADERS = tuple(f"VX/{name}" for name in sorted(os.listdir(os.path.join(HOME, "include/VX"))))
+HEADERS = (*(f"VX/{name}" for name in sorted(os.listdir(os.path.join(HOME, "include/VX")))),
+           "feqyldan/context.h")
 STANDARDS = (("cc", "c89"), ("cc", "c99"), ("cc", "c11"), ("cc", "c2x"), ("c++", "c++98"),
              ("c++", "c++11"), ("c++", "c++17"), ("c++", "c++23"))
 ALL_WARNINGS = ["-Wall", "-Wextra", "-Werror", "-pedantic", "-Wconversion", "-Wsign-conversion",
@@ -32,6 +36,8 @@ WIDTH, HEIGHT = 13, 9
 # What the library calls that may find no memory.
 TAKING_MEMORY = ("malloc", "calloc", "realloc", "posix_memalign",
                  "posix_spawn_file_actions_adddup2")
+# Has the linker take the server's library, which the C library uses if it is there.
+LINKED = ("-Wl,-u,feqyldan_open",)
 # Longer than any test program runs, in seconds.
 PATIENCE = 300
 folder = ""
@@ -64,6 +70,10 @@ int main(void) {
     vx_context context = vxCreateContext();
     return context != NULL && vxReleaseContext(&context) == VX_SUCCESS ? 0 : 1;
 }
+"""
+
+MARKING = """#include <stdio.h>
+__attribute__((constructor)) static void leave_mark(void) { fclose(fopen("MARK", "w")); }
 """
 
 
@@ -118,6 +128,28 @@ def run(name, *flags, sanitizer=MEMORY, env=None):
                            env={**os.environ, **(env or {})}, check=False)
     assert ended.returncode == 0, f"{name}: status {ended.returncode}\n{ended.stderr}"
     return ended.stdout
+
+
+def core(ending):
+    """The path of the server as a library, which tools/build puts next to the program."""
+    home, name = os.path.split(os.environ["FEQYLDAN_PROGRAM"])
+    kind = name.partition("-")[2] or "default"
+    return os.path.join(os.path.abspath(home), f"libfeqyldan-core-{kind}.{ending}")
+
+
+def in_both_ways(test):
+    """Runs a test with a server's process, and again with the server in the process."""
+    @functools.wraps(test)
+    def run_twice(self):
+        for way in ("process", "core"):
+            environment = {"FEQYLDAN_SERVER": way}
+            if way == "core":
+                environment["FEQYLDAN_CORE"] = core("so")
+            with self.subTest(server=way), unittest.mock.patch.dict(os.environ, environment):
+                if way == "core":
+                    self.need_core()
+                test(self)
+    return run_twice
 
 
 def has_thread_sanitizer():
@@ -222,21 +254,40 @@ def expected_lines(context):
 
 class Library(unittest.TestCase):
 
+    @in_both_ways
     def test_a_graph_with_a_fault_is_refused_and_the_log_names_the_node(self):
         run("verdicts")
 
+    @in_both_ways
     def test_a_node_reads_the_scalar_that_another_one_wrote_in_the_same_run(self):
         run("links")
 
+    @in_both_ways
     def test_random_graphs_in_parts_give_what_their_nodes_give_one_after_another(self):
         run("parts")
 
+    @in_both_ways
     def test_programs_in_the_style_of_published_ones(self):
         run("published")
 
     def test_other_processes_descriptors_and_time(self):
         run("processes", env=self.server_to_kill())
 
+    def test_other_processes_and_descriptors_with_the_server_in_the_process(self):
+        self.need_core()
+        for sanitizer in (MEMORY, *[THREADS] * has_thread_sanitizer()):
+            run("processes", sanitizer=sanitizer,
+                env={"FEQYLDAN_SERVER": "core", "FEQYLDAN_CORE": core("so")})
+
+    def test_a_connection_by_arguments_faults_and_cancelled_calls(self):
+        run("context", env=self.server_to_kill())
+
+    def test_arguments_and_cancelled_calls_with_the_server_in_the_process(self):
+        self.need_core()
+        for sanitizer in (MEMORY, *[THREADS] * has_thread_sanitizer()):
+            run("context", sanitizer=sanitizer, env={"FEQYLDAN_CORE": core("so")})
+
+    @in_both_ways
     def test_valgrind_is_silent(self):
         if shutil.which("valgrind") is None:
             self.skipTest("valgrind isn't installed")
@@ -250,14 +301,138 @@ class Library(unittest.TestCase):
                             "--child-silent-after-fork=yes", program], timeout=PATIENCE,
                            stderr=subprocess.DEVNULL, check=True)
 
+    def need_core(self):
+        for path in (core("a"), core("so")):
+            if not os.path.exists(path):
+                self.skipTest(f"there is no {path}")
+
+    def test_the_server_in_this_process(self):
+        self.need_core()
+        program = os.path.join(folder, "core-checked")
+        cc(MEMORY, os.path.join(HERE, "core.c"), core("a"), "-o", program)
+        subprocess.run([program], timeout=PATIENCE, check=True)
+
+    def test_valgrind_is_silent_on_the_server_in_this_process(self):
+        if shutil.which("valgrind") is None:
+            self.skipTest("valgrind isn't installed")
+        self.need_core()
+        program = os.path.join(folder, "core-plain")
+        subprocess.run(["cc", "-std=c11", "-g", "-I" + os.path.join(HOME, "include"),
+                        os.path.join(HERE, "core.c"), core("so"), "-o", program], check=True)
+        loaded = os.path.join(folder, "libfeqyldan-core.so.0")
+        shutil.copy(core("so"), loaded)
+        subprocess.run(["valgrind", "-q", "--error-exitcode=9", "--leak-check=full", program],
+                       timeout=PATIENCE, check=True,
+                       env={**os.environ, "LD_LIBRARY_PATH": folder})
+
+    def test_random_streams_through_the_server_in_this_process(self):
+        self.need_core()
+        program = os.path.join(folder, "stream")
+        cc(MEMORY, os.path.join(HERE, "stream.c"), core("a"), "-o", program)
+        check = os.path.join(HOME, "..", "..", "tools", "check_streams")
+        subprocess.run([check, program, "--seconds", "20"], stdout=subprocess.DEVNULL,
+                       timeout=PATIENCE, check=True)
+
+    def context_of(self, program, **variables):
+        """The standard error of a program that makes a context; empty where it has one."""
+        environment = {name: value for name, value in os.environ.items()
+                       if not name.startswith("FEQYLDAN_")}
+        return subprocess.run([program], env={**environment, **variables}, timeout=PATIENCE,
+                              stdout=subprocess.PIPE, stderr=subprocess.PIPE, text=True,
+                              check=False).stderr
+
+    def test_a_program_has_its_server_linked_in(self):
+        self.need_core()
+        program = build("queries", *LINKED, core("a"))
+        self.assertEqual(self.context_of(program, PATH="/nowhere"), "")
+        self.assertIn("can't start feqyldan or vx_main",
+                      self.context_of(program, PATH="/nowhere", FEQYLDAN_SERVER="process"))
+
+    def test_the_server_is_found_next_to_the_shared_library(self):
+        self.need_core()
+        home, program = os.path.join(folder, "next"), os.path.join(folder, "queries-shared")
+        shutil.copytree(os.path.join(installed(), "lib"), home, symlinks=True)
+        subprocess.run(["cc", "-std=c11", "-I" + os.path.join(HOME, "include"),
+                        os.path.join(HERE, "queries.c"), "-L" + home, "-lfeqyldan", "-o", program],
+                       check=True)
+        wanted = {"PATH": "/nowhere", "LD_LIBRARY_PATH": home}
+        self.assertIn("can't start feqyldan or vx_main", self.context_of(program, **wanted))
+        shutil.copy(core("so"), os.path.join(home, "libfeqyldan-core.so.0"))
+        self.assertEqual(self.context_of(program, **wanted), "")
+
+    def test_settings_choose_the_server(self):
+        self.need_core()
+        program, has_core = build("queries"), {"FEQYLDAN_CORE": core("so"), "PATH": "/nowhere"}
+        self.assertEqual(self.context_of(program, **has_core), "")
+        self.assertEqual(self.context_of(program, **has_core, FEQYLDAN_SERVER="core"), "")
+        for variables, words in (
+                ({"FEQYLDAN_SERVER": "process"}, "can't start feqyldan or vx_main: No such file"),
+                ({"FEQYLDAN_SERVER": "thread"},
+                 "FEQYLDAN_SERVER is thread, and has to be core or process"),
+                ({"FEQYLDAN_SOCKET": "/nowhere"}, "can't connect to /nowhere: No such file"),
+                ({"FEQYLDAN_QUOTA": "0"},
+                 "FEQYLDAN_QUOTA is 0, and has to be 1 to 1099511627776 bytes"),
+                ({"FEQYLDAN_QUOTA": "1k"}, "FEQYLDAN_QUOTA is 1k, and has to be"),
+                ({"FEQYLDAN_TIMEOUT": "2"}, "FEQYLDAN_TIMEOUT is set, and a call of a server in "
+                 "this process can't be given up: unset it, or set FEQYLDAN_SERVER to process"),
+                ({"FEQYLDAN_CORE": "/nowhere"}, "can't load the server: /nowhere: cannot open"),
+                ({"FEQYLDAN_CORE": "libm.so.6"}, "libm.so.6 isn't a server: it lacks calls")):
+            with self.subTest(variables):
+                self.assertIn("vxCreateContext: " + words,
+                              self.context_of(program, **{**has_core, **variables}))
+
+    def test_a_timeout_needs_a_process_where_the_server_is_linked_in(self):
+        self.need_core()
+        program = build("queries", *LINKED, core("a"))
+        self.assertIn("can't start feqyldan or vx_main",
+                      self.context_of(program, PATH="/nowhere", FEQYLDAN_TIMEOUT="2"))
+
+    def test_with_the_server_in_the_process_nothing_is_started(self):
+        self.need_core()
+        if shutil.which("strace") is None:
+            self.skipTest("strace isn't installed")
+        subprocess.run(["make", "-s", "-C", HOME, "out/edges"], check=True)
+        calls = os.path.join(folder, "calls")
+        for way, started in (("core", 1), ("process", 2)):
+            subprocess.run(["strace", "-f", "-e", "trace=execve", "-o", calls,
+                            os.path.join(HOME, "out/edges")], check=True,
+                           stdout=subprocess.DEVNULL, env={
+                               **os.environ, "FEQYLDAN_SERVER": way, "FEQYLDAN_CORE": core("so")})
+            with open(calls, encoding="utf-8") as text:
+                self.assertEqual(text.read().count("execve("), started, way)
+
+    def test_the_server_as_a_library_has_no_data_that_threads_or_handles_share(self):
+        self.need_core()
+        listed = subprocess.run(["nm", core("a")], capture_output=True, text=True, check=True)
+        # Of `nothing` only the address is used, as that of an empty block.
+        self.assertEqual([line.split()[2] for line in listed.stdout.splitlines()
+                          if len(line.split()) == 3 and line.split()[1] in "bBdDC"], ["nothing"])
+        sections = subprocess.run(["readelf", "-lW", core("so")], capture_output=True, text=True,
+                                  check=True).stdout
+        self.assertIn("LOAD", sections)
+        self.assertNotIn("TLS", sections)
+
+    def test_the_server_as_a_library_exports_its_three_calls(self):
+        self.need_core()
+        wanted = ["feqyldan_close", "feqyldan_open", "feqyldan_serve"]
+        for words in (["-g", "--defined-only", core("a")],
+                      ["-D", "--defined-only", core("so")]):
+            said = subprocess.run(["nm", *words], capture_output=True, text=True, check=True)
+            names = [line.split()[2] for line in said.stdout.splitlines() if line[:1].isalnum()
+                     and len(line.split()) == 3]
+            self.assertEqual(sorted(names), wanted)
+
+    @in_both_ways
     def test_functions_at_once_and_in_graphs_give_what_they_give_in_python(self):
         with vx.Server() as server, server.context() as context:
             expected = expected_lines(context)
         self.assertEqual(run("functions").splitlines(), expected)
 
+    @in_both_ways
     def test_programs_of_the_standards_introduction(self):
         run("programs")
 
+    @in_both_ways
     def test_random_sequences_of_wrong_calls_end_in_a_status(self):
         counts = dict(map(int, line.split()) for line in run("wrong").splitlines())
         self.assertEqual(sum(counts.values()), 1000 * 25)
@@ -265,27 +440,41 @@ class Library(unittest.TestCase):
         self.assertGreater(counts[0], 1000)
         self.assertGreater(len(counts), 10)
 
+    @in_both_ways
     def test_each_mistake_has_its_status(self):
         run("statuses")
 
+    @in_both_ways
     def test_each_object_tells_its_attributes(self):
         run("queries")
 
+    @in_both_ways
     def test_parameters_of_nodes_and_of_graphs(self):
         run("parameters")
 
     def test_each_allocation_refused_is_told_and_the_call_can_be_made_anew(self):
         run("refused", *(f"-Wl,--wrap={name}" for name in TAKING_MEMORY))
 
+    def test_each_allocation_refused_to_the_server_in_the_process_is_told(self):
+        self.need_core()
+        run("refused", *(f"-Wl,--wrap={name}" for name in TAKING_MEMORY), *LINKED, core("a"),
+            env={"FEQYLDAN_SERVER": "core"})
+
+    @in_both_ways
     def test_several_threads_use_one_context(self):
         run("threads")
 
+    @in_both_ways
     def test_the_sanitizer_of_threads_is_silent(self):
         if not has_thread_sanitizer():
             self.skipTest("cc has no sanitizer of threads")
         for name in ("threads", "programs", "published", "links"):
             run(name, sanitizer=THREADS)
-        for name in ("ended", "processes"):
+
+    def test_the_sanitizer_of_threads_is_silent_on_a_servers_process(self):
+        if not has_thread_sanitizer():
+            self.skipTest("cc has no sanitizer of threads")
+        for name in ("ended", "processes", "context"):
             run(name, sanitizer=THREADS, env=self.server_to_kill())
 
     def server_after(self, line):
@@ -401,6 +590,14 @@ class Library(unittest.TestCase):
         self.assertEqual(ended.returncode, 3)
         self.assertIn("allow more time by FEQYLDAN_TIMEOUT", ended.stderr)
 
+    def make_marking_library(self, home, mark):
+        """Makes libraries that leave a mark when they are loaded."""
+        source, library = os.path.join(home, "core.c"), os.path.join(home, "core.so")
+        with open(source, "w", encoding="utf-8") as text:
+            text.write(MARKING.replace("MARK", mark))
+        subprocess.run(["cc", "-shared", "-fPIC", source, "-o", library], check=True)
+        shutil.copy(library, os.path.join(home, "libfeqyldan-core.so.0"))
+
     def test_a_setuid_program_starts_nothing_that_its_user_names(self):
         home = tempfile.mkdtemp()
         self.addCleanup(shutil.rmtree, home)
@@ -415,9 +612,12 @@ class Library(unittest.TestCase):
             with open(os.path.join(home, name), "w", encoding="utf-8") as script:
                 script.write(f"#!/bin/sh\necho started > {mark}\n")
             os.chmod(script.name, 0o755)
+        self.make_marking_library(home, mark)
         for mode, starts in ((0o755, True), (0o4755, False)):
             os.chmod(program, mode)
-            for words in ({}, {"FEQYLDAN_PROGRAM": os.path.join(home, "feqyldan")}):
+            for words in ({}, {"FEQYLDAN_PROGRAM": os.path.join(home, "feqyldan")},
+                          {"FEQYLDAN_CORE": os.path.join(home, "core.so")},
+                          {"LD_LIBRARY_PATH": home}):
                 subprocess.run([program], env={"PATH": home, **words}, user=65534,
                                stderr=subprocess.DEVNULL, check=False)
                 self.assertEqual(os.path.exists(mark), starts)
@@ -464,6 +664,7 @@ class Library(unittest.TestCase):
         for name in ("programs", "published"):
             run(name, env={"FEQYLDAN_SOCKET": path, "FEQYLDAN_PROGRAM": "/nowhere"})
 
+    @in_both_ways
     def test_installed_it_serves_c_and_cxx(self):
         prefix = installed()
         source = os.path.join(folder, "first.cc")
@@ -483,7 +684,7 @@ class Library(unittest.TestCase):
         declared = []
         for header in HEADERS:
             with open(os.path.join(HOME, "include", header), encoding="utf-8") as text:
-                declared += re.findall(r"VX_API_CALL\s+(vx\w+)\(", text.read())
+                declared += re.findall(r"VX_API_CALL\s+(\w+)\(", text.read())
         self.assertGreater(len(declared), 250)
         for name, words in (("libfeqyldan.so", ["-D"]), ("libfeqyldan.a", ["-g"])):
             listed = subprocess.run(["nm", *words, "--defined-only",
@@ -508,6 +709,7 @@ class Library(unittest.TestCase):
                                 "-I" + os.path.join(HOME, "include"), "-"],
                                input=text, text=True, check=True)
 
+    @in_both_ways
     def test_a_program_of_each_standard_compiles_without_a_warning_and_runs(self):
         library, program = os.path.join(installed(), "lib"), os.path.join(folder, "sample")
         for compiler, standard in STANDARDS:
@@ -537,6 +739,7 @@ class Library(unittest.TestCase):
         self.assertEqual(said.stdout, "0\n")
         self.assertIn("Too many open files", said.stderr)
 
+    @in_both_ways
     def test_the_example_writes_a_picture(self):
         subprocess.run(["make", "-s", "-C", HOME, "out/edges"], check=True)
         text = subprocess.run([os.path.join(HOME, "out/edges")], stdout=subprocess.PIPE,

@@ -1,0 +1,157 @@
+/* Fields of JSON objects, with faults in words. */
+#include "internal.h"
+
+#include <string.h>
+
+enum { GREATEST_DEPTH = 100 };
+
+static GQuark domain(void) { return g_quark_from_static_string("feqyldan-graph-file"); }
+
+gboolean refuse(GError **error, const char *format, ...) {
+    va_list list;
+    va_start(list, format);
+    g_propagate_error(error, g_error_new_valist(domain(), 0, format, list));
+    va_end(list);
+    return FALSE;
+}
+
+gboolean refuse_call(vx_context context, GError **error) {
+    char fault[VX_MAX_LOG_MESSAGE_LEN] = "the context was released";
+    feqyldanGetFault(context, fault, sizeof fault);
+    return refuse(error, "%s", fault);
+}
+
+/* Checks that the text isn't nested too deeply for the parser, which calls itself for each list and
+   object. Refuses comments and quotes that only this parser allows, in which brackets could hide. */
+static gboolean check_depth(const char *text, gsize length, GError **error) {
+    guint depth = 0;
+    gboolean is_text = FALSE;
+    for (gsize at = 0; at < length; at++) {
+        if (text[at] == '"')
+            is_text = !is_text;
+        else if (is_text)
+            at += text[at] == '\\';
+        else if (text[at] == '/' || text[at] == '#' || text[at] == '\'')
+            return refuse(error, "the file isn't JSON: it has %c outside a text", text[at]);
+        else if (text[at] == ']' || text[at] == '}')
+            depth -= depth > 0;
+        else if ((text[at] == '[' || text[at] == '{') && ++depth > GREATEST_DEPTH)
+            return refuse(error, "its lists and objects are nested too deeply");
+    }
+    return TRUE;
+}
+
+/* The keys that the parser has found, each with the address of its object; and the first one that
+   an object has twice, or NULL. */
+typedef struct {
+    GHashTable *found;
+    char *repeated;
+} Keys;
+
+static void note_key(JsonParser *parser, JsonObject *object, const char *key, Keys *keys) {
+    (void)parser;
+    if (!g_hash_table_add(keys->found, g_strdup_printf("%p %s", (void *)object, key)) &&
+        keys->repeated == NULL)
+        keys->repeated = g_strdup(key);
+}
+
+gboolean parse_json(JsonParser *parser, const char *text, gsize length, GError **error) {
+    if (!check_depth(text, length, error))
+        return FALSE;
+    Keys keys = {g_hash_table_new_full(g_str_hash, g_str_equal, g_free, NULL), NULL};
+    gulong noting = g_signal_connect(parser, "object-member", G_CALLBACK(note_key), &keys);
+    gboolean is_json = json_parser_load_from_data(parser, text, (gssize)length, error);
+    g_signal_handler_disconnect(parser, noting);
+    g_hash_table_unref(keys.found);
+    g_autofree char *repeated = keys.repeated;
+    if (!is_json)
+        g_prefix_error(error, "the file isn't JSON: ");
+    else if (repeated != NULL)
+        return refuse(error, "an object of the file has the key '%s' twice: leave one out",
+                      repeated);
+    return is_json;
+}
+
+char *words_of(JsonNode *value) {
+    if (JSON_NODE_HOLDS_VALUE(value) && json_node_get_value_type(value) == G_TYPE_STRING)
+        return g_strdup_printf("'%s'", json_node_get_string(value));
+    return json_to_string(value, FALSE);
+}
+
+gboolean has(JsonObject *told, const char *field) {
+    return json_object_has_member(told, field) && !json_object_get_null_member(told, field);
+}
+
+static JsonNode *read_field(JsonObject *told, const char *field, GError **error) {
+    JsonNode *value = json_object_get_member(told, field);
+    if (value == NULL)
+        refuse(error, "'%s' is missing", field);
+    return value;
+}
+
+/* Gives a number of a range. */
+static gboolean number_of(JsonNode *value, const char *what, gint64 least, gint64 greatest,
+                          gint64 *number, GError **error) {
+    gboolean is_number =
+        JSON_NODE_HOLDS_VALUE(value) && json_node_get_value_type(value) == G_TYPE_INT64;
+    *number = is_number ? json_node_get_int(value) : least;
+    if (is_number && *number >= least && *number <= greatest)
+        return TRUE;
+    g_autofree char *words = words_of(value);
+    return refuse(error,
+                  "%s must be a whole number from %" G_GINT64_FORMAT " to %" G_GINT64_FORMAT
+                  ", not %s",
+                  what, least, greatest, words);
+}
+
+gboolean read_number(JsonObject *told, const char *field, gint64 least, gint64 greatest,
+                     gint64 *number, GError **error) {
+    JsonNode *value = read_field(told, field, error);
+    return value != NULL && number_of(value, field, least, greatest, number, error);
+}
+
+gboolean read_option(JsonObject *told, const char *field, gint64 least, gint64 greatest,
+                     gint64 *number, GError **error) {
+    return !has(told, field) || read_number(told, field, least, greatest, number, error);
+}
+
+JsonArray *read_list(JsonObject *told, const char *field, GError **error) {
+    JsonNode *value = read_field(told, field, error);
+    if (value != NULL && JSON_NODE_HOLDS_ARRAY(value))
+        return json_node_get_array(value);
+    if (value != NULL)
+        refuse(error, "'%s' must be a list", field);
+    return NULL;
+}
+
+gboolean read_item(JsonArray *list, guint at, const char *what, gint64 least, gint64 greatest,
+                   gint64 *number, GError **error) {
+    return number_of(json_array_get_element(list, at), what, least, greatest, number, error);
+}
+
+const char *read_text(JsonObject *told, const char *field, GError **error) {
+    JsonNode *value = read_field(told, field, error);
+    if (value == NULL)
+        return NULL;
+    if (JSON_NODE_HOLDS_VALUE(value) && json_node_get_value_type(value) == G_TYPE_STRING)
+        return json_node_get_string(value);
+    g_autofree char *words = words_of(value);
+    refuse(error, "'%s' must be a text, not %s", field, words);
+    return NULL;
+}
+
+gboolean read_choice(JsonObject *told, const char *field, const char *what,
+                     const char *const *choices, guint *choice, GError **error) {
+    JsonNode *value = read_field(told, field, error);
+    if (value == NULL)
+        return FALSE;
+    g_autofree char *words = words_of(value);
+    for (guint at = 0; choices[at] != NULL; at++) {
+        *choice = at;
+        if (words[0] == '\'' && strlen(words) == strlen(choices[at]) + 2 &&
+            strncmp(words + 1, choices[at], strlen(choices[at])) == 0)
+            return TRUE;
+    }
+    g_autofree char *all = g_strjoinv(", ", (char **)choices);
+    return refuse(error, "%s must be one of %s, not %s", what, all, words);
+}

@@ -1,0 +1,90 @@
+/*
+ * The proved server as a library, in the process of its caller.
+ *
+ *     struct feqyldan_handle handle = {0};
+ *     feqyldan_open(268435456, 268435456, &handle);
+ *     feqyldan_serve(&handle, front, front_length, back, back_length, reply, reply_length,
+ *                    &length);
+ *     feqyldan_close(&handle);
+ *
+ * Link libfeqyldan-core.a, or load libfeqyldan-core.so. docs/wire.md describes the frames.
+ *
+ * What a caller owes:
+ *
+ * - A handle begins as {0}. It isn't copied or moved while it is open, and its fields are neither
+ *   read nor written.
+ * - One call at a time for a handle. A handle may pass from one thread to another under a lock; no
+ *   proof covers this (docs/DECISIONS.md). Different handles may be used by different threads at
+ *   the same time.
+ * - No call from a signal handler, and none for a handle that was open when this process was
+ *   forked. In the child of a process with threads malloc has to work, as glibc's does.
+ * - No pointer is null, not even for a length of 0. `reply`, `*length` and `*handle` overlap
+ *   neither each other nor `front` or `back`, and nobody writes these during the call.
+ * - malloc, realloc and free are of one allocator, and align blocks as the C standard says.
+ * - The processor has SSE4.2 (x86-64-v2), and AVX2 (x86-64-v3) for libfeqyldan-core-x86-64-v3.
+ *
+ * Otherwise the behaviour is undefined. A fault of the program can spoil the server's memory, as
+ * with any library.
+ */
+#ifndef FEQYLDAN_CORE_H
+#define FEQYLDAN_CORE_H
+
+#include <stdbool.h>
+#include <stddef.h>
+#include <stdint.h>
+
+#ifdef __cplusplus
+extern "C" {
+#endif
+
+/* A server, or none. */
+struct feqyldan_handle {
+    void *at;
+    bool held;
+};
+
+/* The results of the calls. */
+enum {
+    FEQYLDAN_OK = 0,
+    FEQYLDAN_TOO_SHORT = 1,    /* the reply doesn't fit the buffer; no client's state has changed */
+    FEQYLDAN_NOT_A_FRAME = 2,  /* the bytes aren't exactly one request frame; nothing has changed */
+    FEQYLDAN_NOT_OPEN = 3,     /* the handle holds no server */
+    FEQYLDAN_ALREADY_OPEN = 4, /* the handle holds a server already; nothing has changed */
+    FEQYLDAN_BAD_LIMITS = 5,   /* a limit isn't 1 to 2^40 */
+    FEQYLDAN_NO_MEMORY = 6     /* no memory for a server */
+};
+
+/* The least length of a reply buffer, in bytes. Every reply fits, except those of ReadImage,
+ * ReadImagePgm and ReadDistribution. */
+enum { FEQYLDAN_LEAST_BUFFER = 28 };
+
+/* Makes a server without contexts. `quota` is the limit on the sample bytes of a client's images,
+ * `work` the limit on those of a graph's virtual images: 1 to 2^40 bytes each. Returns OK,
+ * ALREADY_OPEN, BAD_LIMITS or NO_MEMORY. The handle changes only at OK. */
+uint32_t feqyldan_open(uint64_t quota, uint64_t work, struct feqyldan_handle *handle);
+
+/* Answers one request frame: the bytes of `front`, then those of `back`. The first four bytes,
+ * which are the frame's length, are in `front`. Writes the reply frame to the front of `reply`;
+ * the bytes after it may have any values. Returns
+ *
+ * - OK: *length is the length of the reply frame in bytes. The reply's code says whether the
+ *   request was refused, or lost because memory was refused (NO_MEMORY)
+ * - TOO_SHORT: `reply` is too short, and *length is the length that it has to have at least. The
+ *   states of all clients are unchanged, so the frame can be sent again. A buffer of less than
+ *   FEQYLDAN_LEAST_BUFFER bytes is always too short
+ * - NOT_A_FRAME: the bytes aren't exactly one frame, or `front` has less than four bytes. *length
+ *   is 0
+ * - NOT_OPEN: *length is 0 */
+uint32_t feqyldan_serve(struct feqyldan_handle *handle, const uint8_t *front, size_t front_length,
+                        const uint8_t *back, size_t back_length, uint8_t *reply,
+                        size_t reply_length, size_t *length);
+
+/* Frees the server and all that its clients made. The handle may be opened again. Does nothing if
+ * the handle holds no server. */
+void feqyldan_close(struct feqyldan_handle *handle);
+
+#ifdef __cplusplus
+}
+#endif
+
+#endif

@@ -1,0 +1,149 @@
+/* A connection by arguments, the words of a failure, and calls that another thread cancels. */
+#define _XOPEN_SOURCE 700
+#include "server.h"
+
+#include <feqyldan/context.h>
+#include <pthread.h>
+#include <time.h>
+
+enum { SIDE = 2000 };
+
+static char fault[VX_MAX_LOG_MESSAGE_LEN];
+
+static double now(void) {
+    struct timespec time;
+    clock_gettime(CLOCK_MONOTONIC, &time);
+    return (double)time.tv_sec + (double)time.tv_nsec / 1e9;
+}
+
+static vx_context make_context(const feqyldan_connection_t *connection) {
+    return feqyldanCreateContext(connection, fault, sizeof fault);
+}
+
+static void expect_refusal(feqyldan_connection_t connection, const char *words) {
+    CHECK(make_context(&connection) == NULL);
+    if (strstr(fault, words) == NULL)
+        fprintf(stderr, "%s\n", fault);
+    CHECK(strstr(fault, words) != NULL);
+}
+
+/* The arguments decide even where the environment names another server. */
+static void test_arguments(void) {
+    const char *program = getenv("FEQYLDAN_PROGRAM");
+    char kept[4096];
+    snprintf(kept, sizeof kept, "%s", program);
+    CHECK(setenv("FEQYLDAN_PROGRAM", "/nowhere", 1) == 0);
+    CHECK(setenv("FEQYLDAN_SOCKET", "/no/socket", 1) == 0);
+    expect_refusal((feqyldan_connection_t){.program = "/no/program"}, "can't start /no/program: ");
+    expect_refusal((feqyldan_connection_t){.socket = "/other"}, "can't connect to /other: ");
+    expect_refusal((feqyldan_connection_t){.socket = "/a", .program = "/b"},
+                   "program is /b, socket is /a and server is not given: give at most one of them");
+    expect_refusal((feqyldan_connection_t){.program = "/b", .server = "core"},
+                   "program is /b, socket is not given and server is core: give at most one");
+    expect_refusal((feqyldan_connection_t){.server = "thread"},
+                   "server is thread, and has to be core or process");
+    expect_refusal((feqyldan_connection_t){.server = "process"}, "can't start /nowhere: ");
+    expect_refusal((feqyldan_connection_t){.program = kept, .timeout = -1},
+                   "the timeout is -1, and has to be 0.001 to 1000000 seconds");
+    CHECK(make_context(NULL) == NULL && strstr(fault, "/no/socket") != NULL);
+    CHECK(feqyldanCreateContext(NULL, NULL, 0) == NULL);
+    vx_context context = make_context(&(feqyldan_connection_t){.program = kept, .timeout = 5});
+    CHECK(context != NULL);
+    EXPECT(VX_SUCCESS, vxReleaseContext(&context));
+    CHECK(unsetenv("FEQYLDAN_SOCKET") == 0 && setenv("FEQYLDAN_PROGRAM", kept, 1) == 0);
+}
+
+/* The words of a refusal are there without a log callback. */
+static void test_faults(void) {
+    vx_context context = make_context(NULL);
+    EXPECT(VX_SUCCESS, feqyldanGetFault(context, fault, sizeof fault));
+    CHECK(fault[0] == '\0');
+    EXPECT(VX_ERROR_INVALID_PARAMETERS, feqyldanGetFault(context, NULL, 9));
+    vx_image deep = vxCreateImage(context, 3, 3, VX_DF_IMAGE_S16);
+    CHECK(vxuNot(context, deep, deep) != VX_SUCCESS);
+    EXPECT(VX_SUCCESS, feqyldanGetFault(context, fault, sizeof fault));
+    CHECK(strstr(fault, "vxuNot: ") == fault);
+    EXPECT(VX_SUCCESS, feqyldanGetFault(context, fault, 4));
+    CHECK(strcmp(fault, "vxu") == 0);
+    EXPECT(VX_SUCCESS, vxReleaseContext(&context));
+    EXPECT(VX_ERROR_INVALID_REFERENCE, feqyldanGetFault(context, fault, sizeof fault));
+    EXPECT(VX_ERROR_INVALID_REFERENCE, feqyldanCancel(context));
+}
+
+static void *cancel_soon(void *context) {
+    const struct timespec pause = {.tv_nsec = 200000000};
+    nanosleep(&pause, NULL);
+    EXPECT(VX_SUCCESS, feqyldanCancel(context));
+    return NULL;
+}
+
+/* Calls that wait for a stopped server: one for its reply, and one for it to read. */
+static void test_cancel(vx_bool writes) {
+    static vx_uint8 samples[SIDE * SIDE];
+    vx_context context = make_context(&(feqyldan_connection_t){.timeout = 60});
+    vx_image in = vxCreateImage(context, SIDE, SIDE, VX_DF_IMAGE_U8);
+    vx_image out = vxCreateImage(context, SIDE, SIDE, VX_DF_IMAGE_U8);
+    CHECK(kill(server_process(), SIGSTOP) == 0);
+    pthread_t other;
+    CHECK(pthread_create(&other, NULL, cancel_soon, context) == 0);
+    double start = now();
+    EXPECT(VX_FAILURE, writes ? copy_whole(in, SIDE, SIDE, 1, samples, VX_WRITE_ONLY)
+                              : vxuNot(context, in, out));
+    CHECK(now() - start < 5);
+    CHECK(pthread_join(other, NULL) == 0);
+    EXPECT(VX_SUCCESS, feqyldanGetFault(context, fault, sizeof fault));
+    CHECK(strcmp(fault, "the program cancelled the context: make a new one") == 0);
+    EXPECT(VX_FAILURE, vxuNot(context, in, out));
+    EXPECT(VX_SUCCESS, vxReleaseContext(&context));
+    CHECK(now() - start < 5);
+}
+
+/* The arguments decide between the server in this process and another one. */
+static void test_arguments_with_core(void) {
+    CHECK(setenv("FEQYLDAN_PROGRAM", "/nowhere", 1) == 0);
+    CHECK(setenv("FEQYLDAN_SERVER", "core", 1) == 0);
+    expect_refusal((feqyldan_connection_t){.program = "/no/program"}, "can't start /no/program: ");
+    expect_refusal((feqyldan_connection_t){.server = "process"}, "can't start /nowhere: ");
+    expect_refusal((feqyldan_connection_t){.timeout = 5}, "can't start /nowhere: ");
+    expect_refusal((feqyldan_connection_t){.socket = "/other"}, "can't connect to /other: ");
+    CHECK(unsetenv("FEQYLDAN_SERVER") == 0 && setenv("FEQYLDAN_SOCKET", "/no/socket", 1) == 0);
+    expect_refusal((feqyldan_connection_t){.server = "core", .timeout = 5},
+                   "the timeout is set, and a call of a server in this process can't be given up: "
+                   "unset it, or set server to process");
+    CHECK(setenv("FEQYLDAN_TIMEOUT", "5", 1) == 0);
+    expect_refusal((feqyldan_connection_t){.server = "core"}, "FEQYLDAN_TIMEOUT is set, and a ");
+    CHECK(unsetenv("FEQYLDAN_TIMEOUT") == 0);
+}
+
+/* A cancel lets the call of a server in this process end with its own status. Later ones fail. */
+static void test_cancel_with_core(void) {
+    vx_context context = make_context(&(feqyldan_connection_t){.server = "core"});
+    CHECK(context != NULL);
+    vx_image in = vxCreateImage(context, SIDE, SIDE, VX_DF_IMAGE_U8);
+    vx_image out = vxCreateImage(context, SIDE, SIDE, VX_DF_IMAGE_U8);
+    pthread_t other;
+    CHECK(pthread_create(&other, NULL, cancel_soon, context) == 0);
+    double start = now();
+    vx_status status = VX_SUCCESS;
+    while (status == VX_SUCCESS && now() - start < 10)
+        status = vxuNot(context, in, out);
+    EXPECT(VX_FAILURE, status);
+    CHECK(pthread_join(other, NULL) == 0);
+    EXPECT(VX_SUCCESS, feqyldanGetFault(context, fault, sizeof fault));
+    CHECK(strcmp(fault, "the program cancelled the context: make a new one") == 0);
+    EXPECT(VX_FAILURE, vxuNot(context, in, out));
+    EXPECT(VX_SUCCESS, vxReleaseContext(&context));
+}
+
+int main(void) {
+    if (getenv("FEQYLDAN_CORE") != NULL) {
+        test_arguments_with_core();
+        test_cancel_with_core();
+        return 0;
+    }
+    test_arguments();
+    test_faults();
+    test_cancel(vx_false_e);
+    test_cancel(vx_true_e);
+    return 0;
+}

@@ -1,0 +1,111 @@
+/* The server in this process: each call of feqyldan/core.h, and each of its results. */
+#include <feqyldan/core.h>
+
+#include "testing.h"
+
+enum { WIDTH = 40, HEIGHT = 30, SAMPLES = WIDTH * HEIGHT, QUOTA = 1 << 20, REPLY = 13 + SAMPLES };
+
+static struct feqyldan_handle handle;
+static uint8_t reply[REPLY];
+static size_t length;
+
+static uint32_t serve(const uint8_t *front, size_t front_length, const uint8_t *back,
+                      size_t back_length, size_t room) {
+    return feqyldan_serve(&handle, front, front_length, back, back_length, reply, room, &length);
+}
+
+/* Sends a whole frame, and checks that the reply has this code and this many bytes. */
+static void expect(const uint8_t *frame, size_t count, uint8_t code, size_t bytes) {
+    CHECK(serve(frame, count, frame, 0, REPLY) == FEQYLDAN_OK);
+    CHECK(length == bytes && reply[7] == code);
+}
+
+static const uint8_t OPEN[] = {0, 0, 0, 3, 0, 7, 1};
+static const uint8_t CREATE[] = {0, 0, 0, 8, 0, 7, 3, 1, 0, WIDTH, 0, HEIGHT};
+static const uint8_t READ[] = {0, 0, 0, 8, 0, 7, 7, 0, 0, 0, 2, 255};
+static const uint8_t RELEASE[] = {0, 0, 0, 3, 0, 7, 2};
+static const uint8_t NOT[] = {0, 0, 0, 28, 0, 7, 24, 4,   0, 0, 0, 0, 0, 0, 0, 1,
+                              255, 0, 0, 0, 0, 255, 0, 0, 0, 2, 255, 0, 0, 0, 0, 255};
+
+static void limits(void) {
+    CHECK(serve(OPEN, sizeof OPEN, OPEN, 0, REPLY) == FEQYLDAN_NOT_OPEN && length == 0);
+    CHECK(feqyldan_open(0, QUOTA, &handle) == FEQYLDAN_BAD_LIMITS && !handle.held);
+    CHECK(feqyldan_open(QUOTA, (1ull << 40) + 1, &handle) == FEQYLDAN_BAD_LIMITS);
+    CHECK(feqyldan_open(QUOTA, QUOTA, &handle) == FEQYLDAN_OK && handle.held);
+    CHECK(feqyldan_open(QUOTA, QUOTA, &handle) == FEQYLDAN_ALREADY_OPEN);
+}
+
+/* Bytes that aren't exactly one frame, whose length has to be in the first part. */
+static void frames(void) {
+    uint8_t longer[sizeof OPEN + 1] = {0};
+    memcpy(longer, OPEN, sizeof OPEN);
+    CHECK(serve(longer, sizeof longer, OPEN, 0, REPLY) == FEQYLDAN_NOT_A_FRAME && length == 0);
+    CHECK(serve(OPEN, sizeof OPEN - 1, OPEN, 0, REPLY) == FEQYLDAN_NOT_A_FRAME);
+    CHECK(serve(OPEN, 0, OPEN, sizeof OPEN, REPLY) == FEQYLDAN_NOT_A_FRAME);
+    CHECK(serve(OPEN, 3, OPEN + 3, sizeof OPEN - 3, REPLY) == FEQYLDAN_NOT_A_FRAME);
+    CHECK(serve(OPEN, 0, OPEN, 0, REPLY) == FEQYLDAN_NOT_A_FRAME);
+    longer[3] = 2;
+    CHECK(serve(longer, 6, OPEN, 0, REPLY) == FEQYLDAN_NOT_A_FRAME);
+}
+
+/* The context isn't opened while the buffer is too short for any reply. */
+static void short_buffer(void) {
+    CHECK(serve(OPEN, sizeof OPEN, OPEN, 0, FEQYLDAN_LEAST_BUFFER - 1) == FEQYLDAN_TOO_SHORT);
+    CHECK(length == FEQYLDAN_LEAST_BUFFER);
+    CHECK(serve(OPEN, 4, OPEN + 4, sizeof OPEN - 4, FEQYLDAN_LEAST_BUFFER) == FEQYLDAN_OK);
+    CHECK(length == 8 && reply[7] == 0);
+    expect(OPEN, sizeof OPEN, 7, 8);
+}
+
+/* A picture in, Not, and a picture out. */
+static void pictures(void) {
+    uint8_t *head = malloc(17), *samples = malloc(SAMPLES);
+    CHECK(head != NULL && samples != NULL);
+    const uint8_t before[] = {0, 0, (SAMPLES + 13) >> 8, (SAMPLES + 13) & 255, 0, 7, 5, 0, 0, 0, 1,
+                              255, 1, 0, WIDTH, 0, HEIGHT};
+    memcpy(head, before, sizeof before);
+    for (int i = 0; i < SAMPLES; i++)
+        samples[i] = (uint8_t)(i * 7);
+    expect(CREATE, sizeof CREATE, 0, 12);
+    expect(CREATE, sizeof CREATE, 0, 12);
+    CHECK(serve(head, sizeof before, samples, SAMPLES, REPLY) == FEQYLDAN_OK);
+    CHECK(length == 8 && reply[7] == 0);
+    expect(NOT, sizeof NOT, 0, 8);
+    for (size_t room = FEQYLDAN_LEAST_BUFFER; room < REPLY; room += 97)
+        CHECK(serve(READ, sizeof READ, READ, 0, room) == FEQYLDAN_TOO_SHORT && length == REPLY);
+    CHECK(serve(READ, sizeof READ, READ, 0, REPLY - 1) == FEQYLDAN_TOO_SHORT && length == REPLY);
+    expect(READ, sizeof READ, 0, REPLY);
+    for (int i = 0; i < SAMPLES; i++)
+        CHECK(reply[13 + i] == 255 - samples[i]);
+    free(head);
+    free(samples);
+}
+
+/* Another handle has a server of its own. */
+static void others(void) {
+    struct feqyldan_handle other = {0};
+    CHECK(feqyldan_open(QUOTA, QUOTA, &other) == FEQYLDAN_OK);
+    CHECK(feqyldan_serve(&other, READ, sizeof READ, READ, 0, reply, REPLY, &length) == FEQYLDAN_OK);
+    CHECK(length == 8 && reply[7] != 0);
+    feqyldan_close(&other);
+    expect(READ, sizeof READ, 0, REPLY);
+}
+
+int main(void) {
+    feqyldan_close(&handle);
+    limits();
+    frames();
+    short_buffer();
+    pictures();
+    others();
+    expect(RELEASE, sizeof RELEASE, 0, 8);
+    expect(OPEN, sizeof OPEN, 0, 8);
+    expect(CREATE, sizeof CREATE, 0, 12);
+    feqyldan_close(&handle);
+    feqyldan_close(&handle);
+    CHECK(serve(OPEN, sizeof OPEN, OPEN, 0, REPLY) == FEQYLDAN_NOT_OPEN && length == 0);
+    CHECK(feqyldan_open(QUOTA, QUOTA, &handle) == FEQYLDAN_OK);
+    expect(CREATE, sizeof CREATE, 3, 8);
+    feqyldan_close(&handle);
+    return 0;
+}
