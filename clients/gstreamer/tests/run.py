@@ -1,0 +1,599 @@
+"""
+The tests of the GStreamer element, headless: appsrc and appsink, and a registry of their own. The
+Python package computes what the element's frames have to be. Needs GStreamer's and json-glib's
+headers, GStreamer's Python package and NumPy (CONTRIBUTING.md names Debian's packages).
+"""
+
+import os
+import shutil
+import signal
+import subprocess
+import sys
+import tempfile
+import time
+import unittest
+from unittest import mock
+
+sys.dont_write_bytecode = True
+HERE = os.path.dirname(os.path.abspath(__file__))
+HOME = os.path.join(HERE, "..")
+ROOT = os.path.realpath(os.path.join(HOME, "../.."))
+sys.path[:0] = [os.path.join(HOME, "../c/tests"), os.path.join(HOME, "../python/tests")]
+import graph_files as c_tests  # noqa: E402
+import test_graph_files  # noqa: E402
+from program import VARIABLES, ProgramTest, vx  # noqa: E402
+from feqyldan.functions import FUNCTIONS  # noqa: E402
+
+try:
+    import gi
+    gi.require_version("Gst", "1.0")
+    gi.require_version("GstVideo", "1.0")
+    import numpy
+    from gi.repository import Gst, GstVideo
+except (ImportError, ValueError):
+    Gst = None
+
+PLUGIN = os.path.join(HOME, "out", "libgstfeqyldan.so")
+# Seconds that a frame or a message may take on a busy machine.
+PATIENCE = 60
+TYPES = {"GRAY8": "uint8", "GRAY16_LE": "uint16"}
+folder = ""
+
+
+def setUpModule():
+    global folder
+    if Gst is None or not all(map(c_tests.flags_of, ("gstreamer-video-1.0", "json-glib-1.0"))):
+        raise unittest.SkipTest("GStreamer's headers, its Python package or NumPy aren't installed")
+    subprocess.run(["make", "-s", "-C", HOME], check=True)
+    folder = tempfile.mkdtemp()
+    os.environ.update(GST_REGISTRY=os.path.join(folder, "registry"), G_DEBUG="fatal-criticals",
+                      GST_PLUGIN_PATH=os.path.dirname(PLUGIN))
+    Gst.init(None)
+
+
+def tearDownModule():
+    shutil.rmtree(folder)
+
+
+def caps(fmt, width, height):
+    return f"video/x-raw,format={fmt},width={width},height={height},framerate=30/1"
+
+
+def frames_of(count, width, height, kind="uint8"):
+    chance = numpy.random.default_rng(width * 1000 + height)
+    return [chance.integers(0, numpy.iinfo(kind).max, (height, width), kind, endpoint=True)
+            for _ in range(count)]
+
+
+class Line:
+    """A pipeline of an appsrc, the element and an appsink."""
+
+    def __init__(self, element, width, height, fmt="GRAY8", after=""):
+        self.count, self.fmt = 0, fmt
+        self.pipeline = Gst.parse_launch(
+            f"appsrc name=in format=time caps={caps(fmt, width, height)} ! feqyldan name=t "
+            f"{element} ! {after} appsink name=out sync=false")
+        self.source, self.sink = map(self.pipeline.get_by_name, ("in", "out"))
+        self.pipeline.set_state(Gst.State.PLAYING)
+
+    def __enter__(self):
+        return self
+
+    def __exit__(self, *_):
+        self.pipeline.set_state(Gst.State.NULL)
+
+    def push(self, frame, stride=None, offset=0):
+        """Pushes a frame; with a stride, its layout is in a GstVideoMeta."""
+        height, width = frame.shape
+        row = width * frame.itemsize
+        step = (row + 3) // 4 * 4 if stride is None else stride
+        content = numpy.full(offset + step * height, 0xAA, "uint8")
+        for y in range(height):
+            start = offset + y * step
+            content[start:start + row] = frame[y].view("uint8")
+        buffer = Gst.Buffer.new_wrapped(content.tobytes())
+        buffer.pts, buffer.duration = self.count * Gst.SECOND // 30, Gst.SECOND // 30
+        self.count += 1
+        if stride is not None:
+            GstVideo.buffer_add_video_meta_full(
+                buffer, 0, GstVideo.VideoFormat.from_string(self.fmt), width, height, 1,
+                [offset, 0, 0, 0], [step, 0, 0, 0])
+        return self.source.emit("push-buffer", buffer)
+
+    def resize(self, width, height):
+        self.source.set_property("caps", Gst.Caps.from_string(caps(self.fmt, width, height)))
+
+    def end(self):
+        self.source.emit("end-of-stream")
+
+    def sample(self, seconds=PATIENCE):
+        return self.sink.emit("try-pull-sample", seconds * Gst.SECOND)
+
+    def pull(self, seconds=PATIENCE):
+        """The next frame, an array; None where none comes."""
+        sample = self.sample(seconds)
+        if sample is None:
+            return None
+        info = GstVideo.VideoInfo.new_from_caps(sample.get_caps())
+        meta = GstVideo.buffer_get_video_meta(sample.get_buffer())
+        place = meta or info
+        kind = numpy.dtype(TYPES[info.finfo.name])
+        with sample.get_buffer().map(Gst.MapFlags.READ) as mapped:
+            return numpy.ndarray((info.height, info.width), kind, mapped.data, place.offset[0],
+                                 (place.stride[0], kind.itemsize)).copy()
+
+    def pull_all(self):
+        self.end()
+        found = []
+        while (frame := self.pull()) is not None:
+            found.append(frame)
+        return found
+
+    def messages(self, kind, seconds=0):
+        """The messages of a kind from the element, after waiting for the first of them."""
+        bus, found = self.pipeline.get_bus(), []
+        while True:
+            message = bus.timed_pop_filtered(
+                0 if found else int(seconds * Gst.SECOND), kind)
+            if message is None:
+                return found
+            if message.src.name == "t":
+                found.append(message)
+
+    def error(self):
+        """The words of the element's error; there is only one."""
+        message, = self.messages(Gst.MessageType.ERROR, PATIENCE)
+        return message.parse_error()[0].message
+
+
+class ElementTest(test_graph_files.FolderTest, ProgramTest):
+
+    def setUp(self):
+        super().setUp()
+        self.others = []
+        self.others = self.servers()
+
+    def servers(self):
+        """The numbers of the servers that this process started for elements."""
+        run = subprocess.run(["ps", "--ppid", str(os.getpid()), "-o", "pid=,args="], check=True,
+                             stdout=subprocess.PIPE, text=True)
+        return [int(line.split()[0]) for line in run.stdout.splitlines()
+                if "serve" in line and int(line.split()[0]) not in self.others]
+
+    def same(self, found, wanted):
+        self.assertEqual(len(found), len(wanted))
+        for number, (one, other) in enumerate(zip(found, wanted)):
+            numpy.testing.assert_array_equal(one, other, f"frame {number}")
+
+    def save(self, name, make, width, height):
+        """Saves the graph that make(context, width, height) gives; returns its path."""
+        with self.server.context() as context:
+            graph, camera = make(context, width, height)
+            graph.save(self.path(name), inputs=[camera])
+        return self.path(name)
+
+    def in_python(self, path, frames, output):
+        """The frames that the package computes, as GStreamer has them."""
+        with self.server.context() as context:
+            loaded = context.load_graph(path)
+            (camera,), found = loaded.inputs.values(), []
+            for frame in frames:
+                camera.write(frame.astype(c_tests.TYPES[camera.fmt]))
+                loaded.graph.process()
+                out = loaded.outputs[output].read().copy()
+                found.append(out if out.dtype == "uint8" else out.clip(0).astype("uint16"))
+            return found
+
+    def run_line(self, element, frames, fmt="GRAY8"):
+        height, width = frames[0].shape
+        with Line(element, width, height, fmt) as line:
+            for frame in frames:
+                line.push(frame)
+            return line.pull_all()
+
+
+def six(context, width, height):
+    """A graph of six nodes, and its input."""
+    camera, marks = (context.image(vx.U8, width, height, name=name) for name in ("camera", "marks"))
+    graph = context.graph()
+    a, b, c, d, e = (graph.virtual_image(vx.U8) for _ in range(5))
+    graph.median3x3(camera, a, border=vx.REPLICATE)
+    graph.gaussian3x3(a, b, border=vx.REPLICATE)
+    graph.absdiff(a, b, c)
+    graph.threshold(c, context.threshold(vx.U8, above=24), d)
+    graph.erode3x3(d, e, border=vx.REPLICATE)
+    graph.dilate3x3(e, marks, border=vx.REPLICATE)
+    return graph, camera
+
+
+def measured(context, width, height):
+    graph, camera = six(context, width, height)
+    marks = next(call.operands[2] for call in graph._calls.values() if call.name == "dilate3x3")
+    graph.min_max_loc(camera, context.min_max(name="extremes"))
+    graph.histogram(marks, context.distribution(2, name="counts"))
+    return graph, camera
+
+
+def motion(context, width, height):
+    camera, moved = (context.image(vx.U8, width, height, name=name) for name in ("camera", "moved"))
+    smooth, graph = context.delay(camera, 2, name="smooth"), context.graph()
+    difference = graph.virtual_image(vx.U8)
+    graph.gaussian3x3(camera, smooth[0], border=vx.REPLICATE)
+    graph.absdiff(smooth[0], smooth[-1], difference)
+    graph.threshold(difference, context.threshold(vx.U8, above=24), moved)
+    graph.register_auto_aging(smooth)
+    return graph, camera
+
+
+def copied(fmt):
+    def graph(context, width, height):
+        camera, out = (context.image(fmt, width, height, name=name) for name in ("camera", "out"))
+        graph = context.graph()
+        graph.max(camera, camera, out)
+        return graph, camera
+    return graph
+
+
+class Frames(ElementTest):
+
+    def test_each_function(self):
+        """One graph file for all widths, since nothing in it is of one size."""
+        for function in FUNCTIONS:
+            for width, height in ((1, 1), (3, 5), (33, 7), (321, 11)):
+                def make(context, width, height):
+                    return c_tests.graph_of(context, function, width, height)
+                small = self.save("a.json", make, 16, 12)
+                path = self.save("b.json", make, width, height)
+                frames = frames_of(2, width, height)
+                with self.server.context() as context:
+                    outputs = [name for name, thing in context.load_graph(path).outputs.items()
+                               if getattr(thing, "fmt", vx.U32) != vx.U32]
+                for output in outputs:
+                    with self.subTest(function=function, size=(width, height), output=output):
+                        self.same(self.run_line(f"graph={small} output={output}", frames),
+                                  self.in_python(path, frames, output))
+
+    def test_the_packages_own_graph_file(self):
+        """All kinds of objects, delays and sums, of one size; each output in turn."""
+        with self.server.context() as context:
+            graph, camera = test_graph_files.station(context)
+            graph.save(self.path("a.json"), inputs=[camera])
+        frames = [numpy.array(frame, "uint8") for frame in test_graph_files.pictures(5)]
+        for output in ("marks", "down", "edges", "product", "sums"):
+            with self.subTest(output):
+                self.same(self.run_line(f"graph={self.path('a.json')} output={output}", frames),
+                          self.in_python(self.path("a.json"), frames, output)[1:])
+
+    def test_strides_and_offsets(self):
+        for fmt, graph, kind in (("GRAY8", vx.U8, "uint8"), ("GRAY16_LE", vx.S16, "uint16")):
+            path = self.save("a.json", copied(graph), 61, 50)
+            frames = [frame >> 1 for frame in frames_of(3, 61, 50, kind)]
+            with Line(f"graph={path}", 61, 50, fmt) as line:
+                for frame, stride, offset in zip(frames, (128, 256, 130), (64, 2, 0)):
+                    line.push(frame, stride, offset)
+                self.same(line.pull_all(), frames)
+
+    def test_sixteen_bits(self):
+        path, frames = self.save("a.json", copied(vx.S16), 50, 40), frames_of(3, 50, 40, "uint16")
+        for rule, wanted in (("clamp", [frame.clip(None, 32767) for frame in frames]),
+                             ("halve", [frame & 0xFFFE for frame in frames]), ("wrap", frames)):
+            with self.subTest(rule):
+                self.same(self.run_line(f"graph={path} gray16={rule}", frames, "GRAY16_LE"), wanted)
+
+    def test_the_first_pipeline_of_the_document(self):
+        """It writes the samples that `python3 -m feqyldan run` writes for that frame."""
+        with open(os.path.join(ROOT, "docs/gstreamer.md"), encoding="utf-8") as file:
+            shown = file.read().split("    gst-launch-1.0 ")[1].split("\n\n")[0]
+        self.assertIn("location=edges.png", shown)
+        there = shown.replace("edges.png", self.path("edges.png"))
+        head = shown.split("feqyldan")[0].replace("\\\n", "")
+        for line in (there, f"{head} pngenc ! filesink location={self.path('in.png')}"):
+            subprocess.run(f"gst-launch-1.0 -q {line}", shell=True, check=True, timeout=PATIENCE,
+                           cwd=ROOT)
+        subprocess.run([sys.executable, "-m", "feqyldan", "run", f"{ROOT}/examples/edges.json",
+                        "--in", "in.png", "--out", "out"], check=True, cwd=self.folder,
+                       env={**os.environ, **VARIABLES, "PYTHONPATH": test_graph_files.PACKAGE})
+        with self.server.context() as context:
+            shown, wanted = (context.load(self.path(name)).read()
+                             for name in ("edges.png", "out/in.png"))
+        numpy.testing.assert_array_equal(shown, wanted)
+        self.assertEqual(set(numpy.unique(shown)), {0, 255})
+
+    def test_the_example_prints_its_messages(self):
+        run = subprocess.run([sys.executable, f"{ROOT}/examples/messages.py"], check=True,
+                             stdout=subprocess.PIPE, text=True, timeout=PATIENCE)
+        self.assertRegex(run.stdout, r"^1 \d+ samples changed\n(\d \d+ samples changed\n){8}$")
+
+
+class Results(ElementTest):
+
+    def test_messages_and_meta(self):
+        path = self.save("a.json", measured, 50, 40)
+        frames = [numpy.zeros((40, 50), "uint8") for _ in range(2)]
+        frames[1][10, 20] = 200
+        for after in ("", "videoconvert ! video/x-raw,format=GRAY8 ! "):
+            with Line(f"graph={path} output=-", 50, 40, after=after) as line:
+                for frame in frames:
+                    line.push(frame)
+                samples = [line.sample() for _ in frames]
+                last = line.messages(Gst.MessageType.ELEMENT, PATIENCE)[-1].get_structure()
+            self.assertEqual((last.get_name(), last.get_uint64("frame")[1],
+                              last.get_uint64("timestamp")[1]), ("feqyldan", 1, Gst.SECOND // 30))
+            self.assertEqual(list(last.get_value("counts")), [2000, 0])
+            found = last.get_value("extremes")
+            self.assertEqual([found.get_value(name) for name in (
+                "min", "max", "min-count", "max-count", "max-x", "max-y")],
+                [0, 200, 1999, 1, 20, 10])
+            buffer = samples[1].get_buffer()
+            structure = buffer.get_custom_meta("GstFeqyldanMeta").get_structure()
+            self.assertIn("200", structure.to_string())
+            self.assertTrue(structure.has_field("results"))
+
+    def test_a_graph_without_an_image_passes_the_frame(self):
+        def make(context, width, height):
+            camera, graph = context.image(vx.U8, width, height), context.graph()
+            graph.histogram(camera, context.distribution(256, name="counts"))
+            return graph, camera
+        path, frames = self.save("a.json", make, 9, 9), frames_of(3, 20, 10)
+        self.same(self.run_line(f"graph={path}", frames), frames)
+
+
+class Faults(ElementTest):
+
+    def write(self, name, nodes, **images):
+        image = {"kind": "image", "format": "U8", "width": 9, "height": 9}
+        return self.put(name, {"feqyldan": 1, "nodes": nodes,
+                               "objects": {key: {**image, **more} for key, more in images.items()}})
+
+    def test_each_is_one_error(self):
+        path = self.save("a.json", six, 320, 240)
+        moving = self.save("m.json", motion, 320, 240)
+        none = {"function": "not_", "input": "a", "output": "zz"}
+        missing = self.write("b.json", [none], a={"input": True}, m={})
+        cycle = self.write("c.json", [
+            {"function": "and_", "in1": "a", "in2": "m", "output": "b"},
+            {"function": "not_", "input": "b", "output": "m"}], a={"input": True}, b={}, m={})
+        deep = self.write("d.json", [{"function": "integral_image", "input": "a", "output": "m"}],
+                          a={"input": True}, m={"format": "U32"})
+        sobel = self.write("s.json", [
+            {"function": "sobel3x3", "input": "a", "output_x": "m", "output_y": "n"}],
+            a={"input": True}, m={"format": "S16"}, n={"format": "S16"})
+        both = self.write("e.json", [{"function": "and_", "in1": "a", "in2": "b", "output": "m"}],
+                          a={"input": True}, b={"input": True}, m={})
+        for element, words in (
+                ("", "the property graph isn't set"), ("graph=/none.json", "/none.json: "),
+                (f"graph={missing} output=-", f"{missing}: node 1: there is no object 'zz'"),
+                (f"graph={cycle} output=m", f"{cycle}: "), (f"graph={deep}", '"m" is U32'),
+                (f"graph={sobel}", "writes the images m, n: choose one by output="),
+                (f"graph={both}", "it has 2 images with"),
+                (f"graph={path} output=camera", "writes the images marks: choose"),
+                (f"graph={path} server=/none", "can't start /none: No such file"),
+                (f"graph={path} server=/bin/false", "the server has ended"),
+                (f"graph={path} server=/bin/cat timeout=0.0001", "the timeout is 0.0001"),
+                (f"graph={moving} servers=2", "servers is 2, and a graph with delays or sums")):
+            with self.subTest(words), Line(element, 320, 240) as line:
+                line.push(numpy.zeros((240, 320), "uint8"))
+                self.assertIn(words, line.error())
+
+    def test_caps_that_the_graph_does_not_take(self):
+        image = {"kind": "image", "format": "U8", "width": 2, "height": 1}
+        path = self.put("a.json", {
+            "feqyldan": 1, "objects": {
+                "camera": {**image, "input": True}, "out": image,
+                "clean": {**image, "samples": "eJxjYAAAAAIAAQ=="}},
+            "nodes": [{"function": "and_", "in1": "camera", "in2": "clean", "output": "out"}]})
+        for fmt, width, words in (("GRAY8", 3, "takes GRAY8 of 2 by 1, and the frames are GRAY8 of "
+                                   "3 by 1"), ("GRAY16_LE", 2, "the frames are GRAY16_LE of 2"),
+                                  ("BGR", 2, "the frames are BGR of 2 by 1")):
+            with self.subTest(words), Line(f"graph={path}", width, 1, fmt) as line:
+                line.push(numpy.zeros((1, width), "uint8"))
+                self.assertIn(words, line.error())
+
+    def test_a_killed_server(self):
+        """No frame is lost or repeated, with one warning."""
+        path, frames = self.save("a.json", six, 320, 240), frames_of(8, 320, 240)
+        wanted = self.in_python(path, frames, "marks")
+        for servers in (1, 3):
+            with self.subTest(servers), Line(f"graph={path} servers={servers}", 320, 240) as line:
+                for frame in frames[:4]:
+                    line.push(frame)
+                found = [line.pull() for _ in range(5 - servers)]
+                os.kill(self.servers()[0], signal.SIGKILL)
+                for frame in frames[4:]:
+                    line.push(frame)
+                self.same(found + line.pull_all(), wanted)
+                warning, = line.messages(Gst.MessageType.WARNING, PATIENCE)
+                self.assertIn("the server has ended; starting a new server",
+                              warning.parse_warning()[0].message)
+
+    def test_a_server_that_is_late(self):
+        path, frames = self.save("a.json", six, 320, 240), frames_of(2, 320, 240)
+        with Line(f"graph={path} timeout=2", 320, 240) as line:
+            line.push(frames[0])
+            found = [line.pull()]
+            os.kill(self.servers()[0], signal.SIGSTOP)
+            line.push(frames[1])
+            self.same(found + line.pull_all(), self.in_python(path, frames, "marks"))
+            warning, = line.messages(Gst.MessageType.WARNING, PATIENCE)
+            self.assertIn("didn't answer within the 2 s that the program allows",
+                          warning.parse_warning()[0].message)
+
+    def test_a_stopped_server_ends_with_the_pipeline(self):
+        path, frame = self.save("a.json", six, 320, 240), frames_of(1, 320, 240)[0]
+        for servers in (1, 2):
+            with self.subTest(servers), Line(f"graph={path} servers={servers} timeout=60", 320,
+                                             240) as line:
+                for _ in range(servers):
+                    line.push(frame)
+                self.assertIsNotNone(line.pull())
+                stopped = self.servers()
+                for process in stopped:
+                    os.kill(process, signal.SIGSTOP)
+                for _ in range(servers):
+                    line.push(frame)
+                time.sleep(0.5)
+                start = time.monotonic()
+                line.pipeline.set_state(Gst.State.NULL)
+                self.assertLess(time.monotonic() - start, 1)
+                self.assertEqual(set(stopped) & set(self.servers()), set())
+                self.assertEqual(line.messages(Gst.MessageType.ERROR), [])
+
+
+class Streams(ElementTest):
+
+    def test_a_delay_begins_anew_after_a_flush(self):
+        path, frames = self.save("a.json", motion, 320, 240), frames_of(4, 320, 240)
+        wanted = self.in_python(path, frames, "moved")[1:]
+        with Line(f"graph={path}", 320, 240) as line:
+            for _ in range(2):
+                for frame in frames:
+                    line.push(frame)
+                self.same([line.pull() for _ in wanted], wanted)
+                self.assertIsNone(line.pull(0.1))
+                line.source.send_event(Gst.Event.new_flush_start())
+                line.source.send_event(Gst.Event.new_flush_stop(True))
+            self.assertEqual(line.messages(Gst.MessageType.WARNING), [])
+
+    def test_a_server_that_ended_before_a_flush(self):
+        path, frames = self.save("a.json", motion, 320, 240), frames_of(4, 320, 240)
+        with Line(f"graph={path}", 320, 240) as line:
+            line.push(frames[1])
+            line.push(frames[2])
+            self.assertIsNotNone(line.pull())
+            os.kill(self.servers()[0], signal.SIGKILL)
+            line.source.send_event(Gst.Event.new_flush_start())
+            line.source.send_event(Gst.Event.new_flush_stop(True))
+            for frame in frames:
+                line.push(frame)
+            self.same(line.pull_all(), self.in_python(path, frames, "moved")[1:])
+
+    def test_new_caps(self):
+        path = self.save("a.json", six, 16, 12)
+        sizes, wanted = ((320, 240), (131, 101), (320, 240)), []
+        for servers in (1, 3):
+            with self.subTest(servers), Line(f"graph={path} servers={servers}", 320, 240) as line:
+                wanted = []
+                for number, size in enumerate(sizes):
+                    frames = frames_of(4, *size)
+                    there = self.save(f"{number}.json", six, *size)
+                    wanted += self.in_python(there, frames, "marks")
+                    line.resize(*size)
+                    for frame in frames:
+                        line.push(frame)
+                self.same(line.pull_all(), wanted)
+
+    def test_several_servers(self):
+        """Each frame leaves once and in order, and all of them before the end of the stream."""
+        path, frames = self.save("a.json", six, 320, 240), frames_of(20, 320, 240)
+        wanted = self.in_python(path, frames, "marks")
+        for servers in (2, 3, 30):
+            with self.subTest(servers):
+                self.same(self.run_line(f"graph={path} servers={servers}", frames), wanted)
+
+    def test_the_server_in_the_process(self):
+        library = c_tests.run.core("so")
+        if not os.path.exists(library):
+            self.skipTest(f"there is no {library}")
+        path, frames = self.save("a.json", six, 320, 240), frames_of(8, 320, 240)
+        wanted = self.in_python(path, frames, "marks")
+        with mock.patch.dict(os.environ, FEQYLDAN_CORE=library, FEQYLDAN_PROGRAM="/nowhere"):
+            for servers in (1, 3):
+                with self.subTest(servers), Line(f"graph={path} server=core servers={servers}",
+                                                 320, 240) as line:
+                    for frame in frames:
+                        line.push(frame)
+                    found = [line.pull()]
+                    self.assertEqual(self.servers(), [])
+                    self.same(found + line.pull_all(), wanted)
+
+    def test_which_server_is_refused(self):
+        path = self.save("a.json", six, 320, 240)
+        with mock.patch.dict(os.environ, FEQYLDAN_CORE="/none", FEQYLDAN_PROGRAM="/nowhere"):
+            for words, fault in (
+                    ("server=core", "can't load the server: /none: cannot open"),
+                    ("server=core timeout=5", "the timeout is set, and a call of a server in this "
+                     "process can't be given up: unset it, or set server to process"),
+                    ("server=process", "can't start /nowhere: No such file"),
+                    ("", "can't start /nowhere: No such file")):
+                with self.subTest(words), Line(f"graph={path} {words}", 320, 240) as line:
+                    line.push(numpy.zeros((240, 320), "uint8"))
+                    self.assertIn(fault, line.error())
+
+    def test_a_seek(self):
+        path = self.save("a.json", six, 64, 48)
+        for servers in (1, 3):
+            line = Gst.parse_launch(
+                f"videotestsrc num-buffers=30 ! {caps('GRAY8', 64, 48)} ! feqyldan graph={path} "
+                f"servers={servers} ! appsink name=out sync=false")
+            line.set_state(Gst.State.PAUSED)
+            line.get_state(PATIENCE * Gst.SECOND)
+            line.seek_simple(Gst.Format.TIME, Gst.SeekFlags.FLUSH, Gst.SECOND // 3)
+            line.set_state(Gst.State.PLAYING)
+            pull = line.get_by_name("out").emit
+            times = []
+            while (sample := pull("try-pull-sample", PATIENCE * Gst.SECOND)) is not None:
+                times.append(sample.get_buffer().pts)
+            line.set_state(Gst.State.NULL)
+            self.assertEqual(times, sorted(set(times)))
+            self.assertGreaterEqual(times[0], Gst.SECOND // 3 - 10)
+
+    def test_the_latency_of_several_servers(self):
+        path = self.save("a.json", six, 64, 48)
+        for servers, frames in ((1, 0), (4, 3)):
+            line = Gst.parse_launch(
+                f"videotestsrc is-live=true ! {caps('GRAY8', 64, 48)} ! feqyldan name=t "
+                f"graph={path} servers={servers} ! fakesink")
+            line.set_state(Gst.State.PLAYING)
+            line.get_state(PATIENCE * Gst.SECOND)
+            query = Gst.Query.new_latency()
+            pads = [line.get_by_name("t").get_static_pad(name) for name in ("src", "sink")]
+            latencies = []
+            for ask in (pads[0].query, pads[1].peer_query):
+                self.assertTrue(ask(query))
+                latencies.append(query.parse_latency()[1])
+            line.set_state(Gst.State.NULL)
+            self.assertEqual(latencies[0] - latencies[1], frames * Gst.SECOND // 30)
+
+
+class Plugin(ElementTest):
+
+    def test_it_exports_the_entry_points_alone(self):
+        run = subprocess.run(["nm", "-D", "--defined-only", PLUGIN], check=True,
+                             stdout=subprocess.PIPE, text=True)
+        self.assertEqual([line.split()[-1] for line in run.stdout.splitlines()],
+                         ["gst_plugin_feqyldan_get_desc", "gst_plugin_feqyldan_register"])
+
+    def test_inspection_says_what_properties_are_for(self):
+        run = subprocess.run(["gst-inspect-1.0", "feqyldan"], check=True, stdout=subprocess.PIPE,
+                             text=True)
+        for name in ("graph", "output", "server", "timeout", "servers", "gray16"):
+            self.assertRegex(run.stdout, rf"\n  {name} +: \S+ \S+")
+
+    def harness(self, *flags):
+        """The path of the program with a GstHarness."""
+        path = os.path.join(folder, "harness")
+        subprocess.run(["cc", "-g", *flags, os.path.join(HERE, "harness.c"), "-o", path,
+                        *c_tests.flags_of("gstreamer-check-1.0")], check=True)
+        return path
+
+    def test_a_harness(self):
+        path = self.save("a.json", motion, 32, 24)
+        said = subprocess.run([self.harness(), f"feqyldan graph={path}"], check=True,
+                              stdout=subprocess.PIPE, text=True, timeout=PATIENCE).stdout
+        self.assertEqual(said.split(), ["none", "0", "0", "255", "255", "none", "0"])
+
+    def test_valgrind_is_silent(self):
+        if shutil.which("valgrind") is None:
+            self.skipTest("valgrind isn't installed")
+        path = self.save("a.json", motion, 32, 24)
+        run = subprocess.run(
+            ["valgrind", "-q", "--error-exitcode=9", "--leak-check=full",
+             "--errors-for-leak-kinds=definite", "--child-silent-after-fork=yes",
+             self.harness(), f"feqyldan graph={path}"],
+            env={**os.environ, "G_SLICE": "always-malloc", "ORC_CODE": "backup"}, check=False,
+            stdout=subprocess.DEVNULL, stderr=subprocess.PIPE, text=True, timeout=5 * PATIENCE)
+        self.assertEqual(run.returncode, 0, run.stderr[-3000:])
+
+
+if __name__ == "__main__":
+    unittest.main()
