@@ -44,6 +44,8 @@ Generator: feqyldan
 Root-Is-Purelib: true
 Tag: py3-none-any
 """
+# The ends of the names of the package's files: modules, and the page of the studio.
+ENDINGS = ".py", ".html", ".css", ".js", ".svg"
 COMMANDS = b"""\
 [console_scripts]
 feqyldan-broker = feqyldan.broker:main
@@ -109,7 +111,7 @@ def sources():
     found = {}
     for at, _, names in sorted(os.walk(os.path.join(HERE, "feqyldan"))):
         for name in sorted(names):
-            if name.endswith(".py") or name == "py.typed":
+            if name.endswith(ENDINGS) or name == "py.typed":
                 path = os.path.relpath(os.path.join(at, name), HERE)
                 found[path] = read(path)
     return found

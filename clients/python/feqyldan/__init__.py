@@ -25,7 +25,7 @@ from .errors import (
     ProgramNotFound, Refused, ServerEnded, TimedOut, UnexpectedReply, WrongPicture,
     WrongPictureFormat, WrongPictureSample, WrongPictureSize)
 from .functions import FUNCTIONS, REPLICATE, UNDEFINED, Border, Policy, constant
-from .graph_files import GraphFile, GraphFileError
+from .graph_files import GraphFile, GraphFileError, graph_text
 from .graphs import Graph, Node, VirtualImage
 from .images import AnyImage, Delay, Image, Slot
 from .objects import (
@@ -33,11 +33,15 @@ from .objects import (
 from .pictures import png, write_pgm, write_png
 from .pipeline import Pipeline, Result
 from .profiles import Profile, Timing
+from .ranges import PARAMETER_RANGES, Range
 from .regions import Region, regions
 from .samples import Format, Picture
-from .server import Server, SocketServer, connect, status
+from .server import Server
+from .sockets import SocketServer, connect, status
 from .streams import Station, stream
+from .thumbnails import thumbnail
 from .usage import Usage
+from .watching import Watch, Written
 
 U8, S16, U32 = Format.U8, Format.S16, Format.U32
 WRAP, SATURATE = Policy.WRAP, Policy.SATURATE
@@ -49,12 +53,14 @@ __all__ = [
     "GraphFile", "GraphFileError", "Image", "InvalidDimension", "InvalidFormat", "InvalidGraph",
     "InvalidLink", "InvalidParameters", "InvalidReference", "InvalidScope", "InvalidType",
     "InvalidValue", "Lut", "MinMax", "MultipleWriters", "NoMemory", "NoResources", "Node",
-    "NotAPicture", "NotYet", "OptimizedAway", "OrderWarning", "Picture", "Pipeline", "Policy",
-    "Profile", "ProgramNotFound", "REPLICATE", "Rectangle", "Refused", "Region", "Result", "S16",
-    "SATURATE", "Server", "ServerEnded", "Slot", "SocketServer", "Station", "Threshold", "TimedOut",
-    "Timing", "U32", "U8", "UNDEFINED", "UnexpectedReply", "Usage", "VirtualImage", "Vxu", "WRAP",
-    "WrongPicture", "WrongPictureFormat", "WrongPictureSample", "WrongPictureSize", "connect",
-    "constant", "png", "regions", "status", "stream", "wire", "write_pgm", "write_png"]
+    "NotAPicture", "NotYet", "OptimizedAway", "OrderWarning", "PARAMETER_RANGES", "Picture",
+    "Pipeline", "Policy", "Profile", "ProgramNotFound", "REPLICATE", "Range", "Rectangle",
+    "Refused", "Region", "Result", "S16", "SATURATE", "Server", "ServerEnded", "Slot",
+    "SocketServer", "Station", "Threshold", "TimedOut", "Timing", "U32", "U8", "UNDEFINED",
+    "UnexpectedReply", "Usage", "VirtualImage", "Vxu", "WRAP", "Watch", "Written", "WrongPicture",
+    "WrongPictureFormat", "WrongPictureSample", "WrongPictureSize", "connect", "constant",
+    "graph_text", "png", "regions", "status", "stream", "thumbnail", "wire", "write_pgm",
+    "write_png"]
 
 
 def __dir__() -> List[str]:

@@ -1,44 +1,53 @@
 """
-The command line: runs the graph of a file on pictures, and draws it.
+The command line: runs the graph of a file on pictures, draws it, and edits it in the browser.
 
     python3 -m feqyldan run station.json --in 'parts/*.png' --out marks/ --csv found.csv
     python3 -m feqyldan draw station.json > station.svg
+    python3 -m feqyldan studio station.json 'parts/*.png'
 """
 
 from __future__ import annotations
 
 import argparse
-import csv
 import glob
 import os
 import re
 import sys
 import time
+from collections import deque
 from contextlib import ExitStack
-from typing import (
-    Any, Dict, Iterable, Iterator, List, Optional, Sequence, TextIO, Tuple, Union)
+from typing import Any, Deque, Iterable, Iterator, List, Optional, Sequence, Tuple, Union
 
-from . import wire
+from . import __version__
 from .errors import FeqyldanError, Refused
 from .files import load
-from .graph_files import GraphFile, Reader, drawing_of_file, told_by
+from .graph_files import Reader, drawing_of_file, input_of, told_by
 from .images import AnyImage
-from .objects import Distribution, MinMax
-from .pictures import write_npy, write_png
-from .samples import Format, numpy_module
-from .server import Server, connect
+from .reports import STANDARD_OUTPUT_NAME, Report, files_read, standard_output, writing_to
+from .samples import samples_of
+from .server import Server
+from .sockets import connect
 
-DESCRIPTION = "Runs a graph file, as Graph.save() writes it, on pictures, or draws it."
+DESCRIPTION = "Runs a graph file, as Graph.save() writes it, on pictures, draws it, or edits it."
+# The errors that are written to standard error, and the exit status if pictures were skipped.
+FAULTS = FeqyldanError, OSError, ValueError, ImportError
+SKIPPED = 3
+# The ends of the names of picture files.
+PICTURES = ".pgm", ".png", ".jpg", ".jpeg", ".bmp", ".tif", ".tiff", ".webp", ".npy"
+# The graph file of the studio if none is named.
+STATION = "station.json"
 
 
 def arguments(words: Optional[Sequence[str]]) -> argparse.Namespace:
     parser = argparse.ArgumentParser(prog="python3 -m feqyldan", description=DESCRIPTION)
+    parser.add_argument("--version", action="version", version=f"feqyldan {__version__}")
     commands = parser.add_subparsers(dest="command", required=True)
     run = commands.add_parser("run", help="run a graph on pictures", description=(
         "Writes each picture to the graph's input, runs the graph and saves its results. Images go "
         "to a folder. Numbers go to a CSV file with one line per picture: extremes, histogram "
         "counts, and the number of nonzero samples of each image. Without --out and --csv the "
-        "lines go to standard output."))
+        "lines go to standard output. The exit status is 0 if all pictures ran, 3 if some were "
+        "skipped, 1 after an error, and 2 if the words of the command are wrong."))
     run.add_argument("graph", help="JSON file of the graph")
     run.add_argument("--in", dest="pictures", required=True, nargs="+", metavar="PATTERN",
                      help="picture files, or quoted patterns such as 'parts/*.png'; files that "
@@ -47,8 +56,15 @@ def arguments(words: Optional[Sequence[str]]) -> argparse.Namespace:
     run.add_argument("--out", metavar="FOLDER", help="folder for images, created if it doesn't "
                      "exist (default: no images are saved); files are named after the pictures, as "
                      "PNG, or as NumPy .npy for U32 images and negative samples")
-    run.add_argument("--csv", metavar="FILE", help="file for numbers; its folder is created if it "
-                     "doesn't exist (default: standard output without --out, otherwise none)")
+    run.add_argument("--csv", metavar="FILE", help="file for numbers, or - for standard output; "
+                     "its folder is created if it doesn't exist (default: standard output without "
+                     "--out, otherwise none)")
+    run.add_argument("--regions", type=int, metavar="LEAST", help="add a column with the number of "
+                     "regions of at least LEAST nonzero samples of each image; needs OpenCV or "
+                     "SciPy (default: no such column)")
+    run.add_argument("--skip", action="store_true", help="name pictures that can't be read, or "
+                     "have another size or format than the input, on standard error, and run the "
+                     "rest (default: the first of them ends the run)")
     run.add_argument("--socket", metavar="PATH", help="Unix socket of a broker or door (default: "
                      "start a server)")
     run.add_argument("--quiet", action="store_true",
@@ -58,56 +74,159 @@ def arguments(words: Optional[Sequence[str]]) -> argparse.Namespace:
     draw.add_argument("graph", help="JSON file of the graph")
     draw.add_argument("--dot", action="store_true",
                       help="write Graphviz DOT (default: SVG)")
+    studio = commands.add_parser("studio", help="edit a graph in the browser", description=(
+        "Opens a page in the browser, at 127.0.0.1, that shows the image at each node of a graph, "
+        "and edits the graph's file."))
+    studio.add_argument("graph", nargs="?", metavar="GRAPH.json", default=STATION,
+                        help="JSON file of the graph, which needn't exist yet (default: "
+                        f"{STATION})")
+    studio.add_argument("pictures", nargs="*", metavar="PICTURES",
+                        help="picture files, folders, or quoted patterns such as 'parts/*.png'")
+    studio.add_argument("--port", type=port_from, default=0,
+                        help="port at 127.0.0.1 (default: any free one)")
+    studio.add_argument("--no-browser", action="store_true", help="only print the page's address")
     return parser.parse_args(words)
+
+
+def port_from(text: str) -> int:
+    """Returns a port, for argparse."""
+    port = int(text)
+    if not 0 <= port <= 65535:
+        raise argparse.ArgumentTypeError(f"a port must be from 0 to 65535, not {port}")
+    return port
 
 
 def main(words: Optional[Sequence[str]] = None) -> int:
     told = arguments(words)
     try:
-        (draw if told.command == "draw" else run)(told)
-        sys.stdout.flush()
-        return 0
+        status: int = {"draw": draw, "run": run, "studio": studio}[told.command](told)
+        if sys.stdout is not None:
+            sys.stdout.flush()
+        return status
     except KeyboardInterrupt:
         return 130
     except BrokenPipeError:
-        # At exit Python flushes standard output, which would report the closed pipe again.
-        os.dup2(os.open(os.devnull, os.O_WRONLY), sys.stdout.fileno())
+        drop_output()
         return 1
-    except (FeqyldanError, OSError, ValueError, ImportError) as error:
-        print(f"feqyldan: {error}", file=sys.stderr)
+    except FAULTS as error:
+        if isinstance(error, OSError) and error.filename == STANDARD_OUTPUT_NAME:
+            drop_output()
+        say(str(error))
         return 1
 
 
-def draw(told: argparse.Namespace) -> None:
+def drop_output() -> None:
+    """Lets nothing more go to standard output. At exit Python flushes it, which would report the
+    same error again."""
+    os.dup2(os.open(os.devnull, os.O_WRONLY), sys.stdout.fileno())
+
+
+def say(words: str) -> None:
+    """Writes a line to standard error."""
+    # print() would take standard output if standard error is closed.
+    if sys.stderr is not None:
+        print(f"feqyldan: {words}", file=sys.stderr)
+
+
+def draw(told: argparse.Namespace) -> int:
     drawing = drawing_of_file(told.graph)
-    sys.stdout.write(drawing.dot if told.dot else drawing.svg)
+    with writing_to(STANDARD_OUTPUT_NAME):
+        standard_output().write(drawing.dot if told.dot else drawing.svg)
+        standard_output().flush()
+    return 0
 
 
-def run(told: argparse.Namespace) -> None:
+def studio(told: argparse.Namespace) -> int:
+    from .studio import serve
+    graph, patterns = told.graph, told.pictures
+    if not graph.endswith(".json"):
+        graph, patterns = STATION, [graph, *patterns]
+    pictures = [path for pattern in patterns for path in (
+        pictures_in(pattern) if os.path.isdir(pattern) else paths_of([pattern]))]
+    serve(graph, pictures, told.port, not told.no_browser)
+    return 0
+
+
+def pictures_in(folder: str) -> List[str]:
+    """Returns the paths of the picture files in a folder, in natural order."""
+    found = sorted((os.path.join(folder, name) for name in os.listdir(folder)
+                    if name.lower().endswith(PICTURES)), key=natural)
+    if not found:
+        raise FileNotFoundError(f"{folder} has no picture: name a folder with files such as *.png")
+    return found
+
+
+def run(told: argparse.Namespace) -> int:
     paths = paths_of(told.pictures)
     with ExitStack() as ends:
         server = ends.enter_context(connect(told.socket, retry=10) if told.socket else Server())
         context = ends.enter_context(server.context())
         contents = told_by(told.graph)
         station = Reader(context, told.graph).read(contents)
-        camera = the_input(station, told.graph)
-        report = Report(told, paths, files_in(told.graph, contents), station, ends)
-        frames = map(load, progress(paths, told.quiet))
-        results = station.graph.stream(frames, camera, list(station.outputs.values()))
-        for path in paths:
-            report.add(path, dict(zip(station.outputs, result_of(path, results))))
+        camera = input_of(station, told.graph)
+        report = Report(told, paths, files_read(told.graph, contents), station, ends)
+        pictures = Pictures(progress(paths, told.quiet), camera, told.skip)
+        results = station.graph.stream(pictures, camera, list(station.outputs.values()))
+        for path, values in with_paths(results, pictures):
+            report.add(path, dict(zip(station.outputs, values)))
+    if pictures.skipped:
+        say(f"{pictures.skipped} of {len(paths)} pictures were skipped")
+    return SKIPPED if pictures.skipped else 0
 
 
-def result_of(path: str, results: Iterator[Tuple[Any, Tuple[Any, ...]]]) -> Tuple[Any, ...]:
-    """Returns the results of the graph for a picture. Raises ValueError that names the file."""
-    try:
-        return next(results)[1]
-    except (FeqyldanError, OSError, ValueError, ImportError) as error:
-        words = str(error)
-        if isinstance(error, Refused):
-            # The place is a line of this file, which tells the user nothing.
-            words = words.replace(error.place, error.place.partition(",")[0])
-        raise ValueError(words if path in words else f"{path}: {words}") from None
+class Pictures:
+    """
+    Loads pictures for a stream. `pending` has the paths of those without a result. With `skips`, a
+    picture that can't be read, or that isn't one for the camera, is named and counted.
+    """
+
+    def __init__(self, paths: Iterable[str], camera: AnyImage, skips: bool) -> None:
+        self._paths, self._camera, self._skips = paths, camera, skips
+        self.pending: Deque[str] = deque()
+        self.skipped = 0
+
+    def __iter__(self) -> Iterator[Any]:
+        for path in self._paths:
+            try:
+                picture = self._load(path)
+            except FAULTS as error:
+                if not self._skips:
+                    raise
+                self.skipped += 1
+                say(f"skipped {in_words(error, path)}")
+                continue
+            self.pending.append(path)
+            yield picture
+
+    def _load(self, path: str) -> Any:
+        picture = load(path)
+        if self._skips:
+            self._camera._look_at_samples(samples_of(picture, self._camera._described), "")
+        return picture
+
+
+def with_paths(results: Iterator[Tuple[Any, Tuple[Any, ...]]],
+               pictures: Pictures) -> Iterator[Tuple[str, Tuple[Any, ...]]]:
+    """Yields the path of each picture with its results. Raises ValueError that names the file."""
+    while True:
+        try:
+            _, values = next(results)
+        except StopIteration:
+            return
+        except FAULTS as error:
+            # A picture that couldn't be loaded isn't pending, and its error has its path.
+            path = pictures.pending[0] if pictures.pending else ""
+            raise ValueError(in_words(error, path)) from None
+        yield pictures.pending.popleft(), values
+
+
+def in_words(error: BaseException, path: str) -> str:
+    """Returns the words of an error about a picture, with the picture's path."""
+    words = str(error)
+    if isinstance(error, Refused):
+        # The place is a line of this file, which tells the user nothing.
+        words = words.replace(error.place, error.place.partition(",")[0])
+    return words if path in words else f"{path}: {words}"
 
 
 def paths_of(patterns: Sequence[str]) -> List[str]:
@@ -132,17 +251,9 @@ def natural(path: str) -> Tuple[List[Union[str, int]], str]:
     return [int(part) if at % 2 else part for at, part in enumerate(parts)], path
 
 
-def the_input(graph: GraphFile, path: str) -> AnyImage:
-    if len(graph.inputs) != 1 or not graph.outputs:
-        raise ValueError(f"{path}: the graph must have one input (an image with \"input\": true) "
-                         f"and at least one output, not {len(graph.inputs)} and "
-                         f"{len(graph.outputs)}")
-    return next(iter(graph.inputs.values()))
-
-
 def progress(paths: List[str], is_quiet: bool) -> Iterator[str]:
     """Yields the paths, with a progress bar at a terminal if tqdm is installed."""
-    if is_quiet or not sys.stderr.isatty():
+    if is_quiet or sys.stderr is None or not sys.stderr.isatty():
         return iter(paths)
     try:
         from tqdm import tqdm
@@ -158,128 +269,6 @@ def counted(paths: List[str]) -> Iterator[str]:
         sys.stderr.write(f"\r{number} of {len(paths)} pictures, {rate:.0f} a second ")
         yield path
     sys.stderr.write("\n")
-
-
-class Report:
-    """The destination of the results: pictures go to a folder, numbers to a CSV file, or to
-    standard output if neither is given."""
-
-    def __init__(self, told: argparse.Namespace, paths: Sequence[str], others: Sequence[str],
-                 station: GraphFile, ends: ExitStack) -> None:
-        self._folder: Optional[str] = told.out
-        self._images = {name: thing for name, thing in station.outputs.items()
-                        if isinstance(thing, AnyImage)}
-        self._look_at_files(told, paths, others)
-        if self._folder is not None:
-            os.makedirs(self._folder, exist_ok=True)
-        self._lines: Any = None
-        if told.csv is not None or self._folder is None:
-            file = sys.stdout if told.csv is None else ends.enter_context(opened(told.csv))
-            self._lines = csv.writer(file)
-            self._lines.writerow(["picture", *columns_of(station.outputs)])
-
-    def _look_at_files(self, told: argparse.Namespace, paths: Sequence[str],
-                       others: Sequence[str]) -> None:
-        """Raises ValueError if a result would overwrite an input file or the result of another
-        picture."""
-        read = {identity(path): path for path in (*paths, *others)}
-        if told.csv is not None and identity(told.csv) in read:
-            raise ValueError(f"--csv {told.csv} would overwrite {read[identity(told.csv)]}, which "
-                             "is read: name another file")
-        if self._folder is None:
-            return
-        wrong = [name for name in self._images if "/" in name]
-        if wrong and len(self._images) > 1:
-            raise ValueError(f'{told.graph}: the name "{wrong[0]}" has a "/", and --out names '
-                             'files by images: rename the image')
-        writers: Dict[str, str] = {}
-        for path, file in self._files_of(paths):
-            if identity(file) in read:
-                raise ValueError(f"--out {self._folder}: the image of {path} would overwrite "
-                                 f"{read[identity(file)]}, which is read: name another folder")
-            other = writers.setdefault(file, path)
-            if identity(other) != identity(path):
-                raise ValueError(f"--out {self._folder}: the images of {other} and of {path} would "
-                                 f"both be {file}: run them one after the other, each with its own "
-                                 "folder")
-
-    def _files_of(self, paths: Sequence[str]) -> Iterator[Tuple[str, str]]:
-        """Yields each picture's path with each file that may be written for that picture."""
-        return ((path, stem + ending) for path in paths
-                for name, stem in self._stems_of(path).items()
-                for ending in ENDINGS[self._images[name].fmt])
-
-    def _stems_of(self, path: str) -> Dict[str, str]:
-        """Returns the paths of a picture's output images, without file name extensions."""
-        stem = os.path.join(self._folder or "", os.path.splitext(os.path.basename(path))[0])
-        return {name: f"{stem}.{name}" if len(self._images) > 1 else stem for name in self._images}
-
-    def add(self, path: str, values: Dict[str, Any]) -> None:
-        """Adds the results of a picture."""
-        if self._folder is not None:
-            for name, stem in self._stems_of(path).items():
-                write(stem, values[name])
-        if self._lines is not None:
-            self._lines.writerow([path, *(number for value in values.values()
-                                          for number in numbers_in(value))])
-
-
-def opened(path: str) -> TextIO:
-    """Opens a file to write to, and creates its folder if it doesn't exist."""
-    os.makedirs(os.path.dirname(path) or ".", exist_ok=True)
-    return open(path, "w", newline="", encoding="utf-8")
-
-
-def files_in(path: str, contents: Dict[str, Any]) -> List[str]:
-    """Returns the path of a graph file, and those of the picture files that its contents name."""
-    return [path, *(os.path.join(os.path.dirname(path), described["file"])
-                    for described in contents["objects"].values() if "file" in described)]
-
-
-def identity(path: str) -> Tuple[Any, ...]:
-    """Returns the identity of a file, whatever its path."""
-    try:
-        there = os.stat(path)
-    except OSError:
-        return (os.path.realpath(path),)
-    return there.st_dev, there.st_ino
-
-
-# File name extensions for images of each format: PNG has no negative and no U32 samples.
-ENDINGS = {Format.U8: (".png",), Format.S16: (".png", ".npy"), Format.U32: (".npy",)}
-
-
-def write(path: str, picture: Any) -> None:
-    """Writes a PNG file, or an .npy file if there are negative or U32 samples."""
-    try:
-        write_png(f"{path}.png", picture)
-    except ValueError:
-        write_npy(f"{path}.npy", picture)
-
-
-def columns_of(outputs: Dict[str, Any]) -> Iterator[str]:
-    """Yields the column heads for the numbers of the outputs."""
-    for name, thing in outputs.items():
-        if isinstance(thing, Distribution):
-            yield from (f"{name}.{number}" for number in range(thing.bins))
-        elif isinstance(thing, MinMax):
-            yield from (f"{name}.{field}" for field in (
-                "min", "max", "min_count", "max_count", "min_x", "min_y", "max_x", "max_y"))
-        else:
-            yield f"{name}.marked"
-
-
-def numbers_in(value: Any) -> Iterable[int]:
-    """Returns the counts of a distribution, the numbers of extremes, or the number of samples of a
-    picture that aren't 0."""
-    if isinstance(value, wire.Extremes):
-        return [*value[:4], *value.min_at, *value.max_at]
-    if isinstance(value, tuple):
-        return value
-    numpy = numpy_module()
-    if numpy is not None:
-        return [int(numpy.count_nonzero(value))]
-    return [sum(sample != 0 for row in value.tolist() for sample in row)]
 
 
 if __name__ == "__main__":

@@ -26,7 +26,9 @@ from typing import (
     Any, Callable, Deque, Dict, List, NamedTuple, Optional, Sequence, Tuple, Union)
 
 from . import pages
-from .errors import Closed, FeqyldanError, Refused, ServerEnded, TimedOut, UnexpectedReply, refusal
+from .errors import (
+    Closed, Fault, FeqyldanError, Refused, ServerEnded, TimedOut, UnexpectedReply, refusal)
+from .log import LOG
 from .wire import BODY_BYTES, CODES, GREATEST_LENGTH, GREATEST_SIDE
 
 # At most this many bytes wait to be sent with the next request. If more are unsent, send() sends
@@ -62,8 +64,8 @@ GREATEST_REQUEST = GREATEST_LENGTH
 TAKEN = memoryview(bytes(8))
 
 Part = Union[bytes, memoryview]
-# Returns the fault of a refused request in words, given the status code; empty if unknown.
-Explain = Callable[[int], str]
+# Returns the fault of a refused request, given the status code.
+Explain = Callable[[int], Fault]
 
 
 def bad_length(size: int) -> UnexpectedReply:
@@ -105,7 +107,7 @@ class Request:
 
     __slots__ = ("words", "client", "op", "answer", "on_refusal", "on_answer", "explain", "place",
                  "parts", "start", "end", "body", "may_lend", "has_lent",
-                 "into", "_error")
+                 "into", "is_ahead", "_error")
 
     def __init__(self, words: str, client: int, op: int, explain: Optional[Explain] = None,
                  body: Optional[Body] = None) -> None:
@@ -125,6 +127,8 @@ class Request:
         self.may_lend = self.has_lent = False
         # Where the samples of the reply go; the answer then has only the bytes before them.
         self.into: Optional[memoryview] = None
+        # Whether it belongs to a frame of a stream, whose samples don't change until the reply.
+        self.is_ahead = False
         self._error: Optional[Refused] = None
 
     @property
@@ -140,9 +144,10 @@ class Request:
         if code == 0:
             return None
         if self._error is None:
-            fault = "" if self.explain is None else self.explain(code)
+            fault = Fault() if self.explain is None else self.explain(code)
             place = "" if self.place is None else str(self.place)
             self._error = refusal(code, self.words, self.op, place, fault)
+            LOG.warning("refused: %s", self._error)
         return self._error.with_traceback(None)
 
     def look_at(self, length: int, client: int, op: int, code: int) -> None:
@@ -171,6 +176,10 @@ class Request:
         if self.on_refusal is not None and code != 0:
             self.on_refusal(self)
         self.answer = reply, end
+        # The connection keeps the last request, whose functions would keep its context alive.
+        self.on_answer = None
+        if code == 0:
+            self.explain = None
 
     def take_reply(self) -> memoryview:
         """Returns the reply to a successful request. The request drops the reply, so that its
@@ -635,6 +644,7 @@ class Connection:
         words = waiting.words if waiting else "the server's end"
         self._fault = TimedOut(f"{words}: no answer in {self._timeout:g} seconds, so the "
                                "connection was closed: allow more by timeout=")
+        LOG.warning("timed out: %s", self._fault)
         self._give_up()
         raise self._fault
 

@@ -13,26 +13,29 @@ from functools import partial
 from types import TracebackType
 from typing import (
     TYPE_CHECKING, Any, Callable, Deque, Dict, List, Optional, Sequence, Set, Tuple, Type,
-    TypeVar)
+    TypeVar, Union)
 
 from . import wire
 from .connection import GREATEST_REQUEST, Body, Connection, Explain, Part, Request
-from .errors import Closed, FeqyldanError, InvalidScope
-from .files import load
+from .direct import DirectConnection
+from .errors import Closed, Fault, FeqyldanError, InvalidScope
+from .files import picture_in
 from .forks import HELD
 from .functions import FUNCTIONS, Call, Functions, functions_for_names
-from .graph_files import GraphFile, read_graph
+from .graph_files import GraphFile, GraphFileError, read_graph
 from .graphs import Graph
 from .hints import OF_CONTEXTS, attribute_of
 from .images import AnyImage, Delay, Image
 from .objects import Convolution, Distribution, Lut, Made, MinMax, Named, Threshold, sides_of_frame
-from .pictures import Path, read_bytes, size_of_pgm
+from .pgm import GREATEST_WIDE_MAXVAL, header_of, is_pgm
 from .pipeline import Pipeline, calling_frame
+from .ranges import PARAMETER_RANGES
 from .samples import (
     Format, Numbers, Rows, Samples, Size, entries_of, format_of, lengths_in_words, samples_of)
+from .storage import Path, name_of_file, naming, read_bytes
 from .uncopied import Uncopied
 from .usage import Usage, Used, wanted_bytes
-from .verdicts import formats_in_words, parameter_for
+from .verdicts import formats_in_words, narrowing_for, parameter_for
 from .whole import BYTE, SIGNED, UNSIGNED, whole, within
 
 if TYPE_CHECKING:
@@ -48,30 +51,27 @@ class Vxu(Uncopied, Functions[None]):
     """Immediate mode: each vision function is a method, and runs when it is called."""
 
     __slots__ = ("_context",)
-    _inner = frozenset(("run",))
 
     def __init__(self, context: Context) -> None:
         self._context = context
 
-    def run(self, call: Call) -> None:
-        """Runs a call of any function."""
-        self._run(call)
-
     def _run(self, call: Call) -> None:
-        references = self._context.references_of(call)
-        self._context.tell(str(call), wire.immediate, *call.fields(references),
-                           explain=lambda code: fault_of(call, code))
+        references = self._context._references_of(call)
+        self._context._tell(str(call), wire.immediate, *call.fields(references),
+                            explain=lambda code: fault_of(call, code))
 
 
-def fault_of(call: Call, code: int) -> str:
-    """Returns the fault in a call's own arguments, in words, given the code of its refusal."""
+def fault_of(call: Call, code: int) -> Fault:
+    """Returns the fault in a call's own arguments, given the code of its refusal."""
     if code == wire.INVALID_FORMAT:
         one, other = (getattr(operand, "fmt", None) for operand in call.operands[:2])
-        return (f"{call.name} takes {formats_in_words(call.name)}"
-                f"{parameter_for(call.name, one, other)}.")
+        return Fault(f"{call.name} takes {formats_in_words(call.name)}"
+                     f"{parameter_for(call.name, one, other)}{narrowing_for(call.name, one)}.")
     if code == wire.INVALID_VALUE:
-        return f"Its shift is {call.amount}."
-    return f"Its border is {call.border}." if code == wire.INVALID_PARAMETERS else ""
+        return Fault(f"Its shift is {call.amount}.", operand="shift")
+    if code == wire.INVALID_PARAMETERS:
+        return Fault(f"Its border is {call.border}.", operand="border")
+    return Fault()
 
 
 class Death(weakref.ref):  # type: ignore[type-arg]
@@ -95,15 +95,12 @@ class Context(Uncopied):
     Each object can have a name=, which messages use.
     """
 
-    __slots__ = ("_server", "_connection", "_number", "_vxu", "_pipeline", "_alive", "_dead",
+    __slots__ = ("_server", "_connection", "_number", "_pipeline", "_alive", "_dead",
                  "_unclaimed", "_releasing", "_used", "_barred", "_is_closed", "__weakref__")
-    _inner = frozenset((
-        "ask", "tell", "send", "create", "claim", "add_node", "look_at", "release", "references_of",
-        "enter_pipeline", "leave_pipeline", "close_within", "connection", "barred"))
 
-    def __init__(self, server: Server, connection: Connection, number: int) -> None:
+    def __init__(self, server: Server, connection: Union[Connection, DirectConnection],
+                 number: int) -> None:
         self._server, self._connection, self._number = server, connection, number
-        self._vxu = Vxu(self)
         # The open pipeline. The reference is weak: after an interruption within __enter__ nobody
         # holds the pipeline, and it counts as closed.
         self._pipeline: Optional[weakref.ref[Pipeline]] = None
@@ -117,18 +114,14 @@ class Context(Uncopied):
         # Held by the thread that releases what Python has forgotten.
         self._releasing = threading.RLock()
         self._used = Used()
-        # The threads that run iterators of streams.
+        # The threads that may not use the context: they run the iterators of its streams.
         self._barred: Set[int] = set()
         self._is_closed = False
-        self.tell("open a context", wire.open_context)
+        self._tell("open a context", wire.open_context)
 
     @property
     def server(self) -> Server:
         return self._server
-
-    @property
-    def connection(self) -> Connection:
-        return self._connection
 
     @property
     def number(self) -> int:
@@ -137,7 +130,9 @@ class Context(Uncopied):
 
     @property
     def vxu(self) -> Vxu:
-        return self._vxu
+        """The functions in immediate mode."""
+        # Made anew, since a stored one would refer back to the context and keep it alive.
+        return Vxu(self)
 
     if not TYPE_CHECKING:
         def __getattr__(self, name: str) -> Any:
@@ -152,15 +147,15 @@ class Context(Uncopied):
         and the whole image is valid."""
         made, (columns, rows) = format_of(fmt), sides_of_frame(width, height)
         words = f"create a {made} image of {columns} by {rows}"
-        number = self.create(words, wire.create_image, made, columns, rows,
-                             size=columns * rows * made.sample_bytes)
+        number = self._create(words, wire.create_image, made, columns, rows,
+                              size=columns * rows * made.sample_bytes)
         return Image(self, Made(number, name), made, columns, rows)
 
     def image_like(self, exemplar: AnyImage, fmt: Optional[Format] = None, *,
                    name: str = "") -> Image:
         """Returns a new image with the size of `exemplar`, and its format unless `fmt` is given. No
         sample is copied."""
-        self.look_at("image_like", exemplar)
+        self._look_at("image_like", exemplar)
         if not isinstance(exemplar, AnyImage):
             raise TypeError(f"image_like takes an image, not {type(exemplar).__name__}: give the "
                             "format and the size to context.image()")
@@ -185,7 +180,8 @@ class Context(Uncopied):
     def image_from_pgm(self, text: bytes, *, name: str = "") -> Image:
         """Returns an image of the picture in a PGM text, P5 or P2: U8 for a maxval up to 255, S16
         for one up to 32767. Raises BadPicture for anything else."""
-        image = self.image(*size_of_pgm(text), name=name)
+        header = header_of(text)
+        image = self.image(header.fmt, header.width, header.height, name=name)
         try:
             image.write_pgm(text)
         except FeqyldanError:
@@ -195,18 +191,25 @@ class Context(Uncopied):
 
     def read_pgm(self, path: Path, *, name: str = "") -> Image:
         """Returns an image of the picture in a PGM file."""
-        return self.image_from_pgm(read_bytes(path), name=name)
+        text = read_bytes(path)
+        with naming(name_of_file(path)):
+            return self.image_from_pgm(text, name=name)
 
-    def load(self, path: Path, *, name: str = "") -> Image:
+    def load(self, path: Path, scale: bool = False, *, name: str = "") -> Image:
         """
-        Returns an image of the picture in a file. PGM is read by this package, .npy by NumPy, and
+        Returns an image of the picture in a file. PGM is read by the server, .npy by NumPy, and
         other formats, as PNG and JPEG, by OpenCV or PIL if one of them is installed. Colours are
-        converted to grey. Samples of 8 bits give U8, wider ones S16 if all are below 32768.
+        converted to grey. Samples of 8 bits give U8, wider ones S16 if all are below 32768. Raises
+        OSError if the file can't be read, and BadPicture if it has no whole picture.
+
+        Samples are used as the file has them. With `scale` the image is U8, and the greatest
+        possible sample becomes 255: the maxval of a PGM file, 65535 in other files of 16 bits.
         """
-        with open(path, "rb") as file:
-            is_pgm = file.read(2) in (b"P2", b"P5")
-        return (self.read_pgm(path, name=name) if is_pgm else
-                self.image_from(load(path), name=name))
+        content = read_bytes(path)
+        with naming(name_of_file(path)):
+            if is_pgm(content) and not scale and header_of(content).maxval <= GREATEST_WIDE_MAXVAL:
+                return self.image_from_pgm(content, name=name)
+            return self.image_from(picture_in(content, scale), name=name)
 
     def lut(self, fmt: Format, entries: Numbers, *, name: str = "") -> Lut:
         """Returns a lookup table of U8 with 256 entries, or of S16 with 65,536. The first entry is
@@ -218,7 +221,7 @@ class Context(Uncopied):
             raise ValueError(f"a lookup table of {made} needs {wanted // made.sample_bytes:,} "
                              "entries, one for each sample value, not "
                              f"{len(content) // made.sample_bytes:,}")
-        number = self.create(f"create a {made} lookup table", wire.create_lut_of, made, content)
+        number = self._create(f"create a {made} lookup table", wire.create_lut_of, made, content)
         return Lut(self, Made(number, name), made, content)
 
     def threshold(self, fmt: Format, above: Optional[int] = None,
@@ -231,9 +234,9 @@ class Context(Uncopied):
         value elsewhere; both are from 0 to 255.
         """
         if (above is None) == (between is None):
-            given = "neither" if above is None else "both"
+            given = "neither was" if above is None else "both were"
             raise TypeError("a threshold needs either above=limit or between=(lower, upper), and "
-                            f"{given} was given")
+                            f"{given} given")
         limits = tuple(within(limit, "a threshold's limit", SIGNED,
                               "a whole number, a sample of its format")
                        for limit in ((above,) if between is None else two_limits(between)))
@@ -241,7 +244,7 @@ class Context(Uncopied):
         made = format_of(fmt)
         kind = "above" if between is None else "between"
         words = f"create a {made} threshold {kind} {' and '.join(map(str, limits))}"
-        number = self.create(words, wire.create_threshold, made, limits, *outputs)
+        number = self._create(words, wire.create_threshold, made, limits, *outputs)
         return Threshold(self, Made(number, name), made, limits, outputs)
 
     def convolution(self, coefficients: Rows, scale: int = 1, *, name: str = "") -> Convolution:
@@ -260,7 +263,7 @@ class Context(Uncopied):
         columns = len(rows[0]) if rows else 0
         flat = [value for row in rows for value in row]
         words = f"create a convolution of {columns} by {len(rows)}"
-        number = self.create(words, wire.create_convolution, columns, len(rows), exponent, flat)
+        number = self._create(words, wire.create_convolution, columns, len(rows), exponent, flat)
         return Convolution(self, Made(number, name), rows, divisor)
 
     def distribution(self, bins: int, offset: int = 0, range: int = 256, *,
@@ -268,31 +271,36 @@ class Context(Uncopied):
         """Returns a distribution of 1 to 256 bins of the same width. The bins begin at the offset,
         from 0 to 255, and together cover `range` values."""
         sides = (within(bins, "a distribution's number of bins", UNSIGNED,
-                        "a whole number from 1 to 256"),
+                        PARAMETER_RANGES["distribution.bins"].whole),
                  within(offset, "a distribution's offset", UNSIGNED,
-                        "a whole number from 0 to 255"),
-                 within(range, "a distribution's range", UNSIGNED, "a whole number from 1 to 256"))
+                        PARAMETER_RANGES["distribution.offset"].whole),
+                 within(range, "a distribution's range", UNSIGNED,
+                        PARAMETER_RANGES["distribution.range"].whole))
         words = f"create a distribution of {bins} bins from {offset} on, {range} long"
-        number = self.create(words, wire.create_distribution, *sides)
+        number = self._create(words, wire.create_distribution, *sides)
         return Distribution(self, Made(number, name), sides)
 
     def min_max(self, *, name: str = "") -> MinMax:
         """Returns an object for the results of vxu.min_max_loc."""
-        return MinMax(self, Made(self.create("create extremes", wire.create_min_max), name))
+        return MinMax(self, Made(self._create("create extremes", wire.create_min_max), name))
 
     def delay(self, exemplar: AnyImage, slots: int, *, name: str = "") -> Delay:
         """Returns a delay of 1 to 16 slots with new images. They have the format and the size of
         `exemplar`, whose samples aren't used."""
-        self.look_at("delay", exemplar)
-        count = within(slots, "the number of a delay's slots", BYTE, "a whole number from 1 to 16")
+        self._look_at("delay", exemplar)
+        if not isinstance(exemplar, AnyImage):
+            raise TypeError("delay takes an image, whose format and size its slots get, not "
+                            f"{type(exemplar).__name__}")
+        count = within(slots, "the number of a delay's slots", BYTE,
+                       PARAMETER_RANGES["delay.slots"].whole)
         words = f"create a delay of {count} slots like {exemplar}"
-        number = self.create(words, wire.create_delay, exemplar.reference, count,
-                             size=count * wanted_bytes(exemplar))
+        number = self._create(words, wire.create_delay, exemplar._reference, count,
+                              size=count * wanted_bytes(exemplar))
         return Delay(self, Made(number, name), exemplar, count)
 
     def graph(self, *, name: str = "") -> Graph:
         """Returns a graph without nodes."""
-        graph = Graph(self, Made(self.create("create a graph", wire.create_graph), name))
+        graph = Graph(self, Made(self._create("create a graph", wire.create_graph), name))
         self._used.graphs.add(graph)
         return graph
 
@@ -303,6 +311,12 @@ class Context(Uncopied):
         Raises GraphFileError if the file doesn't describe a graph.
         """
         return read_graph(self, path)
+
+    def graph_faults(self, path: Path) -> Tuple[GraphFileError, ...]:
+        """Returns all faults of a graph file: of its objects, of its nodes, and those for which the
+        server refuses the graph. An empty tuple says that load_graph() and a run accept it."""
+        from .graph_drafts import graph_faults
+        return graph_faults(self, path)
 
     def usage(self) -> Usage:
         """
@@ -315,8 +329,8 @@ class Context(Uncopied):
 
     def _image_of(self, samples: Samples, name: str) -> Image:
         image = self.image(samples.fmt, samples.width, samples.height, name=name)
-        self.tell(f"write samples to {image}", wire.write_image_head, image.reference, *samples[:3],
-                  content=samples.content)
+        self._tell(f"write samples to {image}", wire.write_image_head, image._reference,
+                   *samples[:3], content=samples.content)
         return image
 
     # ---- requests
@@ -325,7 +339,7 @@ class Context(Uncopied):
         """Returns a pipeline: requests within its `with` are sent ahead of their replies."""
         return Pipeline(self)
 
-    def enter_pipeline(self, pipeline: Pipeline) -> None:
+    def _enter_pipeline(self, pipeline: Pipeline) -> None:
         """Opens a pipeline: calls without a result no longer wait for their replies."""
         self._look_at_thread("open a pipeline")
         if self._open_pipeline() is not None:
@@ -334,12 +348,6 @@ class Context(Uncopied):
         if self._why_closed is not None:
             raise Closed(f"open a pipeline: {self._why_closed}")
         self._pipeline = weakref.ref(pipeline)
-
-    @property
-    def barred(self) -> Set[int]:
-        """The threads that may not use the context, because they run the iterator of one of its
-        streams."""
-        return self._barred
 
     def _look_at_thread(self, words: str) -> None:
         if threading.get_ident() in self._barred:
@@ -350,15 +358,15 @@ class Context(Uncopied):
     def _open_pipeline(self) -> Optional[Pipeline]:
         return None if self._pipeline is None else self._pipeline()
 
-    def leave_pipeline(self) -> None:
+    def _leave_pipeline(self) -> None:
         """Closes a pipeline: each call waits for its reply again."""
         self._pipeline = None
 
-    def send(self, words: str, make: Callable[..., bytes], *arguments: Any,
-             content: Optional[Part] = None, explain: Optional[Explain] = None,
-             on_answer: Optional[Callable[[memoryview], None]] = None,
-             body: Optional[Body] = None, into: Optional[memoryview] = None,
-             waits: bool = False) -> Request:
+    def _send(self, words: str, make: Callable[..., bytes], *arguments: Any,
+              content: Optional[Part] = None, explain: Optional[Explain] = None,
+              on_answer: Optional[Callable[[memoryview], None]] = None,
+              body: Optional[Body] = None, into: Optional[memoryview] = None,
+              waits: bool = False) -> Request:
         """
         Sends a request. `make` returns its frame for the client number and these arguments;
         `content` follows the frame. With `waits` the reply has come on return, except in a
@@ -374,34 +382,36 @@ class Context(Uncopied):
         frame = self._frame(words, make, arguments, 0 if content is None else len(content))
         if self._unclaimed or self._dead:
             self._release_forgotten()
+        if self._server._dead:
+            self._server._release_dead()
         request = Request(words, self._number, frame[6], explain, body)
         request.on_answer, request.into = on_answer, into
         parts = [frame] if content is None else [frame, content]
         pipeline = None if self._pipeline is None else self._pipeline()
         if pipeline is not None:
-            pipeline.take(request)
-            self._connection.send(request, parts, pipeline.is_followed)
+            pipeline._take(request)
+            self._connection.send(request, parts, pipeline._is_followed)
         elif waits:
             self._connection.ask(request, parts)
         else:
             self._connection.send(request, parts)
         return request
 
-    def tell(self, words: str, make: Callable[..., bytes], *arguments: Any,
-             content: Optional[Part] = None,
-             explain: Optional[Explain] = None) -> None:
+    def _tell(self, words: str, make: Callable[..., bytes], *arguments: Any,
+              content: Optional[Part] = None,
+              explain: Optional[Explain] = None) -> None:
         """Sends a request without a result; waits for its reply unless a pipeline is open."""
-        request = self.send(words, make, *arguments, content=content, explain=explain, waits=True)
+        request = self._send(words, make, *arguments, content=content, explain=explain, waits=True)
         if self._pipeline is None or self._pipeline() is None:
             self._reply_to(request)
 
-    def ask(self, words: str, make: Callable[..., bytes], decode: Callable[[memoryview], Value],
-            body: Optional[Body] = None, into: Optional[memoryview] = None) -> Value:
+    def _ask(self, words: str, make: Callable[..., bytes], decode: Callable[[memoryview], Value],
+             body: Optional[Body] = None, into: Optional[memoryview] = None) -> Value:
         """Sends a request, waits for its reply, and returns the decoded result. In a pipeline a
         result after a refused request may be of an older picture, so that refusal is raised
         instead. After an interruption nothing more is written `into` the place."""
         try:
-            request = self.send(words, make, body=body, into=into, waits=True)
+            request = self._send(words, make, body=body, into=into, waits=True)
             value = decode(self._reply_to(request))
         except BaseException:
             if into is not None:
@@ -409,15 +419,16 @@ class Context(Uncopied):
             raise
         pipeline = self._open_pipeline()
         if pipeline is not None:
-            pipeline.raise_before(request)
+            pipeline._raise_before(request)
         return value
 
-    def create(self, words: str, make: Callable[..., bytes], *arguments: Any, size: int = 0) -> int:
+    def _create(self, words: str, make: Callable[..., bytes], *arguments: Any,
+                size: int = 0) -> int:
         """Sends a request that creates an object, waits for the reply, and returns the object's
         name. The object takes `size` bytes of the quota."""
         thread = threading.get_ident()
-        request = self.send(words, make, *arguments, explain=self._limit_for(size), waits=True,
-                            on_answer=lambda reply: self._note_made(reply, size, thread))
+        request = self._send(words, make, *arguments, explain=self._limit_for(size), waits=True,
+                             on_answer=lambda reply: self._note_made(reply, size, thread))
         return int(wire.name_of(self._reply_to(request)))
 
     def _note_made(self, reply: memoryview, size: int, thread: int) -> None:
@@ -428,7 +439,7 @@ class Context(Uncopied):
             self._used.add(name, size)
             self._unclaimed[name] = thread
 
-    def claim(self, name: int, thing: Named) -> None:
+    def _claim(self, name: int, thing: Named) -> None:
         """Gives the name of an object on the server to an object in Python. The name is released
         when Python frees the Python object."""
         death = Death(thing, self._dead.append)  # type: ignore[arg-type]
@@ -436,30 +447,30 @@ class Context(Uncopied):
         self._alive[name] = death
         self._unclaimed.pop(name, None)
 
-    def add_node(self, graph: Graph, call: Call, added: Callable[[int], None]) -> int:
+    def _add_node(self, graph: Graph, call: Call, added: Callable[[int], None]) -> int:
         """Sends a request that adds a node to a graph, waits for the reply, and returns the node's
         number. When the reply comes, also after an interruption, `added` is called with the
         number."""
-        request = self.send(f"add {call} to {graph}", wire.add_node, graph.name,
-                            *call.fields(self.references_of(call)), waits=True,
-                            explain=lambda code: fault_of(call, code), on_answer=lambda reply: (
+        request = self._send(f"add {call} to {graph}", wire.add_node, graph.name,
+                             *call.fields(self._references_of(call)), waits=True,
+                             explain=lambda code: fault_of(call, code), on_answer=lambda reply: (
                                 added(wire.node_of(reply)) if reply[7] == wire.SUCCESS else None))
         return int(wire.node_of(self._reply_to(request)))
 
-    def release(self, name: int, words: str) -> None:
+    def _release(self, name: int, words: str) -> None:
         """Releases an object, unless the server is known to be gone."""
         self._used.release(name)
         self._alive.pop(name, None)
         if self._connection.fault is None:
-            self.tell(f"release {words}", wire.release, name)
+            self._tell(f"release {words}", wire.release, name)
 
-    def references_of(self, call: Call) -> List[Optional[bytes]]:
+    def _references_of(self, call: Call) -> List[Optional[bytes]]:
         """Returns the references of a call's operands, as frames have them; None for an operand
         that is absent."""
-        self.look_at(call.name, *call.operands, words=call)
-        return [None if operand is None else operand.reference for operand in call.operands]
+        self._look_at(call.name, *call.operands, words=call)
+        return [None if operand is None else operand._reference for operand in call.operands]
 
-    def look_at(self, what: str, *operands: Any, words: object = None) -> None:
+    def _look_at(self, what: str, *operands: Any, words: object = None) -> None:
         """Raises TypeError if an operand isn't an object, and InvalidScope if it is of another
         context."""
         for operand in operands:
@@ -476,8 +487,8 @@ class Context(Uncopied):
 
     def _limit_for(self, size: int) -> Explain:
         """Returns an Explain that says which limit a new object of this many bytes exceeds."""
-        return lambda code: ("" if code != wire.NO_RESOURCES
-                             else self._used.fault(size, self._server.quota))
+        return lambda code: Fault("" if code != wire.NO_RESOURCES
+                                  else self._used.fault(size, self._server.quota))
 
     def _frame(self, words: str, make: Callable[..., bytes], arguments: Sequence[Any],
                content: int) -> bytes:
@@ -499,6 +510,10 @@ class Context(Uncopied):
             self._connection.wait(request)
         error = request.error
         if error is not None:
+            pipeline = self._open_pipeline()
+            if pipeline is not None:
+                # It was noted if the reply had come before this call.
+                pipeline._stretch.drop(request)
             raise error
         return request.take_reply()
 
@@ -531,7 +546,7 @@ class Context(Uncopied):
 
     @property
     def _why_closed(self) -> Optional[str]:
-        return "the context was closed" if self._is_closed else self._server.why_closed
+        return "the context was closed" if self._is_closed else self._server._ended_by
 
     def close(self) -> None:
         """
@@ -542,13 +557,13 @@ class Context(Uncopied):
             self._pipeline, is_released = None, False
             try:
                 if self._connection.fault is None:
-                    self.tell("release the context", wire.release_context)
+                    self._tell("release the context", wire.release_context)
                     is_released = True
             finally:
                 self._is_closed = True
-                self._server.give_back(self, is_released)
+                self._server._give_back(self, is_released)
 
-    def close_within(self, thing: Any, error: Optional[BaseException]) -> None:
+    def _close_within(self, thing: Any, error: Optional[BaseException]) -> None:
         """
         Closes an object, or this context, at the end of its `with`. An error within the `with`
         isn't replaced by an error of the closing. After an interruption, such as KeyboardInterrupt,
@@ -559,7 +574,7 @@ class Context(Uncopied):
         if isinstance(error, GeneratorExit) and not may_send(self._server):
             # An object of the generator is released when Python frees it.
             if thing is self:
-                self._server.leave(self)
+                self._server._leave(self)
             return
         try:
             thing.close()
@@ -572,7 +587,7 @@ class Context(Uncopied):
 
     def __exit__(self, kind: Optional[Type[BaseException]], error: Optional[BaseException],
                  trace: Optional[TracebackType]) -> None:
-        self.close_within(self, error)
+        self._close_within(self, error)
 
     async def run(self, function: Callable[..., Value], *arguments: Any) -> Value:
         """Runs a function that uses this context in a thread, and awaits it, so that other tasks of
@@ -607,7 +622,8 @@ def may_send(server: Server) -> bool:
     return frame is None
 
 
-_AN_OUTPUT = ("a threshold's true or false value", BYTE, "a whole number from 0 to 255")
+_AN_OUTPUT = ("a threshold's true or false value", BYTE,
+              PARAMETER_RANGES["threshold.true_value"].whole)
 
 
 def two_limits(between: Any) -> Tuple[Any, Any]:
@@ -639,7 +655,7 @@ def coefficient_of(value: Any) -> int:
     a whole number from -32768 to 32767."""
     try:
         return within(value, "a coefficient of a convolution", SIGNED,
-                      "a whole number from -32768 to 32767")
+                      PARAMETER_RANGES["convolution.coefficient"].whole)
     except TypeError as error:
         raise TypeError(f"{error}: multiply all coefficients by a power of 2, round them, and give "
                         "that power as the scale, as in context.convolution("

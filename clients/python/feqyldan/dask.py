@@ -15,8 +15,9 @@ from typing import TYPE_CHECKING, Any, Callable, Dict, Iterable, List, NamedTupl
 
 from .context import Context
 from .errors import FeqyldanError, ServerEnded
-from .graphs import Graph
+from .graphs import Graph, kept_by
 from .images import AnyImage
+from .log import LOG
 from .samples import is_array, numpy_module, of_two_sides, samples_of
 from .server import Server
 
@@ -51,9 +52,9 @@ def map_pictures(client: Client, graph: Build, pictures: Iterable[Any], *,
     It is called as graph(context, width, height), in samples, and returns the graph, the image that
     each picture is written to, and the image that is read after the run. A worker calls it for each
     size, and again for each further graph that has to run at the same time. A worker may reuse what
-    the function returned. So if a graph keeps something from one picture to the next, for example
-    by a delay, its outputs depend on how dask distributes the pictures. Objects that no node uses
-    are dropped when the function returns.
+    the function returned. Objects that no node uses are dropped when the function returns. A graph
+    with a delay or with sums keeps something from one picture to the next, so it can't be spread
+    over servers: its pictures fail with ValueError.
 
     `pictures` are NumPy arrays of shape (height, width), rows of numbers, or futures of them. The
     picture of a future never passes through the client. Other pictures are sent with their task.
@@ -113,10 +114,14 @@ class Line(NamedTuple):
 
 def line_of(context: Context, built: Any) -> Line:
     """Returns the line of what a job's function has built. Raises TypeError if that isn't a tuple
-    of three that begins with a graph."""
+    of three that begins with a graph, and ValueError if the graph needs every picture."""
     if not (isinstance(built, tuple) and len(built) == 3 and isinstance(built[0], Graph)):
         raise TypeError("the function that builds the graph must return a tuple of the graph, its "
                         f"input image and its output image, not {built!r}")
+    kept = kept_by(built[0])
+    if kept:
+        raise ValueError(f"{built[0]} keeps {kept} from one picture to the next, and each worker "
+                         "gets only some of the pictures: run it on one server by graph.stream()")
     return Line(context, *built)
 
 
@@ -223,6 +228,7 @@ def drop(worker: WorkerServer) -> None:
     Drops a server that has ended: the next picture starts another server. The ended one isn't
     closed here, so that other threads that use it learn why it ended.
     """
+    LOG.warning("%r has ended: the next picture starts another server", worker.server)
     with SERVERS_LOCK:
         for key in [key for key, other in SERVERS.items() if other is worker]:
             del SERVERS[key]

@@ -65,9 +65,9 @@ def drawing_of(calls: Mapping[int, Call]) -> Drawing:
 
 def _key_of(drawing: Drawing, operand: Any) -> str:
     """Returns the key of an object. Its box is added if the drawing doesn't have it yet."""
-    key = f"object{operand.reference.hex()}"
-    kind = "virtual" if operand.is_virtual else "object"
-    drawing.boxes.setdefault(key, Box(key, operand.title, operand.about, kind))
+    key = f"object{operand._reference.hex()}"
+    kind = "virtual" if operand._is_virtual else "object"
+    drawing.boxes.setdefault(key, Box(key, operand._title, operand._about, kind))
     return key
 
 

@@ -2,9 +2,10 @@
 
 from __future__ import annotations
 
-from typing import Dict, Optional, Tuple, Type
+from typing import Any, Dict, NamedTuple, Optional, Tuple, Type
 
 from . import wire
+from .ranges import PARAMETER_RANGES, SHIFTS, SIDES_OF_CONVOLUTIONS
 
 
 class FeqyldanError(Exception):
@@ -63,29 +64,51 @@ class UnexpectedReply(FeqyldanError):
     """The bytes that were read aren't a reply to the request: the other end isn't this server."""
 
 
+class Fault(NamedTuple):
+    """
+    The cause of a refusal in words. For a graph, `nodes` are the numbers of the nodes at fault,
+    such as those of a cycle, and `operand` is the parameter at fault of the last of them. Each is
+    empty if it isn't known.
+    """
+
+    words: str = ""
+    nodes: Tuple[int, ...] = ()
+    operand: str = ""
+
+
 class Refused(FeqyldanError):
     """
     The server refused a request, which has changed nothing. `code` is the number of the status
     code, `name` its name in docs/wire.md, `request` the request in words, `advice` what to do.
-    `place` is the call in its pipeline, and `fault` the fault of a graph; each is empty if it isn't
-    known.
+    `place` is the call in its pipeline, and `fault` the fault of a graph in words. `nodes` are the
+    numbers of the nodes at fault, and `operand` the parameter at fault of the last of them. Each is
+    empty if it isn't known.
     """
 
     code = -1
     advice = "This package doesn't know the code: use the package of the server's version."
 
     def __init__(self, request: str, op: Optional[int] = None, advice: Optional[str] = None,
-                 place: str = "", fault: str = "") -> None:
+                 place: str = "", fault: str = "", nodes: Tuple[int, ...] = (),
+                 operand: str = "") -> None:
         self.request, self.name = request, wire.CODES[self.code]
-        self.place, self.fault = place, fault
+        self.place, self.fault, self.nodes, self.operand = place, fault, nodes, operand
         self.advice = ADVICE.get((self.code, op), self.advice) if advice is None else advice
         where = f" ({place})" if place else ""
         words = f"{request}{where}: {self.name}.", fault, self.advice
         super().__init__(" ".join(filter(None, words)))
 
-    def __reduce__(self) -> Tuple[Type[Refused], Tuple[str, None, str, str, str]]:
+    def in_words(self, request: Optional[str] = None, more: str = "") -> Refused:
+        """Returns the same refusal with the request in other words, or with more words about its
+        fault."""
+        fault = " ".join(filter(None, (self.fault, more)))
+        return type(self)(request or self.request, None, self.advice, self.place, fault,
+                          self.nodes, self.operand)
+
+    def __reduce__(self) -> Tuple[Type[Refused], Tuple[Any, ...]]:
         # For pickle, which by default would pass the message as the request.
-        return type(self), (self.request, None, self.advice, self.place, self.fault)
+        return type(self), (self.request, None, self.advice, self.place, self.fault, self.nodes,
+                            self.operand)
 
 
 class NoMemory(Refused):
@@ -117,12 +140,12 @@ class InvalidFormat(Refused):
     advice = "The function doesn't take this combination of formats."
 
 
-class InvalidDimension(Refused):
+class InvalidDimension(Refused, ValueError):
     code = wire.INVALID_DIMENSION
     advice = "All images of one call must have the same size."
 
 
-class InvalidValue(Refused):
+class InvalidValue(Refused, ValueError):
     code = wire.INVALID_VALUE
     advice = "A number is out of range: the call's docstring gives the range."
 
@@ -194,7 +217,10 @@ OWN_CLASSES: Dict[Tuple[int, Optional[int]], Type[Refused]] = {
 }
 
 # Advice for a code in the reply to a certain op.
-_SIDES = "An image has from 1 to {0} columns, and from 1 to {0} rows.".format(wire.GREATEST_SIDE)
+_SIDES = (f"An image has from {PARAMETER_RANGES['image.width']} columns, and from "
+          f"{PARAMETER_RANGES['image.height']} rows.")
+_SIDES_OF_CONVOLUTIONS = (f"{', '.join(map(str, SIDES_OF_CONVOLUTIONS[:-1]))} or "
+                          f"{SIDES_OF_CONVOLUTIONS[-1]}")
 _SIZE_OF_A_PICTURE = ("The picture must have the size of the image: write another one, or create "
                       "an image of this size.")
 _OF_A_NODE = ("The images of a node differ in size. A virtual image without a size gets it from "
@@ -202,8 +228,8 @@ _OF_A_NODE = ("The images of a node differ in size. A virtual image without a si
 _FORMATS_OF_A_NODE = ("The function doesn't take these formats. A virtual image without a format "
                       "gets it from the node that writes it.")
 _OF_A_CALL = "A border must be vx.UNDEFINED, vx.REPLICATE or vx.constant(value)."
-_SHIFTS = ("A shift is out of range: multiply and accumulate_square take 0 to 15, convert_depth 0 "
-           "to 7.")
+_SHIFTS = ("A shift is out of range. The ranges are "
+           f"{', '.join(f'{shift} for {function}' for function, shift in SHIFTS.items())}.")
 _NO_NODES = ("The graph's virtual images need more than the work bytes: use smaller pictures, or "
              "start the server with more work bytes, as in vx.Server(work=2**30).")
 ADVICE: Dict[Tuple[int, Optional[int]], str] = {
@@ -219,7 +245,8 @@ ADVICE: Dict[Tuple[int, Optional[int]], str] = {
     (wire.INVALID_DIMENSION, wire.WRITE_IMAGE): _SIZE_OF_A_PICTURE,
     (wire.INVALID_DIMENSION, wire.WRITE_IMAGE_PGM): _SIZE_OF_A_PICTURE,
     (wire.INVALID_DIMENSION, wire.CREATE_CONVOLUTION):
-        "A convolution must have 3, 5, 7 or 9 rows, and 3, 5, 7 or 9 columns.",
+        f"A convolution must have {_SIDES_OF_CONVOLUTIONS} rows, and {_SIDES_OF_CONVOLUTIONS} "
+        "columns.",
     (wire.INVALID_FORMAT, wire.WRITE_IMAGE):
         "The samples must have the format of the image: uint8 for U8, int16 for S16, uint32 for "
         "U32.",
@@ -248,9 +275,12 @@ ADVICE: Dict[Tuple[int, Optional[int]], str] = {
     (wire.INVALID_VALUE, wire.ADD_NODE): _SHIFTS,
     (wire.INVALID_VALUE, wire.IMMEDIATE): _SHIFTS,
     (wire.INVALID_VALUE, wire.CREATE_CONVOLUTION): "The scale must be a power of 2 up to 2^31.",
-    (wire.INVALID_VALUE, wire.CREATE_DELAY): "A delay has from 1 to 16 slots.",
+    (wire.INVALID_VALUE, wire.CREATE_DELAY):
+        f"A delay has from {PARAMETER_RANGES['delay.slots']} slots.",
     (wire.INVALID_VALUE, wire.CREATE_DISTRIBUTION):
-        "There are from 1 to 256 bins, the offset is from 0 to 255 and the range from 1 to 256.",
+        f"There are from {PARAMETER_RANGES['distribution.bins']} bins, the offset is from "
+        f"{PARAMETER_RANGES['distribution.offset']} and the range from "
+        f"{PARAMETER_RANGES['distribution.range']}.",
     (wire.NO_RESOURCES, wire.ADD_NODE): "A graph has at most 256 nodes.",
     (wire.INVALID_GRAPH, wire.IMMEDIATE):
         "The call reads an image that it writes: give it another output.",
@@ -260,6 +290,6 @@ ADVICE: Dict[Tuple[int, Optional[int]], str] = {
 
 
 def refusal(code: int, request: str, op: Optional[int], place: str = "",
-            fault: str = "") -> Refused:
+            fault: Fault = Fault()) -> Refused:
     """Returns the exception for a reply with a code that isn't 0."""
-    return OWN_CLASSES.get((code, op), CLASSES[code])(request, op, place=place, fault=fault)
+    return OWN_CLASSES.get((code, op), CLASSES[code])(request, op, None, place, *fault)

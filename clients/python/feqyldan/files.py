@@ -1,52 +1,108 @@
-"""Reads and writes picture files: PGM and PNG by this package, .npy by NumPy, and others by OpenCV
-or PIL, if one of them is installed."""
+"""
+Reads and writes picture files: PGM and PNG by this package, .npy by NumPy, and others by OpenCV or
+PIL, if one of them is installed. These libraries get and return bytes and never a file's name,
+because OpenCV crashes on a name that isn't UTF-8, and doesn't notice a full disk.
+"""
 
 from __future__ import annotations
 
 import importlib
+import io
 import os
-from typing import Any
+import re
+from typing import Any, Callable, Dict, List
 
 from .errors import NotAPicture, WrongPicture
-from .pictures import HEADER, Path, read_bytes, size_of_pgm, write_npy, write_pgm, write_png
-from .samples import Format, Readable, needed_numpy, numpy_module
+from .pgm import TOO_GREAT, is_pgm, pixels_of
+from .pictures import npy, pgm, png
+from .samples import Readable, needed_numpy, numpy_module
+from .storage import Path, name_of_file, naming, read_bytes, write_bytes
+from .wire import GREATEST_SIDE
+
+# The first bytes of files of some kinds.
+NPY, PNG, JPEG = b"\x93NUMPY", b"\x89PNG\r\n\x1a\n", b"\xff\xd8\xff"
+# A marker of a JPEG file. Within samples 0xff is followed by 0, or by 0xd0 to 0xd7.
+MARKER = re.compile(rb"\xff+([\x01-\xcf\xd8-\xfe])")
+END_OF_JPEG = b"\xd9"
 
 
-def load(path: Path) -> Any:
+def load(path: Path, scale: bool = False) -> Any:
     """
-    Returns the picture in a file, as OpenCV, PIL or NumPy read it: a grey array of uint8 or int16.
-    Colours are converted to grey. Raises OSError if the file can't be read, BadPicture if it has no
+    Returns the picture in a file: a grey array of uint8 or int16, or a memoryview of them. Colours
+    are converted to grey. Raises OSError if the file can't be read, BadPicture if it has no
     picture, and ImportError if no installed package reads such files.
     """
-    path = os.fspath(path)
-    # open() says why a file can't be read; OpenCV doesn't.
-    with open(path, "rb"):
-        pass
-    if path.endswith(".npy"):
-        return needed_numpy(f"{path}: reading .npy").load(path)
+    name = name_of_file(path)
+    content = read_bytes(name)
+    with naming(name):
+        return picture_in(content, scale)
+
+
+def picture_in(content: bytes, scale: bool) -> Any:
+    """Returns the picture in the bytes of a file, see load()."""
+    if not content:
+        raise WrongPicture("the file is empty: copy it again")
+    if is_pgm(content):
+        return pixels_of(content, scale)
+    if content.startswith(NPY):
+        pixels = _in_npy(content)
+        return _scaled(pixels) if scale else pixels
+    pixels = _decoded(content)
+    return _scaled(pixels) if scale else _narrowed(pixels)
+
+
+def _in_npy(content: bytes) -> Any:
+    numpy = needed_numpy("reading .npy")
+    try:
+        return numpy.load(io.BytesIO(content), allow_pickle=False)
+    except (ValueError, EOFError, MemoryError) as error:
+        raise WrongPicture(f"this isn't a whole .npy file of numbers: {error}") from None
+
+
+def _decoded(content: bytes) -> Any:
+    """Returns the grey picture that OpenCV or PIL finds in the bytes of a file."""
     cv2, pil = _module("cv2"), _module("PIL.Image")
-    if cv2 is None and pil is None and path.lower().endswith(".pgm"):
-        return pixels_of_pgm(path, read_bytes(path))
     if cv2 is None and pil is None:
-        raise ImportError(f"{path}: reading this needs OpenCV or PIL, and neither is installed: "
-                          "install one, or convert the file to PGM or .npy")
-    return _narrowed(path, _by_cv2(cv2, path) if cv2 is not None else _by_pil(pil, path))
+        raise ImportError("reading this needs OpenCV or PIL, and neither is installed: install "
+                          "one, or convert the file to PGM or .npy")
+    for begin, kind, is_whole in ((PNG, "PNG", is_whole_png), (JPEG, "JPEG", is_whole_jpeg)):
+        if content.startswith(begin) and not is_whole(content):
+            # OpenCV takes a JPEG file that is cut off, and PIL some PNG files.
+            raise WrongPicture(f"this is a {kind} file without its end: it is cut off after "
+                               f"{len(content):,} bytes; copy it again")
+    _look_at_sides(content)
+    pixels = _by_cv2(cv2, content) if cv2 is not None else _by_pil(pil, content)
+    if pixels is None:
+        reader = "PIL" if cv2 is None else "OpenCV"
+        raise WrongPicture(f"this isn't a picture that {reader} can read: is it damaged, or "
+                           "another kind of file?")
+    return pixels
 
 
-def pixels_of_pgm(path: str, text: bytes) -> memoryview:
-    """Returns the samples of a PGM file with samples up to 255, in shape (height, width)."""
-    fmt, width, height = size_of_pgm(text)
-    header = HEADER.match(text)
-    assert header is not None
-    rest = text[header.end():]
-    content = rest[1:] if text[:2] == b"P5" else bytes(map(int, rest.split()))
-    if fmt != Format.U8:
-        raise WrongPicture(f"{path} is a PGM file with a maxval above 255: read it by "
-                           "context.read_pgm(path)")
-    if len(content) < width * height:
-        raise WrongPicture(f"{path} is cut off: {width} by {height} pixels are {width * height:,} "
-                           f"samples, and it has {len(content):,}; copy it again")
-    return memoryview(content[: width * height]).cast("B", (height, width))
+def _look_at_sides(content: bytes) -> None:
+    """Raises BadPicture for a PNG file that is too large for an image, before it is unpacked: a
+    small file can have very many pixels."""
+    width, height = (int.from_bytes(content[at : at + 4], "big") for at in (16, 20))
+    if content.startswith(PNG) and max(width, height) > GREATEST_SIDE:
+        raise WrongPicture(f"it has {width:,} by {height:,} pixels, and an image has at most "
+                           f"{GREATEST_SIDE:,} columns and rows")
+
+
+def is_whole_png(content: bytes) -> bool:
+    """Returns whether the chunks of a PNG file lead to its last one."""
+    at = len(PNG)
+    while at < len(content) and content[at + 4 : at + 8] != b"IEND":
+        at += 12 + int.from_bytes(content[at : at + 4], "big")
+    return at + 12 <= len(content)
+
+
+def is_whole_jpeg(content: bytes) -> bool:
+    """Returns whether the segments of a JPEG file lead to its end."""
+    marker = MARKER.search(content, 2)
+    while marker is not None and marker[1] != END_OF_JPEG:
+        length = int.from_bytes(content[marker.end() : marker.end() + 2], "big")
+        marker = MARKER.search(content, marker.end() + length)
+    return marker is not None
 
 
 def _module(name: str) -> Any:
@@ -57,85 +113,102 @@ def _module(name: str) -> Any:
         return None
 
 
-def _by_cv2(cv2: Any, path: str) -> Any:
-    pixels = cv2.imread(path, cv2.IMREAD_UNCHANGED)
-    if pixels is None:
-        raise unread(path, "OpenCV")
-    if pixels.ndim == 2:
-        return pixels
+def _by_cv2(cv2: Any, content: bytes) -> Any:
     kinds = {3: cv2.COLOR_BGR2GRAY, 4: cv2.COLOR_BGRA2GRAY}
-    return cv2.cvtColor(pixels, kinds[pixels.shape[2]])
-
-
-def _by_pil(pil: Any, path: str) -> Any:
     try:
-        with pil.open(path) as picture:
+        pixels = cv2.imdecode(numpy_module().frombuffer(content, "uint8"), cv2.IMREAD_UNCHANGED)
+        if pixels is None or pixels.ndim == 2:
+            return pixels
+        return cv2.cvtColor(pixels, kinds[pixels.shape[2]])
+    except (cv2.error, KeyError):
+        return None
+
+
+def _by_pil(pil: Any, content: bytes) -> Any:
+    numpy = numpy_module()
+    try:
+        with pil.open(io.BytesIO(content)) as picture:
             # "I;16B" and the like are 16 bits in some byte order.
             is_grey = picture.mode in ("L", "F") or picture.mode.startswith("I")
-            grey = picture if is_grey else picture.convert("L")
-            pixels = needed_numpy(path).asarray(grey)
-    except (OSError, SyntaxError):
-        # PIL raises these for a file that is truncated or damaged.
-        raise unread(path, "PIL") from None
-    return pixels
+            pixels = numpy.asarray(picture if is_grey else picture.convert("L"))
+    except Exception:
+        # PIL raises errors of many classes for a file that is truncated or damaged.
+        return None
+    is_wide = pixels.dtype.kind == "i" and pixels.min() >= 0 and pixels.max() <= 65535
+    # PIL holds unsigned samples of 16 bits in 32.
+    return pixels.astype(numpy.uint16) if is_wide else pixels
 
 
-# The first and the last bytes of files in some formats.
-ENDS = {b"\x89PNG\r\n\x1a\n": (b"IEND", "PNG"), b"\xff\xd8\xff": (b"\xff\xd9", "JPEG")}
-
-
-def unread(path: str, reader: str) -> WrongPicture:
-    """Returns the exception for a file that has no picture."""
-    content = read_bytes(path)
-    if not content:
-        return WrongPicture(f"{path} is empty: copy it again")
-    for begin, (end, kind) in ENDS.items():
-        if content.startswith(begin) and end not in content[-64:]:
-            return WrongPicture(f"{path} is a {kind} file without its end: it is cut off after "
-                                f"{len(content):,} bytes; copy it again")
-    return WrongPicture(f"{path} isn't a picture that {reader} can read: is it damaged, or another "
-                        "kind of file?")
-
-
-def _narrowed(path: str, pixels: Any) -> Any:
+def _narrowed(pixels: Any) -> Any:
     """Converts samples of 16 bits or more to int16. Raises BadPicture if they don't fit."""
     numpy = numpy_module()
     if pixels.dtype.kind in "iu" and pixels.dtype.itemsize > 1:
         least, greatest = int(pixels.min()), int(pixels.max())
         if least < -32768 or greatest > 32767:
-            raise NotAPicture(f"{path} has samples from {least} to {greatest}, and S16 holds those "
-                              "from -32768 to 32767: read it by cv2.imread(path, "
-                              "cv2.IMREAD_UNCHANGED), and write (array >> 1).astype(numpy.int16)")
+            raise NotAPicture(f"it has samples from {least} to {greatest}, and {TOO_GREAT}")
         return pixels.astype(numpy.int16)
     return pixels
 
 
+def _scaled(pixels: Any) -> Any:
+    """Converts samples to uint8: the greatest number of their type becomes 255."""
+    numpy = numpy_module()
+    if pixels.dtype.kind != "u" or pixels.dtype.itemsize > 2:
+        raise NotAPicture("scale=True takes unsigned samples of 8 or 16 bits, and these are "
+                          f"{pixels.dtype}: load the file without it, and scale the array")
+    greatest = numpy.iinfo(pixels.dtype).max
+    return (pixels * (255.0 / greatest)).round().astype(numpy.uint8)
+
+
 def save(path: Path, picture: Any) -> None:
     """Writes an image or an array to a file in the format of the name's extension."""
-    path = os.fspath(path)
+    name = name_of_file(path)
     pixels = picture.read() if isinstance(picture, Readable) else picture
-    ending = os.path.splitext(path)[1].lower()
-    if ending == ".pgm":
-        write_pgm(path, pixels)
-    elif ending == ".png":
-        write_png(path, pixels)
-    elif ending == ".npy":
-        write_npy(path, pixels)
-    else:
-        _save_by_others(path, ending, pixels)
+    ending = os.path.splitext(name)[1].lower()
+    makers: Dict[str, Callable[[Any], List[Any]]] = {
+        ".pgm": pgm, ".png": lambda pixels: [png(pixels)], ".npy": npy}
+    with naming(name):
+        parts = makers[ending](pixels) if ending in makers else [_encoded(ending, pixels)]
+    write_bytes(name, parts)
 
 
-def _save_by_others(path: str, ending: str, pixels: Any) -> None:
+def _encoded(ending: str, pixels: Any) -> bytes:
+    """Returns the bytes of a file of another format, by OpenCV or PIL. Raises ValueError if it
+    can't hold the samples."""
     cv2, pil = _module("cv2"), _module("PIL.Image")
     if cv2 is None and pil is None:
-        raise ImportError(f"{path}: writing {ending or 'a file without an ending'} needs OpenCV or "
-                          "PIL, and neither is installed: install one, or write .pgm, .png or .npy")
-    if cv2 is None:
-        pil.fromarray(pixels).save(path)
-        return
+        raise ImportError(f"writing {ending or 'a file without an ending'} needs OpenCV or PIL, "
+                          "and neither is installed: install one, or write .pgm, .png or .npy")
     try:
-        done = cv2.imwrite(path, pixels)
+        content = _cv2_file(cv2, ending, pixels) if cv2 is not None else (
+            _pil_file(pil, ending, pixels))
+        there = _decoded(content) if pixels.dtype.itemsize > 1 else pixels
+    except WrongPicture:
+        there = None
+    if there is None or there.dtype.itemsize < pixels.dtype.itemsize or (there != pixels).any():
+        # OpenCV clips wide samples to 8 bits for formats that have no more.
+        raise ValueError(f"{ending} can't hold the {pixels.dtype} samples of this picture: save it "
+                         "as .npy, or convert_depth it to U8")
+    return content
+
+
+def _cv2_file(cv2: Any, ending: str, pixels: Any) -> bytes:
+    try:
+        is_done, content = cv2.imencode(ending, pixels)
     except cv2.error as error:
-        raise ValueError(f"{path}: OpenCV can't write this picture: {error}") from None
-    if not done:
-        raise OSError(f"{path}: OpenCV couldn't write it: is the folder there, and writable?")
+        raise ValueError(f"OpenCV can't write this picture as {ending or 'a file without ending'}: "
+                         f"{' '.join(str(error).split())}") from None
+    if not is_done:
+        raise ValueError(f"OpenCV can't write this picture as {ending}")
+    encoded: bytes = content.tobytes()
+    return encoded
+
+
+def _pil_file(pil: Any, ending: str, pixels: Any) -> bytes:
+    target = io.BytesIO()
+    try:
+        pil.fromarray(pixels).save(target, pil.registered_extensions()[ending])
+    except (KeyError, OSError, TypeError) as error:
+        raise ValueError(f"PIL can't write this picture as {ending or 'a file without ending'}: "
+                         f"{error}") from None
+    return target.getvalue()

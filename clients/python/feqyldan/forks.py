@@ -19,7 +19,7 @@ class Forked:
 
     __slots__ = ()
 
-    def lose(self) -> None:
+    def _lose(self) -> None:
         """Closes the child's copies of the parent's connections, and sends nothing to the server.
         No other thread runs meanwhile."""
         raise NotImplementedError
@@ -33,7 +33,7 @@ HELD: weakref.WeakSet[Forked] = weakref.WeakSet()
 def _in_child() -> None:
     try:
         for thing in list(HELD):
-            thing.lose()
+            thing._lose()
     finally:
         OPENING.release()
 

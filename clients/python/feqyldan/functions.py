@@ -22,6 +22,7 @@ from .errors import InvalidParameters
 from .hints import OTHERS, attribute_of
 from .images import AnyImage
 from .objects import Convolution, Distribution, Lut, MinMax, Named, Threshold
+from .ranges import NO_SHIFT, PARAMETER_RANGES, SHIFTS
 from .whole import BYTE, within
 
 if TYPE_CHECKING:
@@ -64,7 +65,7 @@ def constant(value: int) -> Border:
     """Returns the border mode in which a window sees this value, from 0 to 255, outside the valid
     pixels."""
     return Border(wire.CONSTANT,
-                  within(value, "a border's value", BYTE, "a whole number from 0 to 255"))
+                  within(value, "a border's value", BYTE, PARAMETER_RANGES["border"].whole))
 
 
 class Function(NamedTuple):
@@ -121,14 +122,24 @@ def functions_for_names(before: str) -> Dict[str, str]:
 
 def order_of(name: str) -> str:
     """Returns a function's name and parameters in order, in words."""
-    parameters = list(inspect.signature(getattr(Functions, name)).parameters)[1:]
-    return f"{name}({', '.join(parameters)})"
+    return f"{name}({', '.join(parameters_of(name))})"
 
 
 def place_of(name: str, parameter: str) -> str:
     """Returns the position of a parameter among a function's arguments, in words."""
     parameters = list(inspect.signature(getattr(Functions, name)).parameters)
     return f"it is argument {parameters.index(parameter)} of {order_of(name)}"
+
+
+# The index of each parameter among the operands of a call.
+OPERANDS = {"input": 0, "in1": 0, "in2": 1, "threshold": 1, "lut": 1, "convolution": 1, "output": 2,
+            "accum": 2, "distribution": 2, "extremes": 2, "output_x": 2, "output_y": 3}
+
+
+@functools.lru_cache(maxsize=None)
+def parameters_of(function: str) -> Tuple[str, ...]:
+    """Returns the names of a function's parameters."""
+    return (*inspect.signature(getattr(Functions, function)).parameters,)[1:]
 
 
 class Call(NamedTuple):
@@ -179,8 +190,7 @@ def call_of(name: str, operands: Tuple[Optional[Union[Operand, Named]], ...], po
         raise TypeError(f"{name}: a shift must be a whole number, not the policy vx.{amount.name}; "
                         f"{place_of(name, 'shift')}")
     return Call(name, operands, policy,
-                within(amount, f"{name}: a shift", BYTE,
-                       "a whole number up to 15, of convert_depth up to 7"), border)
+                within(amount, f"{name}: a shift", BYTE, SHIFTS.get(name, NO_SHIFT).whole), border)
 
 
 def not_a_policy(name: str, value: Any) -> Exception:

@@ -14,31 +14,29 @@ parameters.
        {"function": "threshold", "input": "away", "threshold": "limit", "output": "marks"}]}
 
 A slot of a delay is written as `smooth[0]` or `smooth[-1]`. An image may have a valid rectangle, as
-`"valid": [x0, y0, x1, y1]`. FIELDS lists the fields of each kind of object; a file with any other
-field is refused.
+`"valid": [x0, y0, x1, y1]`, and one value for all samples, as `"fill": 0`. FIELDS lists the fields
+of each kind of object; a file with any other field is refused.
 """
 
 from __future__ import annotations
 
-import base64
 import contextlib
-import inspect
-import json
 import os
 import re
-import zlib
 from typing import (
-    TYPE_CHECKING, Any, ContextManager, Dict, Iterator, List, NamedTuple, Optional, Sequence,
-    Tuple)
+    TYPE_CHECKING, Any, ContextManager, Dict, Iterator, List, NamedTuple, Optional, Sequence, Tuple)
 
 from . import wire
 from .drawing import Box, Drawing
-from .errors import FeqyldanError
-from .functions import FUNCTIONS, REPLICATE, UNDEFINED, Border, Call, Functions, Policy, constant
+from .errors import FeqyldanError, Refused
+from .functions import (
+    FUNCTIONS, OPERANDS, REPLICATE, UNDEFINED, Border, Call, Policy, constant, parameters_of)
 from .images import AnyImage, Delay, Image, Slot
+from .json_files import contents_of, packed, text_of, unpacked
 from .objects import Convolution, Distribution, Lut, MinMax, Named, Threshold
-from .pictures import Path
 from .samples import Format, samples_of
+from .storage import Path, name_of_file, write_bytes
+from .usage import MOST_OBJECTS
 from .verdicts import ADDING
 
 if TYPE_CHECKING:
@@ -46,12 +44,51 @@ if TYPE_CHECKING:
     from .graphs import Graph, VirtualImage
 
 VERSION = 1
+# The most nodes of a graph.
+MOST_NODES = 256
 SLOT = re.compile(r"(.+)\[(0|-[0-9]+)\]")
 
 
+class Place(NamedTuple):
+    """A place in a graph file: an object by its name, or a node by its position, from 1."""
+
+    object: str = ""
+    node: int = 0
+
+    def __str__(self) -> str:
+        return f"node {self.node}" if self.node else f'object "{self.object}"'
+
+
 class GraphFileError(FeqyldanError, ValueError):
-    """A file doesn't describe a graph. The message names the object or the node, and what is
-    wrong."""
+    """
+    A file doesn't describe a graph. The message names the object or the node, and what is wrong,
+    which `words` says alone. `object` is the object's name, or `node` the node's position in the
+    file, from 1, and `operand` the node's parameter at fault. `code` is the name of the server's
+    status code, and `advice` what to do. Each is empty, or 0, if it isn't known.
+    """
+
+    def __init__(self, path: Path, words: str, place: Place = Place(), code: str = "",
+                 operand: str = "", advice: str = "") -> None:
+        self.path, self.words, self.place = path, words, place
+        self.object, self.node = place
+        self.code, self.operand, self.advice = code, operand, advice
+        text = ": ".join(filter(None, (str(path), str(place) if any(place) else "", words)))
+        super().__init__(text)
+
+    def __reduce__(self) -> Tuple[Any, ...]:
+        # For pickle, which by default would pass the message as the path.
+        return type(self), (self.path, self.words, self.place, self.code, self.operand, self.advice)
+
+
+def fault_at(path: Path, place: Place, error: Exception) -> GraphFileError:
+    """Returns an error in reading a place of a file as a fault of the file."""
+    if isinstance(error, KeyError):
+        parameter = str(error.args[0])
+        return GraphFileError(path, f"{parameter!r} is missing", place,
+                              operand=parameter if place.node else "")
+    if isinstance(error, Refused):
+        return GraphFileError(path, str(error), place, error.name, error.operand, error.advice)
+    return GraphFileError(path, str(error), place)
 
 
 class GraphFile(NamedTuple):
@@ -68,25 +105,24 @@ class GraphFile(NamedTuple):
 
 def write_graph(graph: Graph, path: Path, inputs: Optional[Sequence[AnyImage]]) -> None:
     """Writes a graph and its objects to a file, see Graph.save()."""
-    written = {operand.reference for call in graph.calls.values() for operand in call.operands[2:]
+    written = {operand._reference for call in graph._calls.values() for operand in call.operands[2:]
                if operand is not None}
     names = Names(graph)
-    chosen = {image.reference for image in _inputs_of(graph, written, inputs)}
+    chosen = {image._reference for image in _inputs_of(graph, written, inputs)}
     objects = {name: _description(thing, graph, written, chosen)
                for name, thing in names.things.items()}
-    nodes = [_node(call, names) for call in graph.calls.values()]
-    text = json.dumps({"feqyldan": VERSION, "objects": objects, "nodes": nodes}, indent=1)
-    with open(path, "w", encoding="utf-8") as file:
-        file.write(text + "\n")
+    nodes = [_node(call, names) for call in graph._calls.values()]
+    text = graph_text({"feqyldan": VERSION, "objects": objects, "nodes": nodes})
+    write_bytes(path, [text.encode()])
 
 
 def _inputs_of(graph: Graph, written: Any,
                inputs: Optional[Sequence[AnyImage]]) -> Sequence[AnyImage]:
     if inputs is not None:
         return _checked_inputs(graph, inputs)
-    found = {operand.reference: operand for call in graph.calls.values()
+    found = {operand._reference: operand for call in graph._calls.values()
              for operand in call.operands[:2]
-             if isinstance(operand, Image) and operand.reference not in written}
+             if isinstance(operand, Image) and operand._reference not in written}
     if len(found) > 1:
         raise ValueError(f"{graph} reads {len(found)} images that none of its nodes writes "
                          f"({', '.join(map(str, found.values()))}): name those that get a picture "
@@ -114,10 +150,10 @@ def fault_of_input(graph: Graph, image: Any) -> str:
                 "slot) copy it from an image, which is the input")
     if not isinstance(image, Image) or image.context is not graph.context:
         return "an input must be an image of the graph's context"
-    for member in graph.members:
-        if any(cell.reference == image.reference for cell in member.outputs):
+    for member in graph._members:
+        if any(cell.reference == image._reference for cell in member.outputs):
             return f"{member}, writes it"
-    return "" if image.name in graph.reads else "no node reads it"
+    return "" if image.name in graph._reads else "no node reads it"
 
 
 class Names:
@@ -127,14 +163,14 @@ class Names:
     def __init__(self, graph: Graph) -> None:
         self.things: Dict[str, Named] = {}
         self._names: Dict[int, str] = {}
-        for call in graph.calls.values():
+        for call in graph._calls.values():
             for operand in call.operands:
                 if operand is not None:
                     self._enter(operand.delay if isinstance(operand, Slot) else operand)
 
     def _enter(self, thing: Any) -> None:
         if thing.name not in self._names:
-            name = thing.label or f"{thing.kind.replace(' ', '_')}_{thing.name}"
+            name = thing.label or f"{thing._kind.replace(' ', '_')}_{thing.name}"
             if name in self.things or SLOT.fullmatch(name):
                 name = f"{name}_{thing.name}"
             self.things[name] = thing
@@ -147,19 +183,19 @@ class Names:
 
 
 def _description(thing: Any, graph: Graph, written: Any, inputs: Any) -> Dict[str, Any]:
-    described: Dict[str, Any] = {"kind": thing.kind}
+    described: Dict[str, Any] = {"kind": thing._kind}
     if isinstance(thing, (Image, Delay)):
         described.update(format=str(thing.fmt), width=thing.width, height=thing.height)
-    elif thing.is_virtual:
+    elif thing._is_virtual:
         sides = {"width": thing.width, "height": thing.height}
         described.update({"format": str(thing.fmt)} if thing.fmt else {})
         described.update({side: value for side, value in sides.items() if value})
-    if isinstance(thing, Image) and thing.reference in inputs:
+    if isinstance(thing, Image) and thing._reference in inputs:
         described["input"] = True
     elif isinstance(thing, Image):
-        described.update(_content(thing, graph, thing.reference in written))
+        described.update(_content(thing, graph, thing._reference in written))
     elif isinstance(thing, Delay):
-        described.update(slots=len(thing), ages=thing.name in graph.aging)
+        described.update(slots=len(thing), ages=thing.name in graph._aging)
     else:
         described.update(_parameters(thing))
     return described
@@ -168,15 +204,24 @@ def _description(thing: Any, graph: Graph, written: Any, inputs: Any) -> Dict[st
 def _content(image: Image, graph: Graph, is_written: bool) -> Dict[str, Any]:
     """Returns the content of an image that a run depends on: the samples, if no node writes them,
     and the valid rectangle, if no node writes the image or a node adds to it."""
-    is_sum = any(call.name in ADDING and call.operands[2] is image for call in graph.calls.values())
+    is_sum = any(call.name in ADDING and call.operands[2] is image
+                 for call in graph._calls.values())
     content: Dict[str, Any] = {}
     if not is_written:
-        samples = bytes(samples_of(image.read()).content)
-        content["samples"] = base64.b64encode(zlib.compress(samples)).decode()
+        content.update(_samples(image))
     if is_sum or not is_written:
         valid = image.valid
         content.update({} if valid == (0, 0, image.width, image.height) else {"valid": valid})
     return content
+
+
+def _samples(image: Image) -> Dict[str, Any]:
+    """Returns an image's samples: one value if all are the same, else their bytes."""
+    samples = bytes(samples_of(image.read()).content)
+    sample = samples[:image.fmt.sample_bytes]
+    if samples == sample * image.size:
+        return {"fill": int.from_bytes(sample, "big", signed=image.fmt == Format.S16)}
+    return {"samples": packed(samples)}
 
 
 def _parameters(thing: Any) -> Dict[str, Any]:
@@ -194,11 +239,6 @@ def _parameters(thing: Any) -> Dict[str, Any]:
     return {}
 
 
-# The index of each parameter among the operands of a call.
-OPERANDS = {"input": 0, "in1": 0, "in2": 1, "threshold": 1, "lut": 1, "convolution": 1, "output": 2,
-            "accum": 2, "distribution": 2, "extremes": 2, "output_x": 2, "output_y": 3}
-
-
 def _node(call: Call, names: Names) -> Dict[str, Any]:
     node: Dict[str, Any] = {"function": call.name}
     for parameter in parameters_of(call.name):
@@ -212,11 +252,6 @@ def _node(call: Call, names: Names) -> Dict[str, Any]:
         elif call.border != UNDEFINED:
             node[parameter] = "REPLICATE" if call.border == REPLICATE else call.border.value
     return node
-
-
-def parameters_of(function: str) -> List[str]:
-    """Returns the names of a function's parameters."""
-    return [*inspect.signature(getattr(Functions, function)).parameters][1:]
 
 
 def function_of(node: Any) -> str:
@@ -236,15 +271,17 @@ def checked(told: Any, what: str, field: str) -> Dict[str, Any]:
     return told
 
 
+# The errors of reading a place of a file.
+FAULTS = KeyError, TypeError, ValueError, OSError, ImportError, FeqyldanError
+
+
 @contextlib.contextmanager
-def at_place(path: Path, place: str) -> Iterator[None]:
+def at_place(path: Path, place: Place) -> Iterator[None]:
     """Yields once; errors within the `with` name the file and the place in it."""
     try:
         yield
-    except KeyError as error:
-        raise GraphFileError(f"{path}: {place}: {error.args[0]!r} is missing") from None
-    except (TypeError, ValueError, OSError, zlib.error, FeqyldanError) as error:
-        raise GraphFileError(f"{path}: {place}: {error}") from None
+    except FAULTS as error:
+        raise fault_at(path, place, error) from None
 
 
 # ---- drawing
@@ -254,7 +291,7 @@ def drawing_of_file(path: Path) -> Drawing:
     told = told_by(path)
     drawing = Drawing({}, [])
     for number, node in enumerate(told["nodes"], 1):
-        with at_place(path, f"node {number}"):
+        with at_place(path, Place(node=number)):
             _draw_node(drawing, number, node, told["objects"])
     return drawing
 
@@ -285,34 +322,78 @@ def _entered(drawing: Drawing, name: str, objects: Dict[str, Any]) -> str:
 
 def told_by(path: Path) -> Dict[str, Any]:
     """Returns the contents of a graph file. Raises GraphFileError if they lack objects or nodes."""
-    with open(path, "rb") as file:
-        text = file.read()
+    path = name_of_file(path)
     try:
-        told = json.loads(text)
+        told = contents_of(path)
     except ValueError as error:
-        raise GraphFileError(f"{path}: the file isn't JSON: {error}") from None
+        raise GraphFileError(path, str(error)) from None
+    fault = fault_of_contents(told)
+    if fault:
+        raise GraphFileError(path, fault)
+    contents: Dict[str, Any] = told
+    return contents
+
+
+def fault_of_contents(told: Any) -> str:
+    """Returns why a JSON value can't be the contents of a graph file; empty if it can."""
     if not isinstance(told, dict) or told.get("feqyldan") != VERSION:
-        raise GraphFileError(f'{path}: this isn\'t a graph file of version {VERSION}: it lacks '
-                             f'"feqyldan": {VERSION}; Graph.save() writes it')
+        return (f'this isn\'t a graph file of version {VERSION}: it lacks "feqyldan": {VERSION}; '
+                "Graph.save() writes it")
     if not isinstance(told.get("objects"), dict) or not isinstance(told.get("nodes"), list):
-        raise GraphFileError(f'{path}: a graph file needs "objects", by their names, and '
-                             '"nodes", a list')
-    return told
+        return 'a graph file needs "objects", by their names, and "nodes", a list'
+    unknown = [field for field in told if field not in ("feqyldan", "objects", "nodes")]
+    if unknown:
+        return (f"a graph file has no field {unknown[0]!r}; it has 'feqyldan', 'objects' and "
+                "'nodes': leave it out")
+    for things, most in (("objects", MOST_OBJECTS), ("nodes", MOST_NODES)):
+        if len(told[things]) > most:
+            return (f"a graph file has at most {most:,} {things}, and this one has "
+                    f"{len(told[things]):,}")
+    return ""
+
+
+def graph_text(contents: Dict[str, Any]) -> str:
+    """Returns the text of a graph file with these contents, laid out as Graph.save() does. An image
+    keeps its "file". Raises ValueError if load_graph() would refuse the file before it reads an
+    object."""
+    fault = fault_of_contents(contents)
+    if fault:
+        raise ValueError(fault)
+    return text_of(contents).decode()
 
 
 def read_graph(context: Context, path: Path) -> GraphFile:
     """Creates the graph of a file, see Context.load_graph()."""
-    return Reader(context, os.fspath(path)).read(told_by(path))
+    name = name_of_file(path)
+    return Reader(context, name).read(told_by(name))
+
+
+def input_of(graph: GraphFile, path: Path) -> AnyImage:
+    """Returns the input of a graph for `python3 -m feqyldan run`. Raises ValueError unless there is
+    one, and an output."""
+    if len(graph.inputs) != 1 or not graph.outputs:
+        raise ValueError(f"{path}: the graph must have one input (an image with \"input\": true) "
+                         f"and at least one output, not {len(graph.inputs)} and "
+                         f"{len(graph.outputs)}")
+    return next(iter(graph.inputs.values()))
+
+
+def files_in(contents: Dict[str, Any]) -> List[str]:
+    """Returns the picture files that the objects of a graph file name."""
+    return [described["file"] for described in contents["objects"].values()
+            if isinstance(described, dict) and isinstance(described.get("file"), str)]
 
 
 # The fields of each kind of object.
 _IMAGE = ("format", "width", "height")
 FIELDS: Dict[str, Tuple[str, ...]] = {
-    "image": (*_IMAGE, "input", "samples", "file", "valid"), "virtual image": _IMAGE,
+    "image": (*_IMAGE, "input", "samples", "file", "fill", "valid"), "virtual image": _IMAGE,
     "delay": (*_IMAGE, "slots", "ages"),
     "threshold": ("format", "above", "between", "true_value", "false_value"),
     "lookup table": ("format", "entries"), "convolution": ("rows", "scale"),
     "distribution": ("bins", "offset", "range"), "extremes": ()}
+# The fields that are true or false.
+SWITCHES = "input", "ages"
 
 
 class Reader:
@@ -327,24 +408,24 @@ class Reader:
         """Creates everything in the file's contents."""
         objects = told["objects"]
         for name, described in objects.items():
-            with self._at(f'object "{name}"'):
+            with self._at(Place(name)):
                 self._things[name] = self._made(name, described)
         for number, node in enumerate(told["nodes"], 1):
-            with self._at(f"node {number}"):
+            with self._at(Place(node=number)):
                 self._add(node)
         for name, described in objects.items():
             if described.get("ages"):
-                with self._at(f'object "{name}"'):
+                with self._at(Place(name)):
                     self._graph.register_auto_aging(self._things[name])
         inputs = {name: self._things[name] for name, described in objects.items()
                   if described.get("input")}
         for name, thing in inputs.items():
-            with self._at(f'object "{name}"'):
+            with self._at(Place(name)):
                 self._check_input(thing)
         return GraphFile(self._graph, inputs, self._outputs(), self._things)
 
     def _outputs(self) -> Dict[str, Any]:
-        written = self._graph.writes
+        written = self._graph._writes
         return {name: thing for name, thing in self._things.items()
                 if isinstance(thing, (Image, Distribution, MinMax)) and thing.name in written}
 
@@ -353,7 +434,7 @@ class Reader:
         if fault:
             raise ValueError(f"it can't be an input: {fault}")
 
-    def _at(self, place: str) -> ContextManager[None]:
+    def _at(self, place: Place) -> ContextManager[None]:
         return at_place(self._path, place)
 
     def _made(self, name: str, told: Any) -> Any:
@@ -369,6 +450,9 @@ class Reader:
         if unknown:
             raise ValueError(f"the kind {kind!r} has no field {unknown[0]!r}; it has "
                              f"{', '.join(FIELDS[kind]) or 'nothing more'}")
+        for field in SWITCHES:
+            if not isinstance(told.get(field, False), bool):
+                raise ValueError(f'"{field}" must be true or false, not {told[field]!r}')
         return makers[kind](name, told)
 
     def _image(self, name: str, told: Dict[str, Any]) -> Image:
@@ -378,18 +462,20 @@ class Reader:
         return image
 
     def _whole_image(self, name: str, told: Dict[str, Any]) -> Image:
+        if len({"samples", "file", "fill"} & told.keys()) > 1:
+            raise ValueError("give only one of samples, file and fill")
         if "file" in told:
             return self._context.load(os.path.join(os.path.dirname(self._path), told["file"]),
                                       name=name)
         image = self._context.image(format_named(told["format"]), told["width"], told["height"],
                                     name=name)
+        if "fill" in told:
+            image.fill(told["fill"])
         if "samples" in told:
-            content = zlib.decompress(base64.b64decode(told["samples"]))
-            if len(content) != image.size * image.fmt.sample_bytes:
-                raise ValueError(f"its samples have {len(content)} bytes, and {image} needs "
-                                 f"{image.size * image.fmt.sample_bytes}")
-            self._context.tell(f"write samples to {image}", wire.write_image_head, image.reference,
-                               image.fmt, image.width, image.height, content=content)
+            content = unpacked(told["samples"], image.size * image.fmt.sample_bytes)
+            self._context._tell(f"write samples to {image}", wire.write_image_head,
+                                image._reference, image.fmt, image.width, image.height,
+                                content=content)
         return image
 
     def _virtual_image(self, name: str, told: Dict[str, Any]) -> VirtualImage:

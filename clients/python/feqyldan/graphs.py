@@ -12,19 +12,19 @@ from . import wire
 from .errors import OptimizedAway, OrderWarning
 from .functions import Call, Functions
 from .hints import OF_GRAPHS
-from .images import AnyImage, Delay
+from .images import AnyImage, Delay, Slot
 from .objects import (
     Asked, Description, Distribution, Extremes, Made, MinMax, Named, Rectangle, description_of,
-    in_words)
+    in_words, side_of_frame)
 from .samples import Format, Picture, Readable, format_of
 from .uncopied import Uncopied
 from .verdicts import ADDING, Member, explained, member_of, overwritten
-from .whole import UNSIGNED, within
 
 if TYPE_CHECKING:
     from .context import Context
-    from .pictures import Path
     from .profiles import Profile
+    from .storage import Path
+    from .watching import Watch
 
 Frame = TypeVar("Frame")
 
@@ -37,8 +37,8 @@ class VirtualImage(Named, Readable):
     """
 
     __slots__ = ("_declared",)
-    kind = "virtual image"
-    is_virtual = True
+    _kind = "virtual image"
+    _is_virtual = True
 
     def __init__(self, graph: Graph, made: Made, declared: Description) -> None:
         super().__init__(graph.context, made, in_words(*declared[:3]))
@@ -60,7 +60,7 @@ class VirtualImage(Named, Readable):
         """Raises OptimizedAway: only the nodes of its graph can access its samples."""
         raise OptimizedAway(f"read {self}")
 
-    def reading(self) -> NoReturn:
+    def _reading(self) -> NoReturn:
         """Raises OptimizedAway, as read() does."""
         raise OptimizedAway(f"read {self}")
 
@@ -73,11 +73,11 @@ class VirtualImage(Named, Readable):
 
     def query(self) -> Description:
         """Returns the declared description: None for what is open, and an empty valid rectangle."""
-        return self._context.ask(*self.querying())
+        return self._context._ask(*self._querying())
 
-    def querying(self) -> Asked[Description]:
+    def _querying(self) -> Asked[Description]:
         """Returns the request of query(), for a pipeline."""
-        return (f"query {self}", lambda client: wire.query_image(client, self.reference),
+        return (f"query {self}", lambda client: wire.query_image(client, self._reference),
                 description_of, None)
 
 
@@ -106,11 +106,11 @@ class Node(Uncopied):
         """Removes the node from its graph. Does nothing if the node was removed before, or the
         graph was closed."""
         if self._is_there and not self._graph.closed:
-            self._graph.remove(self)
+            self._graph._remove(self)
 
     @property
     def _is_there(self) -> bool:
-        return self._number in self._graph.calls
+        return self._number in self._graph._calls
 
     def __str__(self) -> str:
         return f"node {self._number} of {self._graph}, {self._call}"
@@ -130,12 +130,12 @@ class Graph(Named, Functions[Node]):
     """
 
     __slots__ = ("_virtual_images", "_calls", "_aging")
-    _inner = Named._inner | {"remove", "calls", "uses", "reads", "writes", "members", "aging"}
-    kind = "graph"
+    _kind = "graph"
 
     def __init__(self, context: Context, made: Made) -> None:
         super().__init__(context, made)
         self._virtual_images: weakref.WeakSet[VirtualImage] = weakref.WeakSet()
+        # The call of each node, by its number.
         self._calls: Dict[int, Call] = {}
         # The names of the delays that each run ages.
         self._aging: Set[int] = set()
@@ -146,29 +146,19 @@ class Graph(Named, Functions[Node]):
         return tuple(Node(self, number, call) for number, call in self._calls.items())
 
     @property
-    def calls(self) -> Dict[int, Call]:
-        """The call of each node, by its number."""
-        return self._calls
-
-    @property
-    def aging(self) -> Set[int]:
-        """The names of the delays that each run ages."""
-        return self._aging
-
-    @property
-    def uses(self) -> Set[int]:
+    def _uses(self) -> Set[int]:
         """The names of the objects that nodes use."""
-        return self.reads | self.writes
+        return self._reads | self._writes
 
     @property
-    def reads(self) -> Set[int]:
+    def _reads(self) -> Set[int]:
         """The names of the objects that nodes read; for a slot, that of its delay."""
         return {name_of(operand) for call in self._calls.values()
                 for operand in call.operands[: 3 if call.name in ADDING else 2]
                 if operand is not None}
 
     @property
-    def writes(self) -> Set[int]:
+    def _writes(self) -> Set[int]:
         """The names of the objects that nodes write; for a slot, that of its delay."""
         return {name_of(operand) for call in self._calls.values() for operand in call.operands[2:]
                 if operand is not None}
@@ -178,13 +168,11 @@ class Graph(Named, Functions[Node]):
         """Returns a virtual image of this graph, which passes one node's output to others. A format
         or size that isn't declared is resolved from the node that writes the image. From add,
         subtract, multiply, sobel3x3 and convolve the format is then S16."""
-        allowed = f"a whole number from 1 to {wire.GREATEST_SIDE}, or None where it is open"
-        columns, rows = (None if side is None else within(side, f"a virtual image's {what}",
-                                                          UNSIGNED, allowed)
+        columns, rows = (None if side is None else side_of_frame(side, f"a virtual image's {what}")
                          for side, what in ((width, "width"), (height, "height")))
         declared = Description(None if fmt is None else format_of(fmt), columns, rows,
                                Rectangle(0, 0, 0, 0))
-        number = self._context.create(
+        number = self._context._create(
             f"create a virtual image of {self}", wire.create_virtual_image, self.name,
             *(wire.OPEN if one is None else one for one in declared[:3]))
         image = VirtualImage(self, Made(number, name), declared)
@@ -201,7 +189,7 @@ class Graph(Named, Functions[Node]):
         unless `warn` is False.
         """
         self._judge("verify", wire.verify_graph)
-        for words in overwritten(self.members) if warn else ():
+        for words in overwritten(self._members) if warn else ():
             warnings.warn(words, OrderWarning, stacklevel=2)
 
     def process(self) -> None:
@@ -239,7 +227,8 @@ class Graph(Named, Functions[Node]):
 
         Up to `ahead` further frames are sent before a result has come, and each result is yielded
         as soon as it has come. An error is raised at the frame that failed, after the results of
-        earlier frames: a refusal of one of its requests, BadPicture, or an error of `frames`.
+        earlier frames: a refusal of one of its requests, BadPicture, or an error of `frames`. For a
+        frame that isn't a picture for the camera, the graph doesn't run, nor for later frames.
 
         Lists, tuples and arrays of frames are used as they are. Any other iterator runs in a thread
         of its own, which takes each frame before the previous one was sent. So each frame has to be
@@ -268,6 +257,16 @@ class Graph(Named, Functions[Node]):
         from .graph_files import write_graph
         write_graph(self, path, inputs)
 
+    def watch(self) -> Watch:
+        """
+        Runs each node once by itself, and returns what the nodes wrote, also to virtual images:
+        `graph.watch()[image].value` has the samples, and `.valid` the valid rectangle. The runs
+        use images of their own, so the graph's outputs, sums and delays don't change; these images
+        count towards the quota. Can't be called within a pipeline.
+        """
+        from .watching import watch
+        return watch(self)
+
     def to_dot(self) -> str:
         """Returns the graph in Graphviz's language: nodes, images and other objects."""
         from .drawing import drawing_of
@@ -288,15 +287,15 @@ class Graph(Named, Functions[Node]):
         if not isinstance(delay, Delay):
             raise TypeError(f"register_auto_aging takes a delay, not {type(delay).__name__}")
         words = f"register {delay} for auto-aging with {self}"
-        self._context.look_at(words, delay)
-        self._context.tell(words, wire.register_auto_aging, self.name, delay.name)
+        self._context._look_at(words, delay)
+        self._context._tell(words, wire.register_auto_aging, self.name, delay.name)
         self._aging.add(delay.name)
 
-    def remove(self, node: Node) -> None:
+    def _remove(self, node: Node) -> None:
         """Removes a node, as Node.remove() does."""
         words = f"remove {node}"
         self._calls.pop(node.number, None)
-        self._context.tell(words, wire.remove_node, self.name, node.number)
+        self._context._tell(words, wire.remove_node, self.name, node.number)
 
     def close(self) -> None:
         """Releases the graph with its nodes and its virtual images."""
@@ -314,21 +313,32 @@ class Graph(Named, Functions[Node]):
         return {**super()._others(), **OF_GRAPHS}
 
     @property
-    def members(self) -> Tuple[Member, ...]:
+    def _members(self) -> Tuple[Member, ...]:
         """The nodes with their operands' descriptions, to find the fault of the graph."""
         return tuple(member_of(number, call) for number, call in self._calls.items())
 
     def _judge(self, verb: str, make: Callable[..., bytes]) -> None:
         # In a pipeline the graph may have changed by the time the reply comes.
         calls, work = self._calls.copy(), self._context.server.work
-        self._context.tell(f"{verb} {self}", make, self.name,
-                           explain=lambda code: explained(code, [
+        self._context._tell(f"{verb} {self}", make, self.name,
+                            explain=lambda code: explained(code, [
                                member_of(number, call) for number, call in calls.items()], work))
 
     def _run(self, call: Call) -> Node:
-        number = self._context.add_node(self, call, lambda number: (
+        number = self._context._add_node(self, call, lambda number: (
             self._calls.__setitem__(number, call)))
         return Node(self, number, call)
+
+
+def kept_by(graph: Graph) -> str:
+    """Returns in words what a graph keeps from one run to the next; empty if it keeps nothing."""
+    for call in graph._calls.values():
+        if call.name in ADDING:
+            return f"sums, by {call}"
+        delays = [str(operand.delay) for operand in call.operands if isinstance(operand, Slot)]
+        if delays:
+            return delays[0]
+    return "a delay that it ages" if graph._aging else ""
 
 
 def name_of(operand: Any) -> int:

@@ -3,18 +3,20 @@
 from __future__ import annotations
 
 import struct
-from typing import TYPE_CHECKING, Any, Iterator, Optional, Tuple
+from typing import TYPE_CHECKING, Any, Iterator, Optional, Tuple, Union, overload
 
 from . import wire
 from .connection import Body
-from .errors import FeqyldanError
+from .errors import Fault, FeqyldanError, refusal
 from .files import save
 from .objects import (
     Asked, Description, Made, Named, Rectangle, description_of, in_words, sides_of_frame)
-from .pictures import Path, shown
+from .pgm import fault_of
+from .pictures import shown
 from .samples import (
-    Format, Picture, Readable, Size, dtype_of, needed_numpy, picture_of, place_in, samples_of,
-    turned)
+    Format, Picture, Readable, Samples, Size, dtype_of, needed_numpy, picture_of, place_in,
+    samples_of, turned)
+from .storage import Path
 from .uncopied import Uncopied
 from .whole import UNSIGNED, whole, within
 
@@ -24,6 +26,39 @@ if TYPE_CHECKING:
     from .context import Context
 
 
+class ValidRectangle:
+    """
+    The valid rectangle x0, y0, x1, y1: the columns x0 to x1 - 1 of the rows y0 to y1 - 1. Setting
+    it makes each sample outside it 0; setting a larger rectangle later doesn't restore the samples.
+    A rectangle without pixels is 0, 0, 0, 0.
+    """
+
+    # A property would have one type: mypy would refuse a tuple that is set.
+    @overload
+    def __get__(self, image: None, owner: Any) -> ValidRectangle:
+        ...
+
+    @overload
+    def __get__(self, image: AnyImage, owner: Any) -> Rectangle:
+        ...
+
+    def __get__(self, image: Optional[AnyImage], owner: Any) -> Union[Rectangle, ValidRectangle]:
+        return self if image is None else image.query().valid
+
+    def __set__(self, image: AnyImage, rectangle: Tuple[int, int, int, int]) -> None:
+        try:
+            given = tuple(rectangle)
+        except TypeError:
+            given = ()
+        if len(given) != 4:
+            raise ValueError(f"the valid rectangle of {image} must be (x0, y0, x1, y1), not "
+                             f"{rectangle!r}; (0, 0, {image.width}, {image.height}) is all of it")
+        sides = tuple(within(side, f"a side of {image}'s valid rectangle", UNSIGNED,
+                             f"a whole number up to {wire.GREATEST_SIDE}") for side in given)
+        image.context._tell(f"make {sides} the valid rectangle of {image}", wire.set_valid,
+                            image._reference, sides)
+
+
 class AnyImage(Readable):
     """
     An image of `width` by `height` samples of the format `fmt`, or such an image in a slot of a
@@ -31,7 +66,10 @@ class AnyImage(Readable):
     """
 
     __slots__ = ()
-    is_virtual = False
+    _is_virtual = False
+    # The reference, as frames have it.
+    _reference: bytes
+    valid = ValidRectangle()
 
     @property
     def context(self) -> Context:
@@ -52,11 +90,6 @@ class AnyImage(Readable):
     @property
     def height(self) -> int:
         return self._described.height
-
-    @property
-    def reference(self) -> bytes:
-        """The reference to the image, as frames have it."""
-        raise NotImplementedError
 
     @property
     def shape(self) -> Tuple[int, int]:
@@ -86,24 +119,46 @@ class AnyImage(Readable):
         uint8, int16 or uint32. It may also be bytes or another buffer of that many samples, row by
         row in this machine's byte order, or rows of numbers. Raises BadPicture for anything else.
         """
-        described = self._described
-        fmt, width, height, content = samples_of(samples, described)
-        if (fmt, width, height) != described:
+        self._write_samples(samples_of(samples, self._described))
+
+    def _write_samples(self, given: Samples) -> None:
+        """Replaces all samples by those that samples_of() returned."""
+        fmt, width, height, content = given
+        if (fmt, width, height) != self._described:
             sides_of_frame(width, height)
-        # The same as str(fmt), but faster.
-        words = f"write {width} by {height} {fmt._name_} samples to {self}"
-        self.context.tell(words, wire.write_image_head, self.reference, fmt, width, height,
-                          content=content,
-                          explain=lambda code: "" if code != wire.INVALID_DIMENSION else (
-                              f"The samples have the shape {(height, width)}, and the image "
-                              f"{self.shape}."))
+        self.context._tell(self._words_for(given), wire.write_image_head, self._reference, fmt,
+                           width, height, content=content,
+                           explain=lambda code: self._fault_of(given, code))
+
+    def _look_at_samples(self, given: Samples, place: str) -> None:
+        """Raises the server's refusal of samples whose format or size isn't the image's, without
+        asking the server. `place` is the call in its pipeline."""
+        fmt, width, height = self._described
+        if given.fmt != fmt:
+            code = wire.INVALID_FORMAT
+        elif (given.width, given.height) != (width, height):
+            code = wire.INVALID_DIMENSION
+        else:
+            return
+        raise refusal(code, self._words_for(given), wire.WRITE_IMAGE, place,
+                      self._fault_of(given, code))
+
+    def _words_for(self, given: Samples) -> str:
+        # _name_ is the same as str(fmt), but faster.
+        return (f"write {given.width} by {given.height} {given.fmt._name_} samples to "
+                f"{self}")
+
+    def _fault_of(self, given: Samples, code: int) -> Fault:
+        return Fault("" if code != wire.INVALID_DIMENSION else (
+            f"The samples have the shape {(given.height, given.width)}, and the image "
+            f"{self.shape}."))
 
     def fill(self, value: int) -> None:
         """Writes one value to all samples; the whole image is then valid."""
         row = [whole(value, f"a sample of {self.fmt}")] * self.width
         line = samples_of([row], Size(self.fmt, self.width, 1)).content
-        self.context.tell(f"fill {self} with {value}", wire.write_image_head, self.reference,
-                          self.fmt, self.width, self.height, content=bytes(line) * self.height)
+        self.context._tell(f"fill {self} with {value}", wire.write_image_head, self._reference,
+                           self.fmt, self.width, self.height, content=bytes(line) * self.height)
 
     def read(self, out: Optional[numpy.ndarray[Any, Any]] = None) -> Picture:
         """
@@ -113,19 +168,19 @@ class AnyImage(Readable):
         returns it. Raises BadPicture for any other `out`.
         """
         if out is None:
-            return self.context.ask(*self.reading())
+            return self.context._ask(*self._reading())
         pixels, place = out, place_in(out, self._described)
         if place is None:
             pixels[...] = self.read()
             return pixels
-        words, make, _, body = self.reading()
-        return self.context.ask(words, make, lambda _: turned(pixels), body, place)
+        words, make, _, body = self._reading()
+        return self.context._ask(words, make, lambda _: turned(pixels), body, place)
 
-    def reading(self) -> Asked[Picture]:
+    def _reading(self) -> Asked[Picture]:
         """Returns the request of read(), for a pipeline."""
         fmt, width, height = self._described
         described = struct.pack(">BHH", fmt, width, height)
-        return (f"read {self}", lambda client: wire.read_image(client, self.reference), picture_of,
+        return (f"read {self}", lambda client: wire.read_image(client, self._reference), picture_of,
                 Body(len(described) + width * height * fmt.sample_bytes, described))
 
     def copy(self) -> Image:
@@ -171,55 +226,37 @@ class AnyImage(Readable):
         """Replaces all samples by those of a PGM text, P5 or P2, whose picture has the image's
         format and size."""
         content = memoryview(text).cast("B")
-        self.context.tell(f"write a PGM text to {self}", wire.write_image_pgm_head, self.reference,
-                          len(content), content=content)
+        self.context._tell(f"write a PGM text to {self}", wire.write_image_pgm_head,
+                           self._reference, len(content), content=content,
+                           explain=lambda code: fault_of(text, code))
 
     def read_pgm(self) -> bytes:
         """Returns the picture of a U8 image as a PGM text (P5)."""
-        return self.context.ask(*self.reading_pgm())
+        return self.context._ask(*self._reading_pgm())
 
-    def reading_pgm(self) -> Asked[bytes]:
+    def _reading_pgm(self) -> Asked[bytes]:
         """Returns the request of read_pgm(), for a pipeline."""
         head = f"P5\n{self.width} {self.height}\n255\n".encode()
         return (f"read a PGM text of {self}",
-                lambda client: wire.read_image_pgm(client, self.reference),
+                lambda client: wire.read_image_pgm(client, self._reference),
                 lambda reply: bytes(wire.text_of(reply)), Body(len(head) + self.size, head))
 
     def query(self) -> Description:
         """Returns the format, the width, the height and the valid rectangle, as the server has
         them."""
-        return self.context.ask(*self.querying())
+        return self.context._ask(*self._querying())
 
-    def querying(self) -> Asked[Description]:
+    def _querying(self) -> Asked[Description]:
         """Returns the request of query(), for a pipeline."""
-        return (f"query {self}", lambda client: wire.query_image(client, self.reference),
+        return (f"query {self}", lambda client: wire.query_image(client, self._reference),
                 description_of, None)
-
-    @property
-    def valid(self) -> Rectangle:
-        """
-        The valid rectangle x0, y0, x1, y1: the columns x0 to x1 - 1 of the rows y0 to y1 - 1.
-        Setting it makes each sample outside it 0; setting a larger rectangle later doesn't restore
-        the samples. A rectangle without pixels is 0, 0, 0, 0.
-        """
-        return self.query().valid
-
-    @valid.setter
-    def valid(self, rectangle: Tuple[int, int, int, int]) -> None:
-        sides = tuple(within(side, f"a side of {self}'s valid rectangle", UNSIGNED,
-                             f"a whole number up to {wire.GREATEST_SIDE}")
-                      for side in rectangle)
-        if len(sides) != 4:
-            raise ValueError(f"a rectangle must be (x0, y0, x1, y1), not {rectangle!r}")
-        self.context.tell(f"make {sides} the valid rectangle of {self}", wire.set_valid,
-                          self.reference, sides)
 
 
 class Image(Named, AnyImage):
     """An image that isn't in a slot of a delay."""
 
     __slots__ = ("_size",)
-    kind = "image"
+    _kind = "image"
 
     def __init__(self, context: Context, made: Made, fmt: Format, width: int, height: int) -> None:
         Named.__init__(self, context, made, in_words(fmt, width, height))
@@ -234,7 +271,6 @@ class Slot(Uncopied, AnyImage):
     """The image in a slot of a delay. After the delay ages, the slot has another image."""
 
     __slots__ = ("_delay", "_number", "_reference", "__weakref__")
-    _inner = Named._inner
 
     def __init__(self, delay: Delay, number: int) -> None:
         self._delay, self._number = delay, number
@@ -253,20 +289,16 @@ class Slot(Uncopied, AnyImage):
         return self._number
 
     @property
-    def title(self) -> str:
-        return f"{self._delay.title}[{self._number}]"
+    def _title(self) -> str:
+        return f"{self._delay._title}[{self._number}]"
 
     @property
-    def about(self) -> str:
-        return self._delay.about
+    def _about(self) -> str:
+        return self._delay._about
 
     @property
     def _described(self) -> Size:
         return self._delay._size
-
-    @property
-    def reference(self) -> bytes:
-        return self._reference
 
     def __str__(self) -> str:
         return f"slot {self.number} of {self.delay}"
@@ -280,7 +312,7 @@ class Delay(Named):
     and so on."""
 
     __slots__ = ("_size", "_slots")
-    kind = "delay"
+    _kind = "delay"
 
     def __init__(self, context: Context, made: Made, exemplar: AnyImage, slots: int) -> None:
         super().__init__(context, made, in_words(exemplar.fmt, exemplar.width, exemplar.height))
@@ -324,4 +356,4 @@ class Delay(Named):
     def age(self) -> None:
         """Moves each image to the next older slot, 0 to -1 and so on, and the image of the last
         slot to slot 0. Each run of a graph does this after Graph.register_auto_aging()."""
-        self._context.tell(f"age {self}", wire.age_delay, self.name)
+        self._context._tell(f"age {self}", wire.age_delay, self.name)

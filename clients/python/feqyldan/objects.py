@@ -9,6 +9,8 @@ from typing import (
 
 from . import wire
 from .connection import Body
+from .errors import InvalidDimension, UnexpectedReply
+from .ranges import PARAMETER_RANGES
 from .samples import Format, numbers_of
 from .uncopied import Uncopied
 from .whole import UNSIGNED, within
@@ -69,10 +71,8 @@ class Named(Uncopied):
     """
 
     __slots__ = ("_context", "_made", "_about", "_is_closed", "_words", "_reference", "__weakref__")
-    _inner = frozenset(("reference", "reading", "reading_pgm", "querying", "is_virtual", "kind",
-                        "title", "about"))
-    kind = "object"
-    is_virtual = False
+    _kind = "object"
+    _is_virtual = False
 
     def __init__(self, context: Context, made: Made, about: str = "") -> None:
         self._context, self._made, self._about = context, made, about
@@ -80,9 +80,9 @@ class Named(Uncopied):
         # For messages: the kind, the name, the label and the format or the sides, as far as there
         # are any.
         label = f' "{made.label}"' if made.label else ""
-        self._words = f"{self.kind} {made.name}{label}{f' ({about})' if about else ''}"
+        self._words = f"{self._kind} {made.name}{label}{f' ({about})' if about else ''}"
         self._reference: bytes = wire.reference(made.name)
-        context.claim(made.name, self)
+        context._claim(made.name, self)
 
     @property
     def context(self) -> Context:
@@ -97,14 +97,9 @@ class Named(Uncopied):
         return self._made.label
 
     @property
-    def title(self) -> str:
+    def _title(self) -> str:
         """The label, or the kind and the name without one."""
-        return self.label or f"{self.kind} {self.name}"
-
-    @property
-    def about(self) -> str:
-        """The format or the sides in words; empty if there are none."""
-        return self._about
+        return self.label or f"{self._kind} {self.name}"
 
     @property
     def closed(self) -> bool:
@@ -115,14 +110,14 @@ class Named(Uncopied):
         server has ended."""
         if not self.closed:
             self._is_closed = True
-            self._context.release(self.name, self._words)
+            self._context._release(self.name, self._words)
 
     def __enter__(self: Own) -> Own:
         return self
 
     def __exit__(self, kind: Optional[Type[BaseException]], error: Optional[BaseException],
                  trace: Optional[TracebackType]) -> None:
-        self._context.close_within(self, error)
+        self._context._close_within(self, error)
 
     def __str__(self) -> str:
         return f"closed {self._words}" if self._is_closed else self._words
@@ -134,11 +129,6 @@ class Named(Uncopied):
         """Returns the end of repr(): the object's values, after its kind and its name."""
         return ""
 
-    @property
-    def reference(self) -> bytes:
-        """The reference to the object, as frames have it."""
-        return self._reference
-
 
 class Threshold(Named):
     """
@@ -147,7 +137,7 @@ class Threshold(Named):
     """
 
     __slots__ = ("_fmt", "_limits", "_outputs")
-    kind = "threshold"
+    _kind = "threshold"
 
     def __init__(self, context: Context, made: Made, fmt: Format, limits: Tuple[int, ...],
                  outputs: Tuple[int, int]) -> None:
@@ -184,7 +174,7 @@ class Lut(Named):
     """A lookup table with an entry for each sample of its format, in the order of the samples."""
 
     __slots__ = ("_fmt", "_entries")
-    kind = "lookup table"
+    _kind = "lookup table"
 
     def __init__(self, context: Context, made: Made, fmt: Format, entries: bytes) -> None:
         super().__init__(context, made, str(fmt))
@@ -208,7 +198,7 @@ class Convolution(Named):
     divided."""
 
     __slots__ = ("_coefficients", "_scale")
-    kind = "convolution"
+    _kind = "convolution"
 
     def __init__(self, context: Context, made: Made, coefficients: Tuple[Tuple[int, ...], ...],
                  scale: int) -> None:
@@ -234,7 +224,7 @@ class Distribution(Named):
     offset, and together cover `range` values."""
 
     __slots__ = ("_sides",)
-    kind = "distribution"
+    _kind = "distribution"
 
     def __init__(self, context: Context, made: Made, sides: Tuple[int, int, int]) -> None:
         super().__init__(context, made, f"{sides[0]} bins")
@@ -257,9 +247,9 @@ class Distribution(Named):
 
     def read(self) -> Tuple[int, ...]:
         """Returns the count of each bin, beginning with the bin at the offset."""
-        return self._context.ask(*self.reading())
+        return self._context._ask(*self._reading())
 
-    def reading(self) -> Asked[Tuple[int, ...]]:
+    def _reading(self) -> Asked[Tuple[int, ...]]:
         """Returns the request of read(), for a pipeline."""
         return (f"read {self}", lambda client: wire.read_distribution(client, self.name),
                 wire.counts_of, Body(2 + 4 * self.bins, struct.pack(">H", self.bins)))
@@ -270,7 +260,7 @@ class MinMax(Named):
     the first such pixel."""
 
     __slots__ = ()
-    kind = "extremes"
+    _kind = "extremes"
 
     def read(self) -> Extremes:
         """
@@ -278,23 +268,35 @@ class MinMax(Named):
         the (x, y) of the first pixel with each, row by row from the top. All are 0 if no pixel was
         valid.
         """
-        return self._context.ask(*self.reading())
+        return self._context._ask(*self._reading())
 
-    def reading(self) -> Asked[Extremes]:
+    def _reading(self) -> Asked[Extremes]:
         """Returns the request of read(), for a pipeline."""
         return (f"read {self}", lambda client: wire.read_min_max(client, self.name),
                 wire.extremes_of, None)
 
 
 def sides_of_frame(width: Any, height: Any) -> Tuple[int, int]:
-    """Returns the width and the height of an image as ints. Raises TypeError or ValueError if a
-    frame can't express them."""
-    allowed = f"a whole number from 1 to {wire.GREATEST_SIDE}"
-    return within(width, "an image's width", UNSIGNED, allowed), within(height, "an image's height",
-                                                                        UNSIGNED, allowed)
+    """Returns the width and the height of an image as ints. Raises TypeError for other values, and
+    InvalidDimension, as the server does, if a frame can't express them."""
+    return side_of_frame(width, "an image's width"), side_of_frame(height, "an image's height")
+
+
+def side_of_frame(side: Any, what: str) -> int:
+    """Returns a width or a height as an int, see sides_of_frame()."""
+    allowed = PARAMETER_RANGES["image.width"].whole
+    try:
+        return within(side, what, UNSIGNED, allowed)
+    except ValueError as error:
+        raise InvalidDimension(str(error), None, "") from None
 
 
 def description_of(reply: memoryview) -> Description:
+    """Returns the description in a reply to QueryImage. Raises UnexpectedReply if its format is
+    unknown."""
     fmt, width, height, valid = wire.description_of(reply)
+    if fmt not in (0, *Format):
+        raise UnexpectedReply(f"the reply describes an image of the unknown format {fmt}; the "
+                              f"formats are {', '.join(f'{each:d} ({each})' for each in Format)}")
     return Description(Format(fmt) if fmt else None, width or None, height or None,
                        Rectangle(*valid))

@@ -1,22 +1,18 @@
-"""Pictures in files: PGM (Netpbm's grey maps) and PNG, which is written with zlib alone."""
+"""Writes pictures to files: PGM (Netpbm's grey maps), NumPy's .npy, and PNG, by zlib alone."""
 
 from __future__ import annotations
 
-import os
-import re
 import struct
 import zlib
-from typing import Any, List, NamedTuple, Sequence, Tuple, Union
+from typing import Any, List, NamedTuple, Tuple
 
-from .errors import WrongPicture
+from .errors import NotAPicture
 from .samples import (
-    Format, Picture, Readable, Samples, Size, is_array, lengths_in_words, numbers_of, numpy_module,
-    packed, samples_of)
+    Format, Picture, Readable, is_array, lengths_in_words, numpy_module, packed,
+    refuse_none_and_paths, samples_of)
+from .storage import Path, name_of_file, write_bytes
+from .thumbnails import greys
 
-Path = Union[str, "os.PathLike[str]"]
-
-GAP = rb"(?:[ \t\r\n]|#[^\r\n]*[\r\n])+"
-HEADER = re.compile(rb"P[25]" + 3 * (GAP + rb"0*([0-9]{1,9})"))
 # Kinds of pixels in PNG (its chapter 11.2.2).
 GREY, COLOURED = 0, 2
 RED = 230, 30, 30
@@ -32,57 +28,18 @@ class Raster(NamedTuple):
     content: memoryview
 
 
-def read_bytes(path: Path) -> bytes:
-    with open(path, "rb") as file:
-        return file.read()
-
-
-def size_of_pgm(text: bytes) -> Size:
-    """
-    Returns the format and the size of the picture in a PGM text, or raises BadPicture. Only the
-    header is read: the server checks the rest.
-    """
-    header = HEADER.match(text)
-    if not header:
-        raise WrongPicture("these bytes don't begin as a PGM text does, with the header of P5 or P2"
-                           f"{_hint_at(bytes(text[:4]))}")
-    width, height, maxval = map(int, header.groups())
-    return Size(Format.U8 if maxval < 256 else Format.S16, width, height)
-
-
-def _hint_at(begin: bytes) -> str:
-    """Returns in words what kind of file begins like this, if it isn't PGM."""
-    kinds = ((b"\xff\xd8", "a JPEG"), (b"\x89PNG", "a PNG"), (b"P6", "a colour picture, PPM"),
-             (b"P3", "a colour picture, PPM"), (b"P4", "a bitmap, PBM"), (b"BM", "a BMP"))
-    for start, kind in kinds:
-        if begin.startswith(start):
-            return f": they are those of {kind}, which context.load(path) reads by OpenCV or PIL"
-    return f": they begin with {begin.hex(' ')}" if begin else ": there are no bytes"
-
-
 def write_pgm(path: Path, picture: Any) -> None:
     """Writes a PGM file (P5) of a U8 image, an array of shape (height, width) or rows of numbers.
     Raises ValueError for other formats."""
-    samples = _samples(picture)
-    if samples.fmt != Format.U8:
-        raise ValueError(f"a PGM file has U8 samples, and this picture is {samples.fmt}: save it "
-                         "as .npy, or convert_depth it to U8")
-    with open(path, "wb") as file:
-        file.write(b"P5\n%d %d\n255\n" % (samples.width, samples.height))
-        file.write(samples.content)
+    name = name_of_file(path)
+    write_bytes(name, pgm(picture))
 
 
 def write_npy(path: Path, picture: Any) -> None:
     """Writes an .npy file of an image, an array of shape (height, width) or rows of numbers, even
     if NumPy isn't installed."""
-    fmt, width, height, content = _samples(picture)
-    kind = {Format.U8: "|u1", Format.S16: ">i2", Format.U32: ">u4"}[fmt]
-    about = f"{{'descr': '{kind}', 'fortran_order': False, 'shape': ({height}, {width}), }}"
-    # The bytes before the samples are a multiple of 64.
-    about += " " * (-(11 + len(about)) % 64) + "\n"
-    with open(path, "wb") as file:
-        file.write(b"\x93NUMPY\1\0" + struct.pack("<H", len(about)) + about.encode())
-        file.write(content)
+    name = name_of_file(path)
+    write_bytes(name, npy(picture))
 
 
 def write_png(path: Path, picture: Any) -> None:
@@ -91,9 +48,27 @@ def write_png(path: Path, picture: Any) -> None:
     is U8 or S16 without negative samples; colour has shape (height, width, 3), with red, green and
     blue from 0 to 255. Raises ValueError for other samples.
     """
-    content = png(picture)
-    with open(path, "wb") as file:
-        file.write(content)
+    name = name_of_file(path)
+    write_bytes(name, [png(picture)])
+
+
+def pgm(picture: Any) -> List[Any]:
+    """Returns the parts of a PGM file, for the pictures that write_pgm() takes."""
+    samples = samples_of(picture)
+    if samples.fmt != Format.U8:
+        raise ValueError(f"a PGM file has U8 samples, and this picture is {samples.fmt}: save it "
+                         "as .npy, or convert_depth it to U8")
+    return [b"P5\n%d %d\n255\n" % (samples.width, samples.height), samples.content]
+
+
+def npy(picture: Any) -> List[Any]:
+    """Returns the parts of an .npy file, for the pictures that write_npy() takes."""
+    fmt, width, height, content = samples_of(picture)
+    kind = {Format.U8: "|u1", Format.S16: ">i2", Format.U32: ">u4"}[fmt]
+    about = f"{{'descr': '{kind}', 'fortran_order': False, 'shape': ({height}, {width}), }}"
+    # The bytes before the samples are a multiple of 64.
+    about += " " * (-(11 + len(about)) % 64) + "\n"
+    return [b"\x93NUMPY\1\0" + struct.pack("<H", len(about)) + about.encode(), content]
 
 
 def png(picture: Any) -> bytes:
@@ -117,7 +92,7 @@ def shown(picture: Picture, valid: Tuple[int, int, int, int]) -> bytes:
     """Returns the bytes of a PNG file that shows a grey picture. Samples that aren't U8 are scaled,
     and a valid rectangle that isn't the whole image gets a red frame."""
     samples = samples_of(picture)
-    grey = _scaled(samples, valid)
+    grey = greys(samples, valid)
     width, height = samples.width, samples.height
     if tuple(valid) == (0, 0, width, height):
         return _file_of(Raster(width, height, 1, memoryview(grey)))
@@ -138,34 +113,16 @@ def _frame_of(valid: Tuple[int, int, int, int]) -> List[Tuple[int, int]]:
             *((x, y) for y in range(y0, y1) for x in (x0, x1 - 1))]
 
 
-def _scaled(samples: Samples, valid: Tuple[int, int, int, int]) -> bytes:
-    """Returns samples from 0 to 255: the least valid one becomes 0, the greatest 255. U8 samples
-    don't change."""
-    if samples.fmt == Format.U8:
-        return bytes(samples.content)
-    x0, y0, x1, y1 = valid
-    width = samples.width
-    numbers: Sequence[int] = numbers_of(bytes(samples.content), samples.fmt)
-    inside = [number for y in range(y0, y1) for number in numbers[y * width + x0 : y * width + x1]]
-    least, greatest = (min(inside), max(inside)) if inside else (0, 0)
-    span = max(1, greatest - least)
-    return bytes(min(255, max(0, 255 * (number - least) // span)) for number in numbers)
-
-
 def _chunk(kind: bytes, content: bytes) -> bytes:
     return struct.pack(">I", len(content)) + kind + content + struct.pack(">I",
                                                                           zlib.crc32(kind
                                                                                      + content))
 
 
-def _samples(picture: Any) -> Samples:
-    return samples_of(picture)
-
-
 def _raster(picture: Any) -> Raster:
     if _is_coloured(picture):
         return _coloured(picture)
-    samples = _samples(picture)
+    samples = samples_of(picture)
     # The first byte of a sample has its sign.
     is_signed = samples.fmt == Format.S16 and max(bytes(samples.content[::2])) > 127
     if samples.fmt == Format.U32:
@@ -183,12 +140,13 @@ def _is_coloured(picture: Any) -> bool:
     """Returns whether a picture has several numbers for each pixel."""
     if isinstance(picture, Readable):
         return False
+    refuse_none_and_paths(picture)
     shape = getattr(picture, "shape", None)
     if shape is not None:
         return len(shape) == 3 and shape[2] != 1
     try:
-        return len(picture[0][0]) > 0
-    except (TypeError, IndexError):
+        return not isinstance(picture[0][0], str) and len(picture[0][0]) > 0
+    except (TypeError, LookupError):
         return False
 
 
@@ -198,7 +156,10 @@ def _coloured(picture: Any) -> Raster:
     rows = picture.tolist() if hasattr(picture, "tolist") else picture
     height, width = len(rows), len(rows[0])
     numbers = [value for row in rows for pixel in row for value in pixel]
-    content = packed(numbers, Format.U8, "a coloured sample").tobytes()
+    try:
+        content = packed(numbers, Format.U8, "a coloured sample").tobytes()
+    except TypeError as error:
+        raise NotAPicture(error) from None
     if any(len(row) != width for row in rows) or len(content) != 3 * width * height:
         raise ValueError(f"{_SHAPE_OF_COLOURS}, not {len(content)} numbers in "
                          f"{lengths_in_words(rows)}")

@@ -8,6 +8,7 @@ from typing import (
     TYPE_CHECKING, Any, Callable, Generic, List, Optional, Tuple, Type, TypeVar, Union, overload)
 
 from .connection import Body, Connection, Place, Request
+from .direct import DirectConnection
 from .errors import FeqyldanError, NotYet, Refused
 from .images import AnyImage
 from .objects import Description, Distribution, Extremes, MinMax
@@ -36,6 +37,10 @@ class Stretch:
         if self.refused[-1:] != [request]:
             self.refused.append(request)
 
+    def drop(self, request: Request) -> None:
+        """Drops a refused request whose own call raises the refusal."""
+        self.refused = [noted for noted in self.refused if noted is not request]
+
     @property
     def errors(self) -> List[Refused]:
         found = (request.error for request in self.refused if request.answer is not None)
@@ -57,10 +62,9 @@ class Stretch:
 class Result(Uncopied, Generic[Value]):
     """The result of a request that was sent ahead."""
 
-    _inner = frozenset(("wait",))
     __slots__ = ("_connection", "_request", "_decode", "_stretch", "_decoded", "__weakref__")
 
-    def __init__(self, connection: Connection, request: Request,
+    def __init__(self, connection: Union[Connection, DirectConnection], request: Request,
                  decode: Callable[[memoryview], Value], stretch: Stretch) -> None:
         self._connection, self._request, self._decode = connection, request, decode
         self._stretch = stretch
@@ -79,7 +83,7 @@ class Result(Uncopied, Generic[Value]):
                 return True
         return self._request.answer is not None
 
-    def wait(self, wake: Optional[int] = None) -> None:
+    def _wait(self, wake: Optional[int] = None) -> None:
         """Waits for the reply, or until the file descriptor `wake` is readable."""
         self._connection.wait(self._request, None, wake)
 
@@ -140,12 +144,11 @@ class Pipeline(Uncopied):
     it was raised before. `refusals` lists all refusals, each with its call.
     """
 
-    _inner = frozenset(("is_followed", "take", "raise_before"))
-    __slots__ = ("is_followed", "_context", "_calls", "_stretch", "__weakref__")
+    __slots__ = ("_is_followed", "_context", "_calls", "_stretch", "__weakref__")
 
     def __init__(self, context: Context) -> None:
         # Whether each request is sent with the next one.
-        self.is_followed = False
+        self._is_followed = False
         self._context = context
         self._calls = 0
         self._stretch = Stretch()
@@ -169,34 +172,38 @@ class Pipeline(Uncopied):
 
     def read(self, thing: Union[AnyImage, Distribution, MinMax]) -> Result[Any]:
         """Sends the request of thing.read(), for a picture, counts or extremes."""
-        return self._ask(*thing.reading())
+        return self._ask(*thing._reading())
 
     def read_pgm(self, image: AnyImage) -> Result[bytes]:
         """Sends the request of image.read_pgm()."""
-        return self._ask(*image.reading_pgm())
+        return self._ask(*image._reading_pgm())
 
     def query(self, image: Union[AnyImage, VirtualImage]) -> Result[Description]:
         """Sends the request of image.query()."""
-        return self._ask(*image.querying())
+        return self._ask(*image._querying())
 
     def wait(self) -> None:
         """
         Waits for all replies so far, and raises the first refusal unless it was raised before.
         Results that are read later don't depend on these refusals.
         """
-        self._context.connection.wait()
+        self._context._connection.wait()
         stretch, self._stretch = self._stretch, Stretch()
         if not stretch.is_told:
             stretch.raise_first()
 
-    def take(self, request: Request) -> None:
+    def _take(self, request: Request) -> None:
         """Numbers a request that is sent within the pipeline, and notes it if it is refused."""
         self._calls += 1
-        frame = calling_frame()
-        request.place = Place(self._calls, self._words(), frame.f_code.co_filename, frame.f_lineno)
+        request.place = self._place()
         request.on_refusal = self._stretch.note
 
-    def raise_before(self, request: Request) -> None:
+    def _place(self) -> Place:
+        """Returns the place of the last call."""
+        frame = calling_frame()
+        return Place(self._calls, self._words(), frame.f_code.co_filename, frame.f_lineno)
+
+    def _raise_before(self, request: Request) -> None:
         """Raises the first refusal, if its request was sent before the given one."""
         self._stretch.raise_before(request)
 
@@ -204,22 +211,22 @@ class Pipeline(Uncopied):
         return f"call {self._calls} of the pipeline"
 
     def __enter__(self) -> Pipeline:
-        self._context.enter_pipeline(self)
+        self._context._enter_pipeline(self)
         return self
 
     def __exit__(self, kind: Optional[Type[BaseException]], error: Optional[BaseException],
                  trace: Optional[TracebackType]) -> None:
-        self._context.leave_pipeline()
+        self._context._leave_pipeline()
         if error is None:
-            self._context.connection.wait()
+            self._context._connection.wait()
             if not self._stretch.is_told:
                 self._stretch.raise_first()
 
     def _ask(self, words: str, make: Callable[[int], bytes],
              decode: Callable[[memoryview], Value],
              body: Optional[Body] = None) -> Result[Value]:
-        request = self._context.send(words, make, body=body)
-        return Result(self._context.connection, request, decode, self._stretch)
+        request = self._context._send(words, make, body=body)
+        return Result(self._context._connection, request, decode, self._stretch)
 
 
 def number_of(request: Request) -> int:

@@ -47,8 +47,8 @@ def profile(graph: Graph, rounds: int) -> Profile:
     stand_ins = Doubles(graph)
     nodes = {node.number: node for node in graph.nodes}
     timings = []
-    for member in in_order(graph.members):
-        call = stand_ins.call(graph.calls[member.number])
+    for member in in_order(graph._members):
+        call = stand_ins.call(graph._calls[member.number])
         best = min(_seconds(graph, call) for _ in range(max(1, rounds)))
         timings.append(Timing(nodes[member.number], best))
     return Profile(timings)
@@ -56,7 +56,7 @@ def profile(graph: Graph, rounds: int) -> Profile:
 
 def _seconds(graph: Graph, call: Call) -> float:
     start = time.perf_counter()
-    graph.context.vxu.run(call)
+    graph.context.vxu._run(call)
     return time.perf_counter() - start
 
 
@@ -65,19 +65,24 @@ class Doubles:
 
     def __init__(self, graph: Graph) -> None:
         self._context = graph.context
-        self._known = resolved(graph.members)
-        self._written = {cell.reference for member in graph.members for cell in member.outputs}
+        self._known = resolved(graph._members)
+        self._written = {cell.reference for member in graph._members for cell in member.outputs}
         self._made: Dict[bytes, Any] = {}
+
+    @property
+    def made(self) -> Dict[bytes, Any]:
+        """The substitutes, by the references of the originals."""
+        return self._made
 
     def call(self, call: Call) -> Call:
         return call._replace(operands=tuple(map(self._double_of, call.operands)))
 
     def _double_of(self, operand: Any) -> Any:
-        if operand is None or operand.reference not in self._written:
+        if operand is None or operand._reference not in self._written:
             return operand
-        if operand.reference not in self._made:
-            self._made[operand.reference] = self._make(operand)
-        return self._made[operand.reference]
+        if operand._reference not in self._made:
+            self._made[operand._reference] = self._make(operand)
+        return self._made[operand._reference]
 
     def _make(self, operand: Any) -> Any:
         if isinstance(operand, Distribution):
@@ -87,6 +92,6 @@ class Doubles:
         # A copy, because the function may add to the samples.
         if isinstance(operand, AnyImage):
             return operand.copy()
-        cell = self._known[operand.reference]
+        cell = self._known[operand._reference]
         assert cell.fmt is not None and cell.width is not None and cell.height is not None
         return self._context.image(cell.fmt, cell.width, cell.height)

@@ -1,4 +1,4 @@
-"""Finds the server's program if no path is given."""
+"""Finds the server's program, or its library for this process, if no path is given."""
 
 from __future__ import annotations
 
@@ -20,6 +20,10 @@ CRATE = os.path.normpath(os.path.join(HERE, "../../../crates/vx_main"))
 # /proc/cpuinfo (abm is lzcnt; xsave is osxsave where the system allows it).
 FASTER, PLAIN = "vx_main-x86-64-v3", "vx_main-default"
 FASTER_FLAGS = set("abm avx avx2 bmi1 bmi2 f16c fma movbe xsave".split())
+# The two builds as a library, and the flags that the plain one needs. The program checks them
+# itself; a library can't.
+FASTER_CORE, PLAIN_CORE = "libfeqyldan-core-x86-64-v3.so", "libfeqyldan-core-default.so"
+PLAIN_FLAGS = set("cx16 lahf_lm popcnt sse4_1 sse4_2 ssse3".split())
 
 
 def find() -> str:
@@ -58,11 +62,19 @@ def built() -> List[str]:
     return in_folder(os.path.join(CRATE, "out")) if os.path.isdir(CRATE) else []
 
 
-def in_folder(folder: str) -> List[str]:
+def in_folder(folder: str, faster: str = FASTER, plain: str = PLAIN) -> List[str]:
     """Returns the paths of the builds in a folder that this machine's processor can run, the
     fastest first."""
-    names = [FASTER, PLAIN] if runs_faster() else [PLAIN]
+    names = [faster, plain] if runs_faster() else [plain]
     return [os.path.join(folder, name) for name in names]
+
+
+def cores() -> List[str]:
+    """Returns the paths of the libraries inside this package, and of those built in this checkout,
+    that exist and that this machine's processor can run, the fastest first."""
+    paths = [path for folder in (INSIDE, os.path.join(CRATE, "out"))
+             for path in in_folder(folder, FASTER_CORE, PLAIN_CORE) if os.path.isfile(path)]
+    return paths if paths and PLAIN_FLAGS <= _flags() else []
 
 
 def runs_faster() -> bool:

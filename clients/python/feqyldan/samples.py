@@ -69,6 +69,8 @@ FORMATS = {"B": Format.U8, "h": Format.S16, "I": Format.U32, "L": Format.U32}
 # The formats by the kind and the number of bytes of NumPy's dtypes.
 DTYPES = {("u", 1): Format.U8, ("i", 2): Format.S16, ("u", 4): Format.U32}
 IS_SWAPPED = sys.byteorder == "little"
+# What may stand before the type code of a buffer whose numbers have this machine's byte order.
+NATIVE = "@=<" if IS_SWAPPED else "@=>!"
 # The side, in samples, of the squares in which _in_rows() copies an array.
 TILE = 128
 
@@ -131,8 +133,9 @@ def numbers_of(content: bytes, fmt: Format) -> Tuple[int, ...]:
 
 def is_array(value: Any) -> bool:
     """Returns whether NumPy is installed and can convert the value to an array."""
-    # For an array, looking up the second name takes time.
-    has_interface = hasattr(value, "__array__") or hasattr(value, "__array_interface__")
+    # For an array, looking up more names takes time.
+    has_interface = (hasattr(value, "__array__") or hasattr(value, "__array_interface__")
+                     or hasattr(value, "__dlpack__"))
     return has_interface and numpy_module() is not None
 
 
@@ -146,7 +149,7 @@ def samples_of(value: Any, size: Optional[Size] = None) -> Samples:
     if isinstance(value, Readable):
         value = value.read()
     if is_array(value):
-        return _of_array(_unmasked(value), size)
+        return _of_array(_array_from(value), size)
     try:
         view = memoryview(value)
     except TypeError:
@@ -154,15 +157,30 @@ def samples_of(value: Any, size: Optional[Size] = None) -> Samples:
     return _of_buffer(view, size)
 
 
-def _unmasked(value: Any) -> Any:
-    """Returns the value as an array. Refuses masked samples, because the mask would be lost."""
+def _array_from(value: Any) -> Any:
+    """Returns the value as an array. Refuses masked samples, because the mask would be lost, and a
+    palette image of PIL, whose numbers aren't its greys."""
     numpy = numpy_module()
     if type(value) is numpy.ndarray:
         return value
     if isinstance(value, numpy.ma.MaskedArray) and numpy.ma.is_masked(value):
         raise WrongPicture("a picture has no mask, and some of these samples are masked: write "
                            "array.filled(0), and the mask as another picture")
-    return numpy.asarray(value)
+    if hasattr(value, "getpalette") and getattr(value, "mode", None) in ("P", "PA"):
+        raise NotAPicture("the samples of a PIL image with a palette are numbers of colours: "
+                          "image.convert('L') has its greys, numpy.asarray(image) the numbers")
+    if hasattr(value, "__array__") or hasattr(value, "__array_interface__"):
+        return numpy.asarray(value)
+    return _from_dlpack(value)
+
+
+def _from_dlpack(value: Any) -> Any:
+    try:
+        return numpy_module().from_dlpack(value)
+    except Exception as error:
+        # Each library raises errors of its own, for example for samples on a graphics card.
+        raise NotAPicture(f"NumPy can't take the samples of this {type(value).__name__} by DLPack: "
+                          f"{error}; copy them to a NumPy array first") from None
 
 
 def entries_of(value: Any, fmt: Format) -> bytes:
@@ -224,8 +242,8 @@ def _hint_at(shape: Tuple[int, ...]) -> str:
 def _conversion_of(dtype: Any) -> str:
     """Returns a hint on how to convert an array of this type to samples."""
     if dtype.kind == "f":
-        return ("scale and round them first, as (255 * array).round().astype(numpy.uint8) does "
-                "with numbers from 0 to 1")
+        return ("scale, round and clip them first, as numpy.clip((255 * array).round(), 0, 255)"
+                ".astype(numpy.uint8) does with numbers from 0 to 1")
     if dtype.kind == "b":
         return "a mask of 0 and 255 is mask.astype(numpy.uint8) * 255"
     if (dtype.kind, dtype.itemsize) == ("u", 2):
@@ -238,7 +256,7 @@ def _conversion_of(dtype: Any) -> str:
 
 
 def _of_buffer(view: memoryview, size: Optional[Size]) -> Samples:
-    fmt = FORMATS.get(view.format.lstrip("@="))
+    fmt = FORMATS.get(view.format.lstrip(NATIVE))
     if fmt is not None and fmt.sample_bytes != view.itemsize:
         fmt = None
     if view.ndim == 3 and view.shape is not None and view.shape[2] == 1 and fmt is not None:
@@ -269,6 +287,9 @@ def _of_rows(value: Any, size: Optional[Size]) -> Samples:
         raise WrongPicture("a picture must have rows of the same length, and at least one "
                            f"sample, not {lengths_in_words(rows)}")
     flat = [sample for row in rows for sample in row]
+    if bool in set(map(type, flat)):
+        raise NotAPicture("True and False are no samples: write [[255 * value for value in row] "
+                          "for row in rows] for a mask of 0 and 255")
     try:
         content = _ordered(packed(flat, fmt, "a sample"))
     except TypeError as error:
@@ -343,7 +364,9 @@ def packed(numbers: Sequence[int], fmt: Format, what: str) -> Any:
 
 def _line_of(view: memoryview) -> memoryview:
     """Returns the bytes of a buffer in one dimension."""
-    return view.cast("B") if view.c_contiguous else memoryview(view.tobytes())
+    # A buffer of ctypes can't be cast, because its format names a byte order.
+    is_plain = view.c_contiguous and view.format.lstrip("@") in FORMATS
+    return view.cast("B") if is_plain else memoryview(view.tobytes())
 
 
 def _ordered(numbers: Any) -> memoryview:

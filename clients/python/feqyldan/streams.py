@@ -2,35 +2,27 @@
 
 from __future__ import annotations
 
-import atexit
-import os
 import select
-import sys
-import threading
-import time
-import zlib
 from collections import deque
-from queue import SimpleQueue
 from typing import (
-    TYPE_CHECKING, Any, Callable, Deque, Dict, Iterable, Iterator, NamedTuple, Optional, Sequence,
-    Tuple, TypeVar, Union)
+    TYPE_CHECKING, Any, Deque, Iterable, Iterator, NamedTuple, Optional, Sequence, Tuple, TypeVar,
+    Union)
 
-from .errors import NotAPicture, WrongPicture
-from .graphs import VirtualImage, name_of
-from .images import AnyImage
+from . import wire
+from .connection import Request
+from .errors import FeqyldanError, InvalidReference, NotAPicture, Refused, WrongPicture
+from .graphs import Graph, VirtualImage, kept_by, name_of
+from .images import AnyImage, Slot
+from .log import LOG
 from .objects import Distribution, MinMax, Named
 from .pipeline import Pipeline, Result
-from .samples import is_array
+from .samples import Samples, is_array, samples_of
+from .sources import source_of
 
 if TYPE_CHECKING:
     from .context import Context
-    from .graphs import Graph
 
 Frame = TypeVar("Frame")
-# Seconds that the end of the program waits for iterators to yield the frame that was asked for.
-PATIENCE = 2.0
-# The number of rows in a frame's fingerprint, which shows whether its array was overwritten.
-PRINTED = 16
 
 
 class Station(NamedTuple):
@@ -48,15 +40,31 @@ def stream(frames: Iterable[Frame], stations: Sequence[Station],
     Yields each frame with the results of a graph, as Graph.stream() does, in the order of the
     frames. The stations take turns: if each has a server of its own, they compute frames at the
     same time. Besides one frame for each station, up to `ahead` frames are sent before the first
-    result has come.
+    result has come. A graph with a delay or with sums needs all frames, so it must be the only one.
     """
     if ahead < 0:
         raise ValueError(f"ahead, the number of frames sent ahead, must be 0 or more, not {ahead}")
+    turns = [Turn(station) for station in stations_in(stations)]
+    look_at_frames(frames, turns[0].camera)
+    return _run(frames, turns, ahead + len(turns))
+
+
+def stations_in(given: Any) -> Sequence[Station]:
+    """Returns the stations of a list. Raises TypeError or ValueError for anything else."""
+    if isinstance(given, (Station, Graph)) or not hasattr(given, "__iter__"):
+        raise TypeError("the stations of a stream must be in a list, as in vx.stream(frames, "
+                        f"[vx.Station(graph, camera, out)]), not {given!r}")
+    stations = [station_of(one) for one in given]
     if not stations:
         raise ValueError("a stream needs at least one station, and the list is empty")
-    turns = [Turn(station) for station in stations]
-    look_at_frames(frames, stations[0].camera)
-    return _run(frames, turns, ahead + len(stations))
+    return stations
+
+
+def station_of(given: Any) -> Station:
+    """Returns a station, given one or the tuple of its three parts."""
+    if isinstance(given, tuple) and len(given) == 3 and isinstance(given[0], Graph):
+        return Station(*given)
+    raise TypeError(f"a station must be vx.Station(graph, camera, out), not {given!r}")
 
 
 def look_at_frames(frames: Any, camera: AnyImage) -> None:
@@ -78,18 +86,21 @@ def _run(frames: Iterable[Frame], turns: Sequence[Turn],
     sent: Deque[Sent] = deque()
     number = 0
     error: Optional[BaseException] = None
+    for turn in turns:
+        turn.look_at_graph(is_alone=len(turns) == 1)
     with source_of(frames, [turn.context for turn in turns]) as source:
         while sent or not source.has_ended:
             if sent and sent[0].is_there:
                 source.let_go(sent[0].frame)
                 first = sent.popleft()
-                yield first.frame, first.value()
+                yield first.frame, value_of(first, sent)
             elif source.has_frame and len(sent) < window:
                 number += 1
                 try:
                     sent.append(turns[(number - 1) % len(turns)].send(source.take(), number))
                 except Exception as fault:
                     # Raised after the results of the earlier frames.
+                    LOG.warning("the stream ends at frame %d: %s", number, fault)
                     error = fault
                     source.close()
             else:
@@ -102,15 +113,44 @@ def _run(frames: Iterable[Frame], turns: Sequence[Turn],
 def _wait(sent: Sequence[Sent], wake: Optional[int]) -> None:
     """Waits for the reply to the oldest frame, or until a frame has come."""
     if sent:
-        sent[0].results[-1].wait(wake)
+        sent[0].results[-1]._wait(wake)
     elif wake is not None:
         select.select([wake], [], [])
+
+
+class FramePipeline(Pipeline):
+    """The requests of one frame: a refusal is raised by the results of that frame alone."""
+
+    __slots__ = ("_number",)
+
+    def __init__(self, context: Context, number: int) -> None:
+        super().__init__(context)
+        self._number = number
+        # One system call sends all requests of the frame.
+        self._is_followed = True
+
+    @property
+    def number(self) -> int:
+        return self._number
+
+    @property
+    def has_run(self) -> bool:
+        """Whether the graph has run. The replies to all requests must have come."""
+        return all(request.op != wire.PROCESS_GRAPH for request in self._stretch.refused)
+
+    def _take(self, request: Request) -> None:
+        super()._take(request)
+        request.is_ahead = True
+
+    def _words(self) -> str:
+        return f"frame {self._number} of the stream"
 
 
 class Sent(NamedTuple):
     """A frame that was sent, and its requests."""
 
     frame: Any
+    pipeline: FramePipeline
     results: Tuple[Result[Any], ...]
     is_single: bool
 
@@ -123,19 +163,36 @@ class Sent(NamedTuple):
         return values[0] if self.is_single else values
 
 
-class FramePipeline(Pipeline):
-    """The requests of one frame: a refusal is raised by the results of that frame alone."""
+def value_of(first: Sent, later: Iterable[Sent]) -> Any:
+    """Returns the results of the oldest frame that was sent. A refusal says for which frames the
+    graph has run: the server handles requests that were sent ahead after a refused one too."""
+    try:
+        return first.value()
+    except Refused as error:
+        number = first.pipeline.number
+        ran = [str(sent.pipeline.number) for sent in (first, *later) if has_run(sent)]
+        words = ran_before(number)
+        if ran:
+            words += (f" It also ran for what had been sent already: "
+                      f"{'frames' if len(ran) > 1 else 'frame'} {' and '.join(ran)}.")
+        raise error.in_words(more=words) from None
 
-    __slots__ = ("_number",)
 
-    def __init__(self, context: Context, number: int) -> None:
-        super().__init__(context)
-        self._number = number
-        # One system call sends all requests of the frame.
-        self.is_followed = True
+def has_run(sent: Sent) -> bool:
+    """Waits for the replies of a frame, and returns whether the graph has run for it."""
+    try:
+        sent.results[-1]._wait()
+    except FeqyldanError:
+        return False
+    return sent.pipeline.has_run
 
-    def _words(self) -> str:
-        return f"frame {self._number} of the stream"
+
+def ran_before(number: int) -> str:
+    """Returns in words for which frames the graph has run, if it hasn't for the frame with this
+    number."""
+    if number < 3:
+        return f"The graph ran for {'no frame' if number == 1 else 'frame 1 only'}."
+    return f"The graph ran for frames 1 to {number - 1} only."
 
 
 class Turn:
@@ -146,41 +203,65 @@ class Turn:
         self._graph, self._context = graph, graph.context
         self._is_single = is_object(out)
         self._out = (out,) if self._is_single else several(out)
-        self._is_begun = False
-        self._context.look_at("a stream", self._camera, *self._out)
+        self._context._look_at("a stream", self._camera, *self._out)
         look_at_camera(self._camera)
         for thing in self._out:
             look_at_output(thing)
+        # A slot is closed with its delay.
+        self._used = [thing.delay if isinstance(thing, Slot) else thing
+                      for thing in (graph, self._camera, *self._out)]
 
     @property
     def context(self) -> Context:
         return self._context
 
+    @property
+    def camera(self) -> AnyImage:
+        return self._camera
+
+    def look_at_graph(self, is_alone: bool) -> None:
+        """Raises ValueError if the graph doesn't use the objects of the stream, or if it can't
+        share the frames with other stations."""
+        look_at_nodes(self._graph, self._camera, self._out)
+        kept = "" if is_alone else kept_by(self._graph)
+        if kept:
+            raise ValueError(f"{self._graph} keeps {kept} from one frame to the next, so it can't "
+                             "share the frames with other stations: give the stream one station")
+
     def send(self, frame: Any, number: int) -> Sent:
         """Sends all requests of a frame. Raises BadPicture if the frame isn't a picture for the
-        camera."""
-        if not self._is_begun:
-            look_at_nodes(self._graph, self._camera, self._out)
-            self._is_begun = True
+        camera, and InvalidReference if an object was closed. Then nothing was sent, because the
+        server would run the graph on the samples of the frame before."""
         pipeline = FramePipeline(self._context, number)
-        self._context.enter_pipeline(pipeline)
+        samples = self._samples_of(frame, pipeline)
+        self._context._enter_pipeline(pipeline)
         try:
-            self._write(frame, number)
+            self._camera._write_samples(samples)
             self._graph.process()
             results = [pipeline.read(thing) for thing in self._out[:-1]]
-            pipeline.is_followed = False
+            pipeline._is_followed = False
             results.append(pipeline.read(self._out[-1]))
         finally:
-            self._context.leave_pipeline()
+            self._context._leave_pipeline()
             # Something is left unsent only after an exception.
-            self._context.connection.own_unsent()
-        return Sent(frame, tuple(results), self._is_single)
+            self._context._connection.own_unsent()
+        return Sent(frame, pipeline, tuple(results), self._is_single)
 
-    def _write(self, frame: Any, number: int) -> None:
+    def _samples_of(self, frame: Any, pipeline: FramePipeline) -> Samples:
+        number, place = pipeline.number, str(pipeline._place())
+        for thing in self._used:
+            if thing.closed and not self._context.closed:
+                raise InvalidReference("run the stream", None, "Close it after the stream.", place,
+                                       f"It uses {thing}. {ran_before(number)}")
         try:
-            self._camera.write(frame)
+            samples = samples_of(frame, self._camera._described)
+            self._camera._look_at_samples(samples, place)
         except (NotAPicture, WrongPicture) as fault:
-            raise type(fault)(f"frame {number} of the stream: {fault}") from None
+            raise type(fault)(f"frame {number} of the stream: {fault}. "
+                              f"{ran_before(number)}") from None
+        except Refused as refused:
+            raise refused.in_words(more=ran_before(number)) from None
+        return samples
 
 
 def is_object(out: Any) -> bool:
@@ -221,7 +302,7 @@ def look_at_output(thing: Any) -> None:
 def look_at_nodes(graph: Graph, camera: AnyImage, out: Sequence[Any]) -> None:
     """Raises ValueError if no node reads the camera, if an output is used by no node, or if no node
     writes an output: results would have no meaning."""
-    read, written = graph.reads | graph.aging, graph.writes
+    read, written = graph._reads | graph._aging, graph._writes
     if name_of(camera) not in read:
         raise ValueError(f"the frames of a stream go to {camera}, which no node of {graph} reads: "
                          "are camera and out in the order of stream(frames, camera, out)?")
@@ -232,209 +313,3 @@ def look_at_nodes(graph: Graph, camera: AnyImage, out: Sequence[Any]) -> None:
 
 
 _READ = "a stream reads images, distributions and extremes"
-
-
-class Source:
-    """A source of frames: has_frame says whether one has come, and take() returns it. `descriptor`
-    becomes readable when a frame comes, or at the end."""
-
-    descriptor = -1
-    error: Optional[BaseException] = None
-
-    def __enter__(self) -> Source:
-        return self
-
-    def __exit__(self, *_: object) -> None:
-        self.close()
-
-    @property
-    def has_frame(self) -> bool:
-        raise NotImplementedError
-
-    @property
-    def has_ended(self) -> bool:
-        raise NotImplementedError
-
-    def take(self) -> Any:
-        raise NotImplementedError
-
-    def let_go(self, frame: Any) -> None:
-        """Notes that the result of a frame has come. Raises BadPicture if the array of a frame was
-        overwritten before its result had come."""
-
-    def close(self) -> None:
-        """Stops taking frames."""
-        raise NotImplementedError
-
-
-class Listed(Source):
-    """Frames in a sequence."""
-
-    def __init__(self, frames: Sequence[Any]) -> None:
-        self._frames, self._at = frames, 0
-
-    @property
-    def has_frame(self) -> bool:
-        return self._at < len(self._frames)
-
-    @property
-    def has_ended(self) -> bool:
-        return not self.has_frame
-
-    def take(self) -> Any:
-        self._at += 1
-        return self._frames[self._at - 1]
-
-    def close(self) -> None:
-        self._at = len(self._frames)
-
-
-class Taker(threading.Thread):
-    """The thread that runs an iterator. After `leave` is called, it takes no more frames."""
-
-    def __init__(self, take_all: Callable[[Iterator[Any]], None], frames: Iterator[Any],
-                 leave: Callable[[], None]) -> None:
-        super().__init__(target=take_all, args=(frames,), daemon=True)
-        self.leave = leave
-
-
-def leave_all() -> None:
-    """
-    Ends all iterators that still run, each after the frame that it was asked for, and waits for
-    them at most PATIENCE seconds.
-
-    A program that ends while one of its threads is in C++, for example in OpenCV, is aborted:
-    Python ends the thread by an exception there.
-    """
-    takers = [thread for thread in threading.enumerate() if isinstance(thread, Taker)]
-    for taker in takers:
-        taker.leave()
-    until = time.monotonic() + PATIENCE
-    for taker in takers:
-        taker.join(max(0.0, until - time.monotonic()))
-
-
-atexit.register(leave_all)
-
-
-class Prints:
-    """
-    The arrays of frames that have no result yet, by the address of their samples. A fingerprint of
-    some rows of each array shows whether it was overwritten too early.
-    """
-
-    def __init__(self) -> None:
-        self._prints: Dict[int, int] = {}
-        self._fault: Optional[str] = None
-
-    def take(self, frame: Any) -> None:
-        """Notes a frame that the iterator has just yielded."""
-        if is_pixels(frame):
-            start, found = start_of(frame), print_of(frame)
-            if self._prints.get(start, found) != found:
-                self._fault = ("the iterator of a stream overwrote an array before the result of "
-                               "its frame had come, so two frames were mixed: yield array.copy()")
-            self._prints[start] = found
-
-    def let_go(self, frame: Any) -> None:
-        """Notes that the result of a frame has come."""
-        if self._fault is not None:
-            raise WrongPicture(self._fault)
-        if is_pixels(frame):
-            self._prints.pop(start_of(frame), None)
-
-
-def is_pixels(frame: Any) -> bool:
-    """Returns whether a value is a NumPy array with rows."""
-    numpy = sys.modules.get("numpy")
-    return numpy is not None and isinstance(frame, numpy.ndarray) and frame.ndim > 1
-
-
-def start_of(pixels: Any) -> int:
-    return int(pixels.__array_interface__["data"][0])
-
-
-def print_of(pixels: Any) -> int:
-    """Returns a fingerprint that almost always changes when another frame is written to the
-    array."""
-    return zlib.crc32(pixels[:: max(1, len(pixels) // PRINTED)].tobytes())
-
-
-class Threaded(Source):
-    """Frames that a thread takes from an iterator, one ahead, so that results can be yielded while
-    the iterator waits for a camera. The thread must not use the contexts of the stream."""
-
-    def __init__(self, frames: Iterable[Any], contexts: Sequence[Context]) -> None:
-        self._contexts = contexts
-        self._ready: Deque[Any] = deque()
-        self._prints = Prints()
-        # An item for each frame that may be taken. A semaphore is written in Python, and an
-        # interruption within it might leave it locked.
-        self._wanted: SimpleQueue[None] = SimpleQueue()
-        self._wanted.put(None)
-        self._lock = threading.Lock()
-        self._is_closed = self._is_over = False
-        taker = Taker(self._take_all, iter(frames), self.close)
-        self.descriptor, self._writer = os.pipe()
-        taker.start()
-
-    def _take_all(self, frames: Iterator[Any]) -> None:
-        thread = threading.get_ident()
-        for context in self._contexts:
-            context.barred.add(thread)
-        try:
-            self._take_each(frames)
-        finally:
-            # Another thread may get the same thread number.
-            for context in self._contexts:
-                context.barred.discard(thread)
-
-    def _take_each(self, frames: Iterator[Any]) -> None:
-        try:
-            for frame in frames:
-                self._prints.take(frame)
-                self._ready.append(frame)
-                self._tell()
-                self._wanted.get()
-                if self._is_closed:
-                    return
-        except BaseException as error:
-            self.error = error
-        self._is_over = True
-        self._tell()
-
-    def _tell(self) -> None:
-        with self._lock:
-            if not self._is_closed:
-                os.write(self._writer, b"\0")
-
-    @property
-    def has_frame(self) -> bool:
-        return bool(self._ready) and not self._is_closed
-
-    @property
-    def has_ended(self) -> bool:
-        return self._is_closed or self._is_over and not self._ready
-
-    def take(self) -> Any:
-        os.read(self.descriptor, 1)
-        frame = self._ready.popleft()
-        self._wanted.put(None)
-        return frame
-
-    def let_go(self, frame: Any) -> None:
-        self._prints.let_go(frame)
-
-    def close(self) -> None:
-        with self._lock:
-            if not self._is_closed:
-                self._is_closed = True
-                os.close(self.descriptor)
-                os.close(self._writer)
-        self._wanted.put(None)
-
-
-def source_of(frames: Iterable[Any], contexts: Sequence[Context]) -> Source:
-    if isinstance(frames, (list, tuple)) or is_array(frames):
-        return Listed(frames)  # type: ignore[arg-type]
-    return Threaded(frames, contexts)

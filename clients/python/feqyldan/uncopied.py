@@ -2,7 +2,7 @@
 
 from __future__ import annotations
 
-from typing import Any, FrozenSet, List, NoReturn
+from typing import Any, List, NoReturn
 
 
 class Uncopied:
@@ -12,13 +12,11 @@ class Uncopied:
     """
 
     __slots__ = ()
-    # Names for use within this package, which completion leaves out.
-    _inner: FrozenSet[str] = frozenset()
 
     def __dir__(self) -> List[str]:
         """Returns the public names."""
         return [name for name in super().__dir__()
-                if name not in self._inner and (name[:1] != "_" or name[:2] == "__")]
+                if name[:1] != "_" or name[:2] == "__"]
 
     def __reduce_ex__(self, protocol: Any) -> NoReturn:
         raise TypeError(f"{self!r} is on its server, so it can't be copied or pickled. Take an "

@@ -60,7 +60,7 @@ class Used:
 
     def _drop(self) -> None:
         """Drops the released objects that no graph uses."""
-        in_graphs = {name for graph in self.graphs if not graph.closed for name in graph.uses}
+        in_graphs = {name for graph in self.graphs if not graph.closed for name in graph._uses}
         for name in self._released - in_graphs:
             self._sizes.pop(name, None)
         self._released &= in_graphs

@@ -9,7 +9,8 @@ from __future__ import annotations
 from typing import Any, Dict, FrozenSet, List, NamedTuple, Optional, Sequence, Set, Tuple
 
 from . import wire
-from .functions import Call
+from .errors import Fault
+from .functions import OPERANDS, Call, parameters_of
 from .objects import in_words
 from .samples import Format
 
@@ -77,6 +78,14 @@ def parameter_for(function: str, fmt: Optional[Format], other: Optional[Format])
     return f"; context.{makes}(vx.{fmt}, ..) makes one for this input"
 
 
+def narrowing_for(function: str, fmt: Optional[Format]) -> str:
+    """Returns in words how to make U8 of an S16 input, if a function takes U8 alone; else an empty
+    text."""
+    if fmt != S16 or any(formats[0] == S16 for formats in TAKEN[function]):
+        return ""
+    return "; convert_depth(image, out, vx.SATURATE, shift) makes U8 of an S16 image"
+
+
 class Cell(NamedTuple):
     """
     An operand of a node: an object, or the image in a slot of a delay. Its reference identifies it.
@@ -102,10 +111,17 @@ class Member(NamedTuple):
     in1: Cell
     in2: Optional[Cell]
     outputs: Tuple[Cell, ...]
+    # The parameters of the inputs and outputs, in this order.
+    parameters: Tuple[str, ...]
 
     @property
     def inputs(self) -> List[Cell]:
         return [cell for cell in (self.in1, self.in2) if cell is not None]
+
+    @property
+    def operands(self) -> List[Tuple[str, Cell]]:
+        """The inputs and outputs, each with its parameter."""
+        return list(zip(self.parameters, (*self.inputs, *self.outputs)))
 
     def __str__(self) -> str:
         return f"node {self.number}, {self.words}"
@@ -113,29 +129,31 @@ class Member(NamedTuple):
 
 class Verdict(NamedTuple):
     code: int
-    fault: str
+    fault: Fault
 
 
 def member_of(number: int, call: Call) -> Member:
     in1, in2, *outputs = (None if operand is None else _cell_of(operand)
                           for operand in call.operands)
     assert in1 is not None
+    parameters = (parameter for parameter in parameters_of(call.name) if parameter in OPERANDS
+                  and call.operands[OPERANDS[parameter]] is not None)
     return Member(number, call.name, str(call), in1, in2,
-                  tuple(cell for cell in outputs if cell is not None))
+                  tuple(cell for cell in outputs if cell is not None), tuple(parameters))
 
 
 def _cell_of(operand: Any) -> Cell:
     width, height = getattr(operand, "width", None), getattr(operand, "height", None)
-    is_virtual = operand.is_virtual
-    return Cell(operand.reference, str(operand), is_virtual, is_virtual or width is not None,
+    is_virtual = operand._is_virtual
+    return Cell(operand._reference, str(operand), is_virtual, is_virtual or width is not None,
                 getattr(operand, "fmt", None), width, height)
 
 
-def explained(code: int, members: Sequence[Member], work: Optional[int]) -> str:
-    """Returns in words the fault of a graph of these nodes, which the server refused with `code`;
-    empty if the fault isn't known. `work` is the limit in bytes, or None if it isn't known."""
+def explained(code: int, members: Sequence[Member], work: Optional[int]) -> Fault:
+    """Returns the fault of a graph of these nodes, which the server refused with `code`; empty if
+    the fault isn't known. `work` is the limit in bytes, or None if it isn't known."""
     verdict = verdict_on(members, code, work)
-    return verdict.fault if verdict is not None and verdict.code == code else ""
+    return verdict.fault if verdict is not None and verdict.code == code else Fault()
 
 
 def verdict_on(members: Sequence[Member], refused_with: int = wire.SUCCESS,
@@ -145,14 +163,14 @@ def verdict_on(members: Sequence[Member], refused_with: int = wire.SUCCESS,
     many bytes, so that fault is found only if the server refused the graph with its code.
     """
     fault = _two_writers(members)
-    if fault:
+    if fault is not None:
         return Verdict(wire.MULTIPLE_WRITERS, fault)
     ordered, cycle = _ordered(members)
     if cycle:
-        return Verdict(wire.INVALID_GRAPH,
-                       f"These nodes form a cycle: {'; '.join(map(str, cycle))}.")
+        words = f"These nodes form a cycle: {'; '.join(map(str, cycle))}."
+        return Verdict(wire.INVALID_GRAPH, Fault(words, tuple(member.number for member in cycle)))
     fault = _loose_end(members)
-    if fault:
+    if fault is not None:
         return Verdict(wire.INVALID_LINK, fault)
     known = _descriptions(ordered)
     for member in members:
@@ -161,8 +179,8 @@ def verdict_on(members: Sequence[Member], refused_with: int = wire.SUCCESS,
             return verdict
     if refused_with == wire.NO_RESOURCES:
         limit = "more than its work bytes" if work is None else f"and its work bytes are {work:,}"
-        return Verdict(wire.NO_RESOURCES,
-                       f"Its virtual images need {_virtual_bytes(known):,} bytes, {limit}.")
+        return Verdict(wire.NO_RESOURCES, Fault(
+            f"Its virtual images need {_virtual_bytes(known):,} bytes, {limit}."))
     return None
 
 
@@ -176,16 +194,19 @@ def resolved(members: Sequence[Member]) -> Dict[bytes, Cell]:
     return _descriptions(in_order(members))
 
 
-def _two_writers(members: Sequence[Member]) -> str:
-    """Returns which two nodes write the same object, in words; empty if none do."""
+def _two_writers(members: Sequence[Member]) -> Optional[Fault]:
+    """Returns which two nodes write the same object; None if none do."""
     writers: Dict[bytes, Member] = {}
-    for member, cell in ((member, cell) for member in members for cell in member.outputs):
-        other = writers.setdefault(cell.reference, member)
-        if other is not member:
-            return f"{cell.words} is written by {other}, and by {member}."
-        if sum(output.reference == cell.reference for output in member.outputs) > 1:
-            return f"{cell.words} is written twice by {member}."
-    return ""
+    for member in members:
+        for parameter, cell in member.operands[len(member.inputs):]:
+            other = writers.setdefault(cell.reference, member)
+            if other is not member:
+                return Fault(f"{cell.words} is written by {other}, and by {member}.",
+                             (other.number, member.number), parameter)
+            if sum(output.reference == cell.reference for output in member.outputs) > 1:
+                return Fault(f"{cell.words} is written twice by {member}.", (member.number,),
+                             member.parameters[-1])
+    return None
 
 
 def _ordered(members: Sequence[Member]) -> Tuple[List[Member], List[Member]]:
@@ -218,17 +239,20 @@ def _cycle_among(left: Sequence[Member], writers: Dict[bytes, Member]) -> List[M
     return path[:path.index(path[-1]):-1]
 
 
-def _loose_end(members: Sequence[Member]) -> str:
-    """Returns, in words, a virtual image that is read or added to but not written; empty if there
-    is none."""
+def _loose_end(members: Sequence[Member]) -> Optional[Fault]:
+    """Returns which virtual image is read or added to but not written; None if there is none."""
     written = {cell.reference for member in members for cell in member.outputs}
-    unwritten = (f"{cell.words} is read by {member}, and written by no node."
-                 for member in members for cell in member.inputs
-                 if cell.is_virtual and cell.reference not in written)
-    sums = (f"{cell.words} has no samples before a run, so {member}, has nothing to add to."
-            for member in members for cell in member.outputs
-            if cell.is_virtual and member.function in ADDING)
-    return next((fault for faults in (unwritten, sums) for fault in faults), "")
+    operands = [(member, parameter, cell, at >= len(member.inputs)) for member in members
+                for at, (parameter, cell) in enumerate(member.operands) if cell.is_virtual]
+    unwritten = (Fault(f"{cell.words} is read by {member}, and written by no node.",
+                       (member.number,), parameter)
+                 for member, parameter, cell, is_output in operands
+                 if not is_output and cell.reference not in written)
+    sums = (Fault(f"{cell.words} has no samples before a run, so {member}, has nothing to add to.",
+                  (member.number,), parameter)
+            for member, parameter, cell, is_output in operands
+            if is_output and member.function in ADDING)
+    return next((fault for faults in (unwritten, sums) for fault in faults), None)
 
 
 def _descriptions(ordered: Sequence[Member]) -> Dict[bytes, Cell]:
@@ -256,20 +280,32 @@ def _closed(cell: Cell, function: str, in1: Cell) -> Cell:
 def _fault_of(member: Member, known: Dict[bytes, Cell],
               members: Sequence[Member]) -> Optional[Verdict]:
     """Returns the fault of a single node, or None."""
-    in1, *others = (known[cell.reference] for cell in (*member.inputs, *member.outputs))
+    in1 = known[member.in1.reference]
     in2 = None if member.in2 is None else known[member.in2.reference]
     node = f"{str(member)[0].upper()}{str(member)[1:]}"
     found = _found(member, known, members)
-    for output in member.outputs:
+    for parameter, output in member.operands[len(member.inputs):]:
         formats = in1.fmt, None if in2 is None else in2.fmt, known[output.reference].fmt
         if formats not in TAKEN[member.function]:
             takes = (f"{member.function} takes {formats_in_words(member.function)}"
-                     f"{parameter_for(member.function, *formats[:2])}")
-            return Verdict(wire.INVALID_FORMAT, f"{node}: {takes}.{found}")
-    if any((cell.width, cell.height) != (in1.width, in1.height)
-           for cell in others if cell.is_image):
-        return Verdict(wire.INVALID_DIMENSION, f"{node}, has images of different sizes.{found}")
+                     f"{parameter_for(member.function, *formats[:2])}"
+                     f"{'' if found else narrowing_for(member.function, in1.fmt)}")
+            operand = (*member.parameters[:2], parameter)[_not_taken(member.function, formats)]
+            return Verdict(wire.INVALID_FORMAT, Fault(f"{node}: {takes}.{found}", (member.number,),
+                                                      operand))
+    for parameter, other in member.operands[1:]:
+        cell = known[other.reference]
+        if cell.is_image and (cell.width, cell.height) != (in1.width, in1.height):
+            words = f"{node}, has images of different sizes.{found}"
+            return Verdict(wire.INVALID_DIMENSION, Fault(words, (member.number,), parameter))
     return None
+
+
+def _not_taken(function: str, formats: Formats) -> int:
+    """Returns the index of the first format that doesn't go with those before it: 0 for in1, 1 for
+    in2, 2 for the output."""
+    return next(at for at in range(3) if not any(
+        taken[: at + 1] == formats[: at + 1] for taken in TAKEN[function]))
 
 
 def _found(member: Member, known: Dict[bytes, Cell], members: Sequence[Member]) -> str:

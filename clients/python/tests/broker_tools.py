@@ -22,6 +22,8 @@ import feqyldan as vx  # noqa: E402
 from feqyldan import wire  # noqa: E402
 from plain_server import HOLD, WHO_ASKED  # noqa: E402
 
+if os.environ.get("FEQYLDAN_CORE"):
+    raise unittest.SkipTest("FEQYLDAN_CORE is set: a door and a broker start processes")
 PROGRAM = os.environ.get("FEQYLDAN_PROGRAM")
 PLAIN = [sys.executable, os.path.join(HERE, "plain_server.py"), "serve"]
 # Seconds after which a test gives up waiting, even on a slow or busy machine.
@@ -159,18 +161,19 @@ class Gate:
             self.writer = None
 
 
-# Runs a module as on a Linux before 6.16, where sockets can't refuse descriptors.
-WITHOUT_REFUSAL = """
+# Makes sockets accept descriptors, as on a Linux before 6.16.
+WITHOUT_REFUSAL = "from feqyldan.service import descriptors; descriptors.SO_PASSRIGHTS = 9999"
+# Runs a module after other code.
+RUN_MODULE = """
 import runpy, sys
-from feqyldan.service import descriptors
-descriptors.SO_PASSRIGHTS = 9999
 runpy.run_module(sys.argv.pop(1), run_name="__main__", alter_sys=True)
 """
 
 
 class Broker:
     """A running broker in a folder of its own. It has one server by default, or as many as the
-    broker chooses if `servers` is None. The words `before` come before its command."""
+    broker chooses if `servers` is None. The words `before` come before its command, and the Python
+    code `prelude` runs before its module."""
 
     module = "feqyldan.broker"
 
@@ -178,7 +181,7 @@ class Broker:
                  path: Optional[str] = None,
                  environment: Optional[dict] = None, tells_state: bool = False,
                  servers: Optional[str] = "1", before: Sequence[str] = (),
-                 refuses_descriptors: bool = True, stderr: Any = None) -> None:
+                 refuses_descriptors: bool = True, stderr: Any = None, prelude: str = "") -> None:
         self.folder = tempfile.TemporaryDirectory()
         self.status_path = os.path.join(self.folder.name, "status")
         if tells_state:
@@ -187,7 +190,9 @@ class Broker:
         self.log = open(os.path.join(self.folder.name, "log"), "w+")
         if servers is not None:
             options = ("--servers", servers, *options)
-        run = ["-m"] if refuses_descriptors else ["-c", WITHOUT_REFUSAL]
+        if not refuses_descriptors:
+            prelude += WITHOUT_REFUSAL
+        run = ["-c", f"{prelude}{RUN_MODULE}"] if prelude else ["-m"]
         words = [*before, sys.executable, *run, self.module, "--socket", self.path,
                  "--per-process", "64", *options, "--"]
         paths = [PACKAGE, *filter(None, [os.environ.get("PYTHONPATH")])]
@@ -229,9 +234,11 @@ class Broker:
 
     def state(self) -> Dict[str, Any]:
         """Returns the state from its status socket."""
+        # A report is given to others too, for some milliseconds.
+        time.sleep(0.05)
         with socket.socket(socket.AF_UNIX, socket.SOCK_STREAM) as sock:
-            sock.settimeout(LATE)
             sock.connect(self.status_path)
+            sock.settimeout(LATE)
             sock.shutdown(socket.SHUT_WR)
             return dict(json.loads(all_of(sock)))
 

@@ -9,16 +9,18 @@ import struct
 import sys
 import time
 
-# Ops of this server. WAIT: waits u16 milliseconds. MANY_BYTES: answers u32 bytes. WHO_ASKED:
+# Ops of this server. WAIT: waits u16 milliseconds. SLOW: the same, by the number of an op of the
+# vision server that may take long (VERIFY_GRAPH). MANY_BYTES: answers u32 bytes. WHO_ASKED:
 # answers the client (u16) and the op (u8) of each frame. EXIT: ends with a status (u8). MISTAKE:
 # answers another client. HOLD: waits until the named pipe at a path was written to its end. REFUSE:
 # refuses with a code (u8).
 WAIT, MANY_BYTES, WHO_ASKED, EXIT, MISTAKE, HOLD, REFUSE = 100, 101, 102, 103, 104, 105, 106
+SLOW = 22
 
 
 def answer(op: int, body: bytes, asked: bytes) -> bytes:
-    if op == WAIT:
-        time.sleep(struct.unpack(">H", body)[0] / 1000)
+    if op in (WAIT, SLOW):
+        time.sleep(int.from_bytes(body[:2], "big") / 1000)
     if op == HOLD:
         with open(body, "rb") as pipe:
             pipe.read()

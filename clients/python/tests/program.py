@@ -2,6 +2,9 @@
 Paths for the tests: the package next to them, the model in tools/checks, and the server's program,
 from the environment variable FEQYLDAN_PROGRAM. Without it the tests that need the program are
 skipped.
+
+If the environment variable FEQYLDAN_CORE is set to the path of libfeqyldan-core.so, servers run in
+the process of the tests instead, and tests about a server's process are skipped.
 """
 
 import faulthandler
@@ -19,7 +22,25 @@ PROGRAM = os.environ.get("FEQYLDAN_PROGRAM")
 if PROGRAM:
     # A path that is valid in every folder, because some tests run the program elsewhere.
     PROGRAM = os.path.realpath(PROGRAM)
-needs_program = unittest.skipUnless(PROGRAM,
+CORE = os.environ.get("FEQYLDAN_CORE")
+if CORE:
+    CORE = os.environ["FEQYLDAN_CORE"] = os.path.realpath(CORE)
+    # It would win over the library.
+    os.environ.pop("FEQYLDAN_PROGRAM", None)
+# The program of vx.Server(), which has none in this process; and the variables by which another
+# process finds the same kind of server.
+SERVED = None if CORE else PROGRAM
+VARIABLES = {"FEQYLDAN_CORE": CORE} if CORE else {"FEQYLDAN_PROGRAM": PROGRAM}
+of_a_process = unittest.skipIf(CORE, "it is about a server's process")
+
+
+def skip_module_in_process(why):
+    """Skips a test module if servers run in the process of the tests."""
+    if CORE:
+        raise unittest.SkipTest(f"FEQYLDAN_CORE is set: {why}")
+
+
+needs_program = unittest.skipUnless(SERVED or CORE,
                                     "FEQYLDAN_PROGRAM isn't set to the path of the server's "
                                     "program")
 # Ends the run, and says where it was, if a test waits forever. The limit is in seconds; the run
@@ -72,7 +93,7 @@ class ProgramTest(unittest.TestCase):
     limits = {}
 
     def setUp(self):
-        self.server = vx.Server(PROGRAM, **self.limits)
+        self.server = vx.Server(SERVED, **self.limits)
         self.addCleanup(self.server.close)
         self.context = self.server.context()
 

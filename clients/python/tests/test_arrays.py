@@ -2,6 +2,7 @@
 
 import array
 import copy
+import ctypes
 import pickle
 import sys
 import threading
@@ -92,10 +93,53 @@ class TestArrays(ProgramTest):
             self.holds(self.context.image_from(given), [[0, 1, 2], [3, 4, 5]])
         self.assertEqual(decoded(vx.png(pixels)), decoded(vx.png(pixels[:, :, 0])))
 
+    def test_dlpack_alone(self):
+        """As libraries offer it whose arrays NumPy doesn't know."""
+        class Tensor:
+            def __init__(self, pixels):
+                self.pixels = pixels
+
+            def __dlpack__(self, stream=None):
+                return self.pixels.__dlpack__(stream=stream)
+
+            def __dlpack_device__(self):
+                return self.pixels.__dlpack_device__()
+
+        class Remote(Tensor):
+            def __dlpack__(self, stream=None):
+                raise BufferError("it is on a graphics card")
+
+        image = self.context.image_from(Tensor(numpy.array([[1, -2]], numpy.int16)))
+        self.assertEqual(image.fmt, S16)
+        self.holds(image, [[1, -2]])
+        with self.assertRaisesRegex(vx.NotAPicture, "Remote by DLPack: it is on a graphics card; "
+                                                    "copy them to a NumPy array"):
+            self.context.image_from(Remote(numpy.zeros((1, 1), numpy.uint8)))
+
     def test_one_image_into_another(self):
         image, other = self.context.image_from([[1, 2]]), self.context.image(U8, 2, 1)
         other.write(image)
         self.holds(other, [[1, 2]])
+
+
+class TestBuffers(ProgramTest):
+    def test_buffers_of_ctypes(self):
+        for number, fmt, values in ((ctypes.c_uint8, U8, (1, 255)), (ctypes.c_int16, S16, (-2, 9)),
+                                    (ctypes.c_uint32, U32, (1, 2**32 - 1))):
+            rows = (number * 2 * 2)(values, values[::-1])
+            image = self.context.image_from(rows)
+            self.assertEqual(image.fmt, fmt)
+            self.holds(image, [[*values], [*values[::-1]]])
+            image.write((number * 4)(*values, *values))
+            self.holds(image, [[*values], [*values]])
+
+    def test_true_and_false(self):
+        """An array of bool is refused too: a mask's samples are 0 and 255."""
+        image = self.context.image(U8, 2, 1)
+        for rows in ([[True, False]], [[1, True]], [(0, False)]):
+            with self.assertRaisesRegex(vx.NotAPicture, "True and False are no samples"):
+                image.write(rows)
+        self.holds(image, [[0, 0]])
 
 
 class TestWithoutNumpy(ProgramTest):

@@ -19,8 +19,7 @@ from typing import Any, List, Tuple
 from unittest import mock
 
 from broker_tools import (
-    LATE, PACKAGE, PLAIN, Broker, BrokerTest, Door, Program, children_of, files_of, peak_bytes,
-    plain, runs, success)
+    LATE, PACKAGE, PLAIN, Broker, BrokerTest, Door, Program, files_of, peak_bytes, plain, success)
 from feqyldan import wire
 from feqyldan.broker.incoming import SHARED_TURN_BYTES
 from feqyldan.service import descriptors, listener
@@ -122,31 +121,11 @@ class Descriptors(BrokerTest):
             for sock in (program, away):
                 sock.close()
             self.is_answered(broker, honest)
-            # Nothing is kept of them but the process that closes them.
+            # Nothing is kept of them.
             files = files_of(broker.process.pid)
             first.sock.close()
             self.assertTrue(broker.wait_for(lambda: files_of(broker.process.pid) < files))
             self.assertEqual(broker.stop(), 0)
-
-    def test_the_process_that_closes_them_is_killed(self) -> None:
-        """Another one takes its place."""
-        for self.kind in (Broker, Door):
-            broker = self.begin(tells_state=True, refuses_descriptors=False)
-            honest = self.connect(broker)
-            self.assertEqual(honest.ask(plain(1)), success(1))
-            self.come_and_go(broker)
-            servers = {server["process"] for server in broker.state()["servers"]}
-            closer, = {*children_of(broker.process.pid)} - servers
-            os.kill(closer, signal.SIGKILL)
-            self.assertTrue(broker.wait_for(lambda: not runs(closer)))
-            self.come_and_go(broker)
-            self.assertEqual(honest.ask(plain(50)), success(50))
-            self.assertEqual(broker.stop(), 0)
-
-    def come_and_go(self, broker: Broker) -> None:
-        with broker.program() as program:
-            self.assertEqual(program.ask(plain(1)), success(1))
-        self.assertTrue(broker.wait_for(lambda: broker.state()["connections"]["open"] == 1))
 
     def test_they_wait_in_a_connection_that_was_never_accepted(self) -> None:
         """They don't delay the end of a broker or a door."""

@@ -20,6 +20,7 @@ from broker_tools import (
     CLIENT, LATE, PACKAGE, PLAIN, PROGRAM, Broker, BrokerTest, Gate, Program, all_of, plain,
     success)
 from feqyldan import wire
+import feqyldan as vx
 from feqyldan.service import machine
 from feqyldan.broker.command_line import memory_each, servers_unless_told
 from plain_server import EXIT, HOLD, MANY_BYTES, MISTAKE, REFUSE, WHO_ASKED
@@ -590,6 +591,14 @@ class Beginning(BrokerTest):
             self.assertEqual(broker.wait(LATE), 0)
             self.assertEqual(sorted(os.listdir(folder)), ["socket", "status"])
 
+    def test_the_status_socket_is_known_by_its_name(self) -> None:
+        with tempfile.TemporaryDirectory() as folder:
+            held = [self.listening(os.path.join(folder, name)) for name in ("status", "socket")]
+            self.hand_over(*held, names="status:programs")
+            self.assertEqual(vx.status(os.path.join(folder, "status"))["connections"]["open"], 0)
+            with Program(os.path.join(folder, "socket")) as program:
+                self.assertEqual(program.ask(plain(1)), success(1))
+
     def test_sockets_that_are_meant_for_another_process(self) -> None:
         with tempfile.TemporaryDirectory() as folder:
             held = self.listening(os.path.join(folder, "socket"))
@@ -608,14 +617,16 @@ class Beginning(BrokerTest):
         held.listen(5)
         return held
 
-    def hand_over(self, *held: HasFileno, process: str = "$$") -> "subprocess.Popen[bytes]":
+    def hand_over(self, *held: HasFileno, process: str = "$$",
+                  names: str = "") -> "subprocess.Popen[bytes]":
         """Returns a broker with sockets as its descriptors from 3 on, as a service manager starts
         it."""
         # First to places that none of them has.
         moves = [f"exec {100 + k}<&{one.fileno()}" for k, one in enumerate(held)]
         moves += [f"exec {3 + k}<&{100 + k}" for k in range(len(held))]
         script = "; ".join([*moves,
-                            f'LISTEN_FDS={len(held)} LISTEN_PID={process} exec "$@"'])
+                            f"LISTEN_FDS={len(held)} LISTEN_PID={process} LISTEN_FDNAMES={names} "
+                            'exec "$@"'])
         words = [sys.executable, "-m", "feqyldan.broker", "--servers", "1", "--", *PLAIN]
         broker = subprocess.Popen(["/bin/bash", "-c", script, "sh", *words],
                                   pass_fds=[one.fileno() for one in held],

@@ -13,7 +13,7 @@ import tempfile
 import unittest
 
 from documents import ROOT, programs_in
-from program import HERE, PROGRAM, ProgramTest, needs_program, vx
+from program import HERE, VARIABLES, ProgramTest, needs_program, vx
 from feqyldan import samples, verdicts
 from feqyldan.functions import FUNCTIONS
 from test_pictures import decoded
@@ -33,6 +33,7 @@ class TestAll(unittest.TestCase):
                           "Pictures over a cluster": 1,
                           "Compare with a reference, and tolerate small shifts": 1,
                           "Find the regions of marks": 1, "Measure a part of a picture": 1,
+                          "Turned parts, and light that changes": 1, "Cameras of 10 or 12 bits": 1,
                           "Several types of workpiece": 1,
                           "A live camera": 1, "A robot that survives the end of a server": 1,
                           "A background that follows the light": 1})
@@ -60,7 +61,7 @@ class TestWhole(unittest.TestCase):
         run = subprocess.run([sys.executable, "program.py"], cwd=self.folder, timeout=300,
                              stdin=subprocess.DEVNULL, stdout=subprocess.PIPE,
                              stderr=subprocess.PIPE, text=True, check=False,
-                             env={**os.environ, "FEQYLDAN_PROGRAM": PROGRAM,
+                             env={**os.environ, **VARIABLES,
                                   "PYTHONPATH": os.path.realpath(os.path.join(HERE, ".."))})
         self.assertEqual(run.returncode, 0, run.stderr)
         return run.stdout
@@ -119,8 +120,8 @@ class TestParts(ProgramTest):
         for given, wanted in (([[0, 4095]], "uint16"), ([[0, 1]], "bool")):
             given = numpy.array(given, wanted)
             self.context.image_from(as_samples(given))
-        self.holds(self.context.image_from(as_samples(numpy.array([[0.0, 0.5, 1.0]]))),
-                   [[0, 128, 255]])
+        self.holds(self.context.image_from(as_samples(numpy.array([[0.0, 0.5, 1.0, 1.004, -0.1]]))),
+                   [[0, 128, 255, 255, 0]])
         self.holds(self.context.image_from(as_samples(numpy.array([[True, False]]))), [[255, 0]])
         self.run_part("Pictures", 1, kernel=numpy.full((3, 3), 1 / 9))
 
@@ -215,6 +216,39 @@ class TestRecipes(ProgramTest):
                                           [self.reference, self.scratched()])
         self.assertEqual(good, [])
         self.assertEqual(len(bad), 1)
+
+    @unittest.skipUnless(importlib.util.find_spec("cv2"), "OpenCV isn't installed")
+    def test_turned_parts(self):
+        import cv2
+        self.names.update(numpy=numpy, cv2=cv2)
+        reference = numpy.full((120, 160), 60, numpy.uint8)
+        cv2.rectangle(reference, (40, 30), (120, 90), 160, -1)
+        reference = cv2.GaussianBlur(reference, (0, 0), 2)
+        white = numpy.repeat(numpy.linspace(120, 230, 160)[None], 120, 0).astype(numpy.uint8)
+        move = cv2.getRotationMatrix2D((80, 60), 2.5, 1) + [[0, 0, 3], [0, 0, -2]]
+        turned = cv2.warpAffine(reference, move, (160, 120), borderMode=cv2.BORDER_REPLICATE)
+        picture = (turned * (white / 250)).astype(numpy.uint8)
+        even = self.names["levelled"](picture, white, float(reference.mean()))
+        for given, limit in ((picture, 90), (even, 40),
+                             (self.names["aligned"](even, reference), 0)):
+            differing = abs(given.astype(int) - reference) > 12
+            self.assertGreaterEqual(int(differing.sum()), limit)
+        self.assertEqual(int(differing.sum()), 0)
+        self.assertRaises(cv2.error, self.names["aligned"], 0 * reference, reference)
+
+    def test_the_examples_compare_as_the_recipe_does(self):
+        """The function is the same, but for the names of types that Python 3.8 lacks."""
+        recipe = PROGRAMS["Compare with a reference, and tolerate small shifts"][0]
+        with open(os.path.join(ROOT, "examples", "comparison.py"), encoding="utf-8") as file:
+            self.assertIn(recipe.strip(), file.read().replace("Tuple[", "tuple["))
+
+    @needs_numpy
+    def test_a_camera_of_12_bits(self):
+        graph, camera = self.names["twelve_bits"](self.context, 3, 3)
+        camera.write(numpy.full((3, 3), 4095, numpy.int16))
+        graph.process()
+        smooth, = (call.operands[2] for call in graph._calls.values() if call.name == "gaussian3x3")
+        self.holds(smooth, [[255] * 3] * 3)
 
     def test_a_part(self):
         camera = self.context.image(vx.U8, SIDE, SIDE)

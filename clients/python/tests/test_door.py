@@ -21,7 +21,7 @@ from broker_tools import (
     files_of, plain, runs, success)
 import feqyldan as vx
 from feqyldan import program, wire
-from feqyldan.door.server import chosen
+from feqyldan.door.program import TRIAL_SECONDS, chosen
 from feqyldan.service.descriptors import Descriptors
 from feqyldan.service.events import Events
 from feqyldan.service.lines import Unusable
@@ -29,6 +29,12 @@ from feqyldan.service.visitors import Visitors
 from plain_server import EXIT, HOLD, MANY_BYTES, MISTAKE, WHO_ASKED
 
 needs_program = unittest.skipUnless(PROGRAM, "FEQYLDAN_PROGRAM doesn't name the server's program")
+
+
+def program_of(process: int) -> str:
+    """Returns the name of the program that a process runs."""
+    with open(f"/proc/{process}/comm") as file:
+        return file.read().rstrip("\n")
 
 
 class DoorTest(BrokerTest):
@@ -284,7 +290,7 @@ class Limits(DoorTest):
     @unittest.skipIf(os.geteuid(), "root alone starts servers as other users")
     def test_each_server_runs_as_its_connection_s_user(self) -> None:
         door = self.begin("--user-of-peer", "--mode", "0666", tells_state=True,
-                          command=["/bin/sh", "-c", "cat > /dev/null"])
+                          command=["/bin/cat"])
         os.chmod(door.folder.name, 0o755)
         asks = ("import os, socket, sys\nos.setgroups([])\nos.setgid(4321)\nos.setuid(1234)\n"
                 "sock = socket.socket(socket.AF_UNIX)\nsock.connect(sys.argv[1])\n"
@@ -297,6 +303,7 @@ class Limits(DoorTest):
         self.assertTrue(door.wait_for(lambda: len(door.state()["servers"]) == 1))
         server, = door.state()["servers"]
         self.assertEqual((server["of_process"], server["of_user"]), (other.pid, 1234))
+        self.assertTrue(door.wait_for(lambda: program_of(server["process"]) == "cat"))
         with open(f"/proc/{server['process']}/status") as file:
             lines = dict(line.rstrip("\n").split(":\t", 1) for line in file if ":\t" in line)
         self.assertEqual((lines["Uid"], lines["Gid"], lines["Groups"].strip()),
@@ -350,14 +357,45 @@ class Programs(DoorTest):
 
     def test_a_program_that_cant_be_started_turns_a_connection_away(self) -> None:
         with tempfile.TemporaryDirectory() as folder:
+            path, shell = os.path.join(folder, "program"), os.path.join(folder, "shell")
+            os.symlink("/bin/sh", shell)
+            self.write(path, f"#!{shell}\nexec {' '.join(PLAIN)}\n")
+            door = self.begin(command=[path], tells_state=True)
+            os.unlink(shell)
+            self.assertTrue(self.connect(door).is_turned_away())
+            self.assertTrue(door.says("is turned away: no server could be started"))
+            os.symlink("/bin/sh", shell)
+            self.assertEqual(self.connect(door).ask(plain(1)), success(1))
+            self.assertEqual(door.state()["connections"]["open"], 1)
+
+    def test_the_file_that_was_tried_is_the_one_that_runs(self) -> None:
+        """Also after another one has taken its path, or nothing is there."""
+        with tempfile.TemporaryDirectory() as folder:
             path = os.path.join(folder, "program")
             self.write(path, f"#!/bin/sh\nexec {' '.join(PLAIN)}\n")
             door = self.begin(command=[path])
-            os.unlink(path)
-            self.assertTrue(self.connect(door).is_turned_away())
-            self.assertTrue(door.says("is turned away: no server could be started"))
-            self.write(path, f"#!/bin/sh\nexec {' '.join(PLAIN)}\n")
+            self.write(path, "#!/bin/sh\nexit 7\n")
             self.assertEqual(self.connect(door).ask(plain(1)), success(1))
+            door.process.send_signal(signal.SIGHUP)
+            self.assertTrue(door.says(f"keeps {path} after SIGHUP: {path} ended with status 7"))
+            self.assertEqual(self.connect(door).ask(plain(1)), success(1))
+            os.unlink(path)
+            self.assertEqual(self.connect(door).ask(plain(1)), success(1))
+
+    def test_a_trial_that_hangs_delays_nobody(self) -> None:
+        with tempfile.TemporaryDirectory() as folder:
+            path = os.path.join(folder, "program")
+            self.write(path, f"#!/bin/sh\nexec {' '.join(PLAIN)}\n")
+            door = self.begin(command=[path], tells_state=True)
+            self.write(path, "#!/bin/sh\nexec sleep 1000\n")
+            door.process.send_signal(signal.SIGHUP)
+            self.assertTrue(door.wait_for(lambda: children_of(door.process.pid) != []))
+            start = time.monotonic()
+            self.assertEqual(self.connect(door).ask(plain(1)), success(1))
+            self.assertLess(time.monotonic() - start, TRIAL_SECONDS / 2)
+            self.assertTrue(door.says("still runs 10 s after the end of its input"))
+            self.assertEqual(self.connect(door).ask(plain(1)), success(1))
+            self.assertTrue(door.wait_for(lambda: len(children_of(door.process.pid)) == 2))
 
     def test_a_package_s_starter_is_asked_once(self) -> None:
         """The door starts the program that the starter would start."""
@@ -435,7 +473,7 @@ class Telling(DoorTest):
         here, there = socket.socketpair()
         self.addCleanup(there.close)
         there.send(b"\n")
-        visitors.add(here)
+        visitors.add(here, 0)
         with concurrent.futures.ThreadPoolExecutor() as pool:
             got = pool.submit(all_of, there)
             while visitors.present:

@@ -103,9 +103,12 @@ class ManyPrograms(Crowd):
                 with contextlib.suppress(ProcessLookupError):
                     os.kill(killed[-1], signal.SIGKILL)
 
-        door = self.serve_all(honest=until_all_are_answered, meanwhile=kill)
+        # The faster the machine, the fewer servers are killed before all have their replies.
+        for _ in range(20):
+            self.check_after(self.serve_all(honest=until_all_are_answered, meanwhile=kill))
+            if len(killed) > 10:
+                break
         self.assertGreater(len(killed), 10)
-        self.check_after(door)
 
     def check_hostile(self, failed: Set[str]) -> None:
         """Checks that their connections end when a server is killed, before their replies come."""
@@ -145,9 +148,11 @@ class ThePackage(Crowd):
     def test_contexts_of_one_program(self) -> None:
         door = self.begin(command=[str(PROGRAM), "serve"], tells_state=True)
         with self.assertRaises(vx.ServerEnded), vx.connect(door.path) as server:
-            pictures = []
+            pictures, contexts = [], []
             for sample in (10, 20):
                 context = server.context()
+                # Python would free the first one otherwise, and its server would end.
+                contexts.append(context)
                 source, target = context.image(vx.U8, 4, 2), context.image(vx.U8, 4, 2)
                 source.write(bytes([sample] * 8))
                 context.vxu.not_(source, target)

@@ -14,7 +14,7 @@ import threading
 import unittest
 from unittest import mock
 
-from program import PROGRAM, ProgramTest, vx
+from program import SERVED, ProgramTest, of_a_process, vx
 
 PATIENCE = 60
 SIDE = 300
@@ -70,8 +70,9 @@ class TestGenerators(EndTest):
         self.assertEqual(own.image(vx.U8, 1, 1).read()[0, 0], 0)
         self.holds(image, [[0, 0]])
 
+    @of_a_process
     def test_a_server_that_is_gone(self):
-        with contextlib.suppress(vx.ServerEnded), vx.Server(PROGRAM) as server:
+        with contextlib.suppress(vx.ServerEnded), vx.Server(SERVED) as server:
             generator = holding(server, server.context(), [])
             next(generator)
             os.kill(server._process.pid, signal.SIGKILL)
@@ -200,7 +201,7 @@ class TestCollections(EndTest):
     def test_a_server_that_is_freed_too(self):
         """The collector may have closed its pipes first."""
         with mock.patch.object(sys, "unraisablehook") as hook:
-            server = vx.Server(PROGRAM)
+            server = vx.Server(SERVED)
             generator = holding(server, server.context(), [])
             next(generator)
             cycle = [generator, server]

@@ -1,5 +1,6 @@
 """Exceptions: a class for each status code, and the ends of servers."""
 
+import errno
 import os
 import pickle
 import socket
@@ -8,7 +9,7 @@ import unittest
 from unittest import mock
 
 from documents import ROOT
-from program import ProgramTest, answering, vx
+from program import ProgramTest, answering, of_a_process, vx
 from feqyldan import errors, wire
 
 OPENED = wire.reply_frame(0, wire.OPEN_CONTEXT)
@@ -29,7 +30,7 @@ class TestCodes(unittest.TestCase):
     def test_they_travel(self):
         one = errors.refusal(wire.INVALID_LINK, "verify graph 1", wire.VERIFY_GRAPH,
                              "call 2 of the pipeline, a.py:3",
-                             "node 1 reads nothing.")
+                             errors.Fault("node 1 reads nothing.", (1,), "input"))
         again = pickle.loads(pickle.dumps(one))
         self.assertEqual((str(again), vars(again)), (str(one), vars(one)))
         self.assertTrue(str(one).startswith("verify graph 1 (call 2 of the pipeline, a.py:3): "
@@ -109,7 +110,7 @@ class TestRefusals(ProgramTest):
                  wide: "image 3 (U32, 3 by 1)", delay[-1]: "slot -1 of delay 4 (S16, 1 by 2)"}
         for thing in (image, deep, wide, delay, virtual):
             # The package goes on to take it for open.
-            self.context.tell("release", wire.release, thing.name)
+            self.context._tell("release", wire.release, thing.name)
 
         def set_valid(thing):
             thing.valid = (0, 0, 1, 1)
@@ -167,8 +168,8 @@ class TestRefusals(ProgramTest):
             with self.assertRaisesRegex(vx.InvalidDimension, "from 1 to 8192 columns, and from 1"):
                 self.context.image(vx.U8, *sides)
         with self.assertRaisesRegex(vx.InvalidValue,
-                                    "multiply and accumulate_square take 0 to 15, "
-                                    "convert_depth 0 to 7"):
+                                    "0 to 15 for multiply, 0 to 7 for convert_depth, 0 "
+                                    "to 15 for accumulate_square"):
             self.context.vxu.multiply(image, image, 16, vx.WRAP, deep)
 
     def test_codes_of_the_program(self):
@@ -196,7 +197,7 @@ class TestRefusals(ProgramTest):
     def test_what_is_wrong_before_it_is_sent(self):
         image = self.context.image(vx.U8, 2, 1)
         graph, vxu = self.context.graph(), self.context.vxu
-        with mock.patch.object(self.context.connection, "send") as send:
+        with mock.patch.object(self.context._connection, "send") as send:
             for call in (lambda: vxu.not_(b"12", image), lambda: graph.not_([[1, 2]], image),
                          lambda: vxu.add(image, image, "WRAP", image),
                          lambda: graph.add(image, image, None, image),
@@ -226,6 +227,7 @@ class TestRefusals(ProgramTest):
                 self.assertRaises(vx.InvalidScope, call)
 
 
+@of_a_process
 class TestEnds(unittest.TestCase):
     def ends(self, program, kind, words, status=None, said=""):
         with self.assertRaisesRegex(kind, words) as caught:
@@ -277,9 +279,14 @@ class TestEnds(unittest.TestCase):
         server.close()
 
     def test_no_such_program(self):
-        self.assertRaisesRegex(FileNotFoundError, "/no/such/program", vx.Server, "/no/such/program")
+        with self.assertRaisesRegex(vx.ProgramNotFound, "such program: ./no/such/program") as no:
+            vx.Server("/no/such/program")
+        self.assertEqual((no.exception.errno, no.exception.filename),
+                         (errno.ENOENT, "/no/such/program"))
         self.assertRaisesRegex(FileNotFoundError, "/no/such/socket", vx.connect, "/no/such/socket")
-        self.assertRaisesRegex(ConnectionRefusedError, __file__, vx.connect, __file__)
+        # It isn't tried again.
+        self.assertRaisesRegex(OSError, f"this isn't a socket: .*{__file__}", vx.connect, __file__,
+                               retry=1e6)
         self.assertRaisesRegex(OSError, 200 * "long", vx.connect, 200 * "long")
 
     def test_a_socket_that_is_gone_by_the_next_context(self):

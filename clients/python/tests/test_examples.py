@@ -9,7 +9,7 @@ import tempfile
 import unittest
 from unittest import mock
 
-from program import HERE, PROGRAM, needs_program, vx
+from program import HERE, SERVED, VARIABLES, needs_program, of_a_process, vx
 from test_pictures import decoded
 
 ROOT = os.path.join(HERE, "..", "..", "..")
@@ -44,7 +44,7 @@ class Examples(unittest.TestCase):
         """Runs an example in the folder for pictures, and returns its output."""
         environment = {**os.environ, "PYTHONPATH": os.path.realpath(os.path.join(HERE, "..")),
                        "PYTHONDONTWRITEBYTECODE": "1",
-                       "FEQYLDAN_PROGRAM": os.path.realpath(PROGRAM)}
+                       **VARIABLES}
         run = subprocess.run([sys.executable, os.path.realpath(os.path.join(EXAMPLES, name)),
                               *words], cwd=self.folder,
                              env=environment, timeout=90, stdin=subprocess.DEVNULL,
@@ -61,6 +61,7 @@ class Examples(unittest.TestCase):
         self.run_example("first.py")
         self.assertEqual(sides_of(self.folder, "outlines.png"), (256, 256))
 
+    @of_a_process
     def test_two_clients_see_their_own(self):
         lines = self.run_example("first_stream.py").splitlines()
         self.assertTrue(lines[5].endswith("255 245 235 225 / 215 205 195 0"), lines[5])
@@ -113,6 +114,19 @@ class Examples(unittest.TestCase):
         self.assertEqual(sides_of(self.folder, "station.png"), (612, 512))
 
     @unittest.skipUnless(importlib.util.find_spec("cv2"), "OpenCV isn't installed")
+    def test_parts_that_are_turned_in_light_that_changes(self):
+        lines = self.run_example("aligned.py", self.folder).splitlines()
+        found = {name.strip(): [int(word) for word in words.split() if word.isdigit()][:4]
+                 for name, words in (line.split(":") for line in lines)}
+        self.assertEqual(found.pop("levelled and aligned"), [0, 20, 10, 10])
+        # Each step alone isn't enough.
+        self.assertEqual(set(found), {"as taken", "light levelled", "aligned"})
+        for name, (alarms, *others) in found.items():
+            self.assertGreater(alarms, 10, name)
+            self.assertEqual(others, [20, 10, 10], name)
+        self.assertEqual(sides_of(self.folder, "aligned.png"), (2 * 612, 512))
+
+    @unittest.skipUnless(importlib.util.find_spec("cv2"), "OpenCV isn't installed")
     def test_a_live_camera(self):
         seen, late = self.run_example("live.py", self.folder).splitlines()
         # The box crosses in 30 frames, and in the last one covers nothing that it didn't before.
@@ -120,6 +134,12 @@ class Examples(unittest.TestCase):
         self.assertRegex(late, r"a result came [0-9.]+ ms after its frame")
         self.assertEqual(sides_of(self.folder, "live.png"), (2560, 720))
 
+    def test_parts_for_the_studio(self):
+        said = self.run_example("flanges.py", self.folder, "64", "36")
+        self.assertIn("scratched are 2, 4, 6, 9, 11", said)
+        self.assertEqual(len(os.listdir(os.path.join(self.folder, "parts"))), 12)
+
+    @of_a_process
     def test_a_robot(self):
         *programs, end = self.run_example("robot.py").splitlines()
         self.assertEqual(programs, ["    belt: 40 pictures, built 2 times",
@@ -131,7 +151,7 @@ class Examples(unittest.TestCase):
         self.addCleanup(sys.path.remove, EXAMPLES)
         with mock.patch.object(sys, "dont_write_bytecode", True):
             bounds = importlib.import_module("bounds")
-        with vx.Server(PROGRAM) as server, server.context() as context:
+        with vx.Server(SERVED) as server, server.context() as context:
             for width, height, marked in ((4096, 300, [(4095, 299)]), (300, 1000, [(0, 0)]),
                                           (5, 4096, [(1, 9), (3, 4095)]),
                                           (700, 600, [(300, 400), (280, 450), (500, 410)]),

@@ -6,8 +6,10 @@ import tempfile
 import unittest
 from unittest import mock
 
-from program import PROGRAM, needs_program, vx
+from program import PROGRAM, needs_program, skip_module_in_process, vx
 from feqyldan import program
+
+skip_module_in_process("it is about the program of a process")
 
 
 class TestFinding(unittest.TestCase):

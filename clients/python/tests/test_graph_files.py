@@ -4,18 +4,22 @@ import csv
 import importlib.util
 import json
 import os
+import pickle
 import random
 import subprocess
 import sys
 import tempfile
+import time
+import tracemalloc
 import unittest
 import xml.etree.ElementTree
 from unittest import mock
 
-from program import HERE, PROGRAM, ProgramTest, needs_program, vx
-from feqyldan import files, graph_files, samples
+from program import HERE, SERVED, VARIABLES, ProgramTest, needs_program, vx
+from feqyldan import files, graph_files, json_files, samples
 from feqyldan.functions import FUNCTIONS
-from feqyldan.pictures import read_bytes
+from feqyldan.json_files import packed
+from feqyldan.storage import read_bytes
 
 numpy = samples.numpy_module()
 PACKAGE = os.path.realpath(os.path.join(HERE, ".."))
@@ -81,7 +85,7 @@ class TestFiles(FolderTest, ProgramTest):
             self.assertEqual([*again.inputs], ["camera"])
             self.assertEqual(sorted(again.outputs), sorted(names))
             self.assertEqual(again.graph.label, "a")
-            things = {call.label: call for node in graph.calls.values()
+            things = {call.label: call for node in graph._calls.values()
                       for call in node.operands if getattr(call, "label", "") in names}
             ours = graph.stream(pictures(3), camera, [things[name] for name in names])
             theirs = again.graph.stream(pictures(3), again.inputs["camera"],
@@ -156,6 +160,22 @@ class TestFiles(FolderTest, ProgramTest):
             self.assertEqual(outputs["found"].read().min_count, 30)
         self.assertEqual(again.objects["window"].valid, (1, 2, 5, 6))
 
+    def test_a_constant_image_has_one_number(self):
+        """It comes back, and ties the graph to no size."""
+        for fmt, value in ((vx.U8, 200), (vx.S16, -5)):
+            camera, mask, out = (self.context.image(fmt, 5, 4, name=name)
+                                 for name in ("camera", "mask", "out"))
+            mask.fill(value)
+            graph = self.context.graph()
+            graph.min(camera, mask, out)
+            graph.save(self.path("a.json"), inputs=[camera])
+            with open(self.path("a.json")) as file:
+                described = json.load(file)["objects"]["mask"]
+            self.assertEqual(described, {"kind": "image", "format": str(fmt), "width": 5,
+                                         "height": 4, "fill": value})
+            again = self.context.load_graph(self.path("a.json"))
+            self.holds(again.objects["mask"], [[value] * 5] * 4)
+
     def test_each_function_can_be_said(self):
         for function in FUNCTIONS:
             for parameter in graph_files.parameters_of(function):
@@ -190,7 +210,7 @@ class TestFiles(FolderTest, ProgramTest):
                 ({"a": {"kind": "image", "format": "U8"}}, [], "object \"a\": 'width' is missing"),
                 ({"a": {**image, "width": 9000}}, [], 'object "a": create a U8 image of 9000 by 1'),
                 ({"a": {**image, "valid": [0, 0, 3, 1]}}, [], 'object "a": make .* the valid rect'),
-                ({"a": {**image, "valid": 3}}, [], 'object "a": .*int.* not iterable'),
+                ({"a": {**image, "valid": 3}}, [], r'object "a": .* must be \(x0, .*, not 3'),
                 ({"a": {"kind": "film"}}, [],
                  'object "a": a kind must be one of image, .*\'film\''),
                 ({"a": 7}, [], 'object "a": an object must be .* a "kind", not 7'),
@@ -214,7 +234,21 @@ class TestFiles(FolderTest, ProgramTest):
                  [{"function": "not_", "input": "old[-2]", "output": "b"}],
                  r"node 1: there is no slot 'old\[-2\]': delay .* \"old\" .* has 2 slots, from 0 "
                  "down to -1, and no slot -2"),
-                ({"a": {**image, "samples": "AAAA"}}, [], 'object "a": Error -3 while decomp'),
+                ({"a": {**image, "samples": "AAAA"}}, [],
+                 "object \"a\": its samples aren't compressed text: Error -3 while decomp"),
+                ({"a": {**image, "samples": "A"}}, [], "object \"a\": its samples aren't compres"),
+                ({"a": {**image, "samples": 7}}, [], 'object "a": samples must be text, .* not 7'),
+                ({"a": {**image, "samples": packed(b"123")}}, [],
+                 'object "a": its samples must have 2 bytes when unpacked, and there are more'),
+                ({"a": {**image, "samples": packed(b"1")}}, [],
+                 'object "a": its samples must have 2 bytes when unpacked, and there are 1'),
+                ({"a": {**image, "input": "false"}}, [],
+                 "object \"a\": \"input\" must be true or false, not 'false'"),
+                ({"a": {**image, "kind": "delay", "slots": 2, "ages": 1}}, [],
+                 'object "a": "ages" must be true or false, not 1'),
+                ({"a": {**image, "fill": 256}}, [], 'object "a": .*256'),
+                ({"a": {**image, "fill": 0, "samples": "AAAA"}}, [],
+                 'object "a": give only one of samples, file and fill'),
                 ({"a": {"kind": "threshold", "format": "U8", "above": 9, "true_valeu": 0}}, [],
                  "object \"a\": the kind 'threshold' has no field 'true_valeu'; it has format, "
                  "above, between, true_value, false_value$"),
@@ -230,10 +264,203 @@ class TestFiles(FolderTest, ProgramTest):
             with self.subTest(words), self.assertRaisesRegex(vx.GraphFileError,
                                                              f"{path}: {words}"):
                 self.context.load_graph(path)
-        for text, words in (("{", "the file isn't JSON: "), ("[]", 'it lacks "feqyldan": 1; '),
-                            ('{"feqyldan": 1}', 'needs "objects"')):
-            with self.assertRaisesRegex(vx.GraphFileError, words):
-                self.context.load_graph(self.put("a.json", text))
+        for text, words in (
+                ("{", "the file isn't JSON: "), ("[]", 'it lacks "feqyldan": 1; '),
+                ('{"feqyldan": 1}', 'needs "objects"'), ("[" * 100_000, "nested too deeply"),
+                ('{"feqyldan": 1, "objects": {}, "nodes": [], "node": []}', "has no field 'node'"),
+                ('{"feqyldan": 1, "objects": {"a": {}, "a": {}}, "nodes": []}',
+                 "the key 'a' twice"),
+                ({"feqyldan": 1, "objects": {}, "nodes": 257 * [{}]}, "at most 256 nodes"),
+                ({"feqyldan": 1, "objects": {str(k): {} for k in range(1025)}, "nodes": []},
+                 "at most 1,024 objects, and this one has 1,025")):
+            path = self.put("a.json", text)
+            for load in (self.context.load_graph, graph_files.drawing_of_file):
+                with self.subTest(words), self.assertRaisesRegex(vx.GraphFileError,
+                                                                 f"{path}: .*{words}"):
+                    load(path)
+
+    def test_samples_that_unpack_to_more(self):
+        """Only what the image takes is unpacked."""
+        path = self.put("a.json", {"feqyldan": 1, "nodes": [], "objects": {"a": {
+            "kind": "image", "format": "U8", "width": 2, "height": 1,
+            "samples": packed(bytes(100_000_000))}}})
+        tracemalloc.start()
+        self.addCleanup(tracemalloc.stop)
+        with self.assertRaisesRegex(vx.GraphFileError, "must have 2 bytes when unpacked, .* more"):
+            self.context.load_graph(path)
+        self.assertLess(tracemalloc.get_traced_memory()[1], 10_000_000)
+        graph, camera = station(self.context)
+        with mock.patch.object(json_files, "GREATEST_FILE", 1000):
+            with self.assertRaisesRegex(ValueError, "at most 1,000 are read: save large images"):
+                graph.save(self.path("b.json"), inputs=[camera])
+        self.assertFalse(os.path.exists(self.path("b.json")))
+        with open(self.path("a.json"), "wb") as file:
+            file.truncate(2**27 + 1)
+        self.assertRaisesRegex(OSError, "at most 134,217,728", self.context.load_graph,
+                               path)
+
+    def test_a_field_that_the_file_does_not_have(self):
+        told = {"feqyldan": 1, "objects": {}, "nodes": [], "node": []}
+        with self.assertRaisesRegex(vx.GraphFileError, "a.json: a graph file has no field 'node'; "
+                                    "it has 'feqyldan', 'objects' and 'nodes'"):
+            self.context.load_graph(self.put("a.json", told))
+        with self.assertRaisesRegex(ValueError, "no field 'node'"):
+            vx.graph_text(told)
+
+    def test_a_text_keeps_files(self):
+        graph, camera = station(self.context)
+        graph.save(self.path("a.json"), inputs=[camera])
+        with open(self.path("a.json"), encoding="utf-8") as file:
+            text = file.read()
+        contents = json.loads(text)
+        self.assertEqual(vx.graph_text(contents), text)
+        contents["objects"]["clean"] = {"kind": "image", "file": "clean.pgm"}
+        self.assertEqual(json.loads(vx.graph_text(contents)), contents)
+
+    def test_a_fault_as_data(self):
+        image = {"kind": "image", "format": "U8", "width": 2, "height": 1}
+        for objects, nodes, place, code, operand in (
+                ({"a": {"kind": "film"}}, [], ("a", 0), "", ""),
+                ({"a": {**image, "width": 9000}}, [], ("a", 0), "INVALID_DIMENSION", ""),
+                ({"a": image}, [{"function": "not_", "input": "a"}], ("", 1), "", "output"),
+                ({"a": image}, [{"function": "multiply", "in1": "a", "in2": "a", "shift": 16,
+                                 "policy": "WRAP", "output": "a"}], ("", 1), "INVALID_VALUE",
+                 "shift")):
+            path = self.put("a.json", {"feqyldan": 1, "objects": objects, "nodes": nodes})
+            with self.assertRaises(vx.GraphFileError) as caught:
+                self.context.load_graph(path)
+            for error in (caught.exception, pickle.loads(pickle.dumps(caught.exception))):
+                self.assertEqual((error.object, error.node), place)
+                self.assertEqual((error.code, error.operand), (code, operand))
+                self.assertEqual(str(error), f"{path}: {error.place}: {error.words}")
+
+
+class TestAllFaults(FolderTest, ProgramTest):
+    """Context.graph_faults()."""
+
+    limits = {"work": 5000}
+
+    def faults(self, nodes, **objects):
+        image = {"kind": "image", "format": "U8", "width": 8, "height": 6}
+        objects = {"camera": {**image, "input": True}, "out": image,
+                   "mid": {"kind": "virtual image"}, "deep": {**image, "format": "S16"},
+                   "wide": {**image, "width": 9}, **objects}
+        path = self.put("a.json", {"feqyldan": 1, "objects": objects, "nodes": nodes})
+        return self.context.graph_faults(path)
+
+    def places(self, *arguments, **objects):
+        return [(fault.object or fault.node, fault.code, fault.operand)
+                for fault in self.faults(*arguments, **objects)]
+
+    def test_a_file_without_faults(self):
+        graph, camera = station(self.context)
+        graph.save(self.path("a.json"), inputs=[camera])
+        self.assertEqual(self.context.graph_faults(self.path("a.json")), ())
+
+    def test_each_verdict(self):
+        def node(function, source, output, **others):
+            return {"function": function, "input": source, "output": output, **others}
+
+        start = node("not_", "camera", "mid")
+        for nodes, expected in (
+                ([start, node("not_", "camera", "mid")], [(2, "MULTIPLE_WRITERS", "output")]),
+                ([node("not_", "mid", "mid"), node("not_", "camera", "out")],
+                 [(1, "INVALID_GRAPH", "")]),
+                ([node("not_", "mid", "out"), node("box3x3", "camera", "wide")],
+                 [(1, "INVALID_LINK", "input"), (2, "INVALID_DIMENSION", "output")]),
+                ([node("not_", "camera", "deep")], [(1, "INVALID_FORMAT", "output")]),
+                ([node("not_", "camera", "wide")], [(1, "INVALID_DIMENSION", "output")]),
+                ([{"function": "accumulate", "input": "camera", "accum": "mid"}],
+                 [(1, "INVALID_LINK", "accum")]),
+                ([node("convert_depth", "camera", "deep", policy="WRAP", shift=8)],
+                 [(1, "INVALID_VALUE", "shift")])):
+            with self.subTest(nodes):
+                self.assertEqual(self.places(nodes), expected)
+
+    def test_work_bytes(self):
+        big = {"kind": "image", "format": "U8", "width": 100, "height": 60}
+        found, = self.faults([{"function": "not_", "input": "camera", "output": "out"},
+                              {"function": "not_", "input": "big", "output": "mid"}], big=big)
+        self.assertEqual((found.object, found.node, found.code), ("", 0, "NO_RESOURCES"))
+        self.assertIn("6,000 bytes, and its work bytes are 5,000", str(found))
+
+    def test_several_at_once(self):
+        """Every fault is there, and none that only follows from another one."""
+        nodes = [{"function": "noth", "input": "camera", "output": "mid"},
+                 {"function": "not_", "input": "mid", "output": "out"},
+                 {"function": "not_", "input": "film", "output": "deep"},
+                 {"function": "min", "in1": "camera", "in2": "wide", "output": "late"},
+                 {"function": "max", "in1": "camera", "in2": "nowhere", "output": "other"}]
+        self.assertEqual(self.places(nodes, film={"kind": "film"}, late={"kind": "virtual image"},
+                                     other={"kind": "virtual image"}),
+                         [("film", "", ""), (1, "", ""), (5, "", ""),
+                          (2, "INVALID_LINK", "input"), (4, "INVALID_DIMENSION", "in2")])
+
+    def test_words_have_the_names_of_the_file(self):
+        found, = self.faults([{"function": "add", "in1": "camera", "in2": "camera",
+                               "policy": "WRAP", "output": "mid"},
+                              {"function": "not_", "input": "mid", "output": "out"}])
+        self.assertEqual(found.words, "not_ takes U8 to U8. \"mid\" is S16, 8 by 6, "
+                         "because node 1, add, writes it and its format is open; "
+                         "graph.virtual_image(vx.U8) has one.")
+        self.assertTrue(found.advice)
+
+    def test_inputs(self):
+        self.assertEqual(self.places([]), [("camera", "", "")])
+        self.assertEqual(self.places([{"function": "not_", "input": "out", "output": "camera"}]),
+                         [("camera", "", "")])
+
+    def test_no_graph_file(self):
+        fault, = self.context.graph_faults(self.put("a.json", "{"))
+        self.assertIn("isn't JSON", fault.words)
+
+
+class TestWatching(FolderTest, ProgramTest):
+    def test_virtual_images(self):
+        source = self.context.image_from([[1, 2, 3], [4, 5, 6], [7, 8, 9]])
+        graph, out = self.context.graph(), self.context.image(vx.U8, 3, 3)
+        negative, wide = graph.virtual_image(), graph.virtual_image()
+        graph.not_(source, negative)
+        graph.dilate3x3(source, wide)
+        graph.min(negative, wide, out)
+        seen = graph.watch()
+        self.assertEqual(seen[negative].value.tolist(),
+                         [[254, 253, 252], [251, 250, 249], [248, 247, 246]])
+        self.assertEqual(seen[wide].value.tolist(), [[0, 0, 0], [0, 9, 0], [0, 0, 0]])
+        self.assertEqual(seen[wide].valid, (1, 1, 2, 2))
+        # The output itself isn't written.
+        self.holds(out, [[0] * 3] * 3)
+        graph.process()
+        self.assertEqual(seen[out].value.tolist(), out.read().tolist())
+        self.assertRaisesRegex(KeyError, "no node of the graph wrote image 1", seen.__getitem__,
+                               source)
+        self.assertEqual(len([*seen]), 3)
+
+    def test_every_kind_of_output(self):
+        graph, camera = station(self.context)
+        camera.write(pictures(1)[0])
+        usage = self.context.usage()
+        seen = graph.watch()
+        self.assertEqual(self.context.usage(), usage)
+        graph.process()
+        outputs = {operand._reference: operand for call in graph._calls.values()
+                   for operand in call.operands[2:] if operand is not None}
+        self.assertEqual(len(seen), len(outputs))
+        for operand in outputs.values():
+            one = seen[operand]
+            if getattr(operand, "_is_virtual", False):
+                continue
+            # The delay aged after the run.
+            accumulated = graph._calls[1].operands[2]
+            read = accumulated.delay[-1] if isinstance(operand, vx.Slot) else operand
+            self.assertEqual(values_of([(None, [one.value])]), values_of([(None, [read.read()])]))
+            if isinstance(read, vx.AnyImage):
+                self.assertEqual(one.valid, read.valid)
+
+    def test_a_graph_that_is_refused(self):
+        graph = self.context.graph()
+        graph.not_(graph.virtual_image(), graph.virtual_image())
+        self.assertRaises(vx.InvalidLink, graph.watch)
 
 
 class TestDrawings(ProgramTest):
@@ -243,7 +470,7 @@ class TestDrawings(ProgramTest):
         for words in ("camera", "smooth[0]", "smooth[-1]", "absdiff", "node 2", "shape=ellipse"):
             self.assertIn(words, text)
         self.assertEqual(text.count(" -> "), sum(
-            operand is not None for call in graph.calls.values() for operand in call.operands))
+            operand is not None for call in graph._calls.values() for operand in call.operands))
 
     def test_labels(self):
         graph = self.context.graph()
@@ -307,8 +534,8 @@ class TestProfiles(ProgramTest):
         graph, camera = station(self.context)
         camera.write(pictures(1)[0])
         graph.process()
-        objects = [operand for call in graph.calls.values() for operand in call.operands
-                   if hasattr(operand, "read") and not operand.is_virtual]
+        objects = [operand for call in graph._calls.values() for operand in call.operands
+                   if hasattr(operand, "read") and not operand._is_virtual]
         before = [values_of([(None, [thing.read()])]) for thing in objects]
         usage = self.context.usage()
         profile = graph.profile(rounds=2)
@@ -381,9 +608,9 @@ class TestHelpers(FolderTest, ProgramTest):
                 with self.assertRaisesRegex(vx.BadPicture, "0 to 65534, and S16 holds those from"):
                     self.context.load(self.path("wider.png"))
                 for name, fault in (
-                        ("text", "isn't a picture"), ("empty", "is empty"),
-                        ("cut", "is a PNG file without its end: it is cut off after")):
-                    with self.assertRaisesRegex(vx.BadPicture, f"{name}.png {fault}"):
+                        ("text", "this isn't a picture"), ("empty", "the file is empty"),
+                        ("cut", "this is a PNG file without its end: it is cut off after")):
+                    with self.assertRaisesRegex(vx.BadPicture, f"{name}.png: {fault}"):
                         self.context.load(self.path(f"{name}.png"))
         with mock.patch.object(files, "_module", return_value=None):
             with self.assertRaisesRegex(ImportError, "needs OpenCV or PIL"):
@@ -427,18 +654,22 @@ class TestHelpers(FolderTest, ProgramTest):
 
 @needs_program
 class TestCommandLine(FolderTest):
-    def run_command(self, *words, status=0):
-        run = subprocess.run([sys.executable, "-m", "feqyldan", *words], cwd=self.folder,
-                             env={**os.environ, "PYTHONPATH": PACKAGE, "FEQYLDAN_PROGRAM": PROGRAM,
+    def run_command(self, *words, status=0, stdout=subprocess.PIPE, before=""):
+        """Runs a command. `before` is run first, by the shell that starts the command."""
+        command = [sys.executable, "-m", "feqyldan", *words]
+        if before:
+            command = ["bash", "-c", f'{before}"$0" "$@"', *command]
+        run = subprocess.run(command, cwd=self.folder,
+                             env={**os.environ, "PYTHONPATH": PACKAGE, **VARIABLES,
                                   "PYTHONDONTWRITEBYTECODE": "1"}, timeout=90,
-                             stdin=subprocess.DEVNULL, stdout=subprocess.PIPE,
-                             stderr=subprocess.PIPE, text=True)
+                             stdin=subprocess.DEVNULL, stdout=stdout, stderr=subprocess.PIPE,
+                             text=True, errors="surrogateescape")
         self.assertEqual(run.returncode, status, run.stderr)
         return run.stdout, run.stderr
 
     def setUp(self):
         super().setUp()
-        with vx.Server(PROGRAM) as server, server.context() as context:
+        with vx.Server(SERVED) as server, server.context() as context:
             graph, camera = station(context)
             graph.save(self.path("station.json"), inputs=[camera])
         for number, picture in enumerate(pictures(3)):
@@ -461,6 +692,98 @@ class TestCommandLine(FolderTest):
     def test_without_a_folder_numbers_are_printed(self):
         said, _ = self.run_command("run", "station.json", "--in", "part1.pgm")
         self.assertEqual(said.splitlines()[1].split(",")[0], "part1.pgm")
+
+    def test_pictures_that_are_skipped(self):
+        vx.write_pgm(self.path("part1.pgm"), [[1, 2]])
+        self.put("part3.pgm", "P5 8 6 255 cut")
+        self.put("part4.pgm", "")
+        words = "run", "station.json", "--in", "part*.pgm"
+        for more, status in ((("--skip", "--csv", "a.csv"), 3), (("--csv", "b.csv"), 1)):
+            _, said = self.run_command(*words, *more, status=status)
+            self.assertIn("part1.pgm: write 2 by 1 U8 samples", said)
+            with open(self.path(more[-1]), newline="") as file:
+                lines = [line["picture"] for line in csv.DictReader(file)]
+            self.assertEqual(lines, ["part0.pgm", "part2.pgm"] if status == 3 else ["part0.pgm"])
+            if status == 3:
+                self.assertRegex(said, r"skipped part3.pgm: .*cut off(.|\n)*skipped part4.pgm: .* "
+                                       r"is empty(.|\n)*feqyldan: 3 of 5 pictures were skipped$")
+        _, said = self.run_command("run", "station.json", "--in", "part3.pgm", "part4.pgm",
+                                   "--skip", "--out", "marks", status=3)
+        self.assertIn("2 of 2 pictures were skipped", said)
+
+    def test_standard_output(self):
+        words = "run", "station.json", "--in", "part1.pgm"
+        plain, _ = self.run_command(*words)
+        said, _ = self.run_command(*words, "--csv", "-", "--out", "marks")
+        self.assertEqual(said, plain)
+        self.assertFalse(os.path.exists(self.path("-")))
+        # It is closed.
+        for command in (words, ("draw", "station.json")):
+            _, said = self.run_command(*command, status=1, before=">&- ")
+            self.assertEqual(said, "feqyldan: standard output is closed: send it to a file, as in "
+                                   "> found.csv\n")
+        self.run_command(*words, "--out", "marks", before=">&- ")
+        self.run_command("run", "none.json", "--in", "part1.pgm", status=1, before="2>&- ")
+
+    def test_full_disks(self):
+        words = "run", "station.json", "--in", "part*.pgm"
+        for command in (words, ("draw", "station.json")):
+            with open("/dev/full", "w") as full:
+                _, said = self.run_command(*command, status=1, stdout=full)
+            self.assertEqual(said, "feqyldan: [Errno 28] No space left on device: 'standard output'"
+                                   "\n")
+        _, said = self.run_command(*words, "--csv", "/dev/full", status=1)
+        self.assertEqual(said, "feqyldan: [Errno 28] No space left on device: '/dev/full'\n")
+        # A file may have 1,024 bytes.
+        self.copying(64, 64)
+        vx.write_pgm(self.path("noise.pgm"), memoryview(os.urandom(4096)).cast("B", [64, 64]))
+        _, said = self.run_command("run", "copy.json", "--in", "noise.pgm", "--out", "marks",
+                                   status=1, before="ulimit -f 1; ")
+        self.assertEqual(said, "feqyldan: [Errno 27] File too large: 'marks/noise.png'\n")
+        self.assertEqual(os.listdir(self.path("marks")), [])
+
+    def copying(self, width, height):
+        """Writes a graph that copies its input to a file."""
+        image = {"kind": "image", "format": "U8", "width": width, "height": height}
+        self.put("copy.json", {
+            "feqyldan": 1, "objects": {"camera": {**image, "input": True}, "marks": image},
+            "nodes": [{"function": "max", "in1": "camera", "in2": "camera", "output": "marks"}]})
+
+    @unittest.skipUnless(numpy and (importlib.util.find_spec("cv2")
+                                    or importlib.util.find_spec("scipy")), "no OpenCV, no SciPy")
+    def test_counts_of_regions(self):
+        self.copying(5, 1)
+        vx.write_pgm(self.path("two.pgm"), [[9, 9, 0, 0, 9]])
+        for least, count in ((1, 2), (2, 1), (3, 0)):
+            said, _ = self.run_command("run", "copy.json", "--in", "two.pgm", "--regions",
+                                       str(least))
+            self.assertEqual(said.splitlines(), ["picture,marks.marked,marks.regions",
+                                                 f"two.pgm,3,{count}"])
+
+    def test_names_that_arent_utf_8(self):
+        name = os.fsdecode(b"part\xff.pgm")
+        os.rename(self.path("part1.pgm"), self.path(name))
+        said, _ = self.run_command("run", "station.json", "--in", name)
+        self.assertIn(f"{name},", said)
+        self.run_command("run", "station.json", "--in", name, "--csv", "a.csv", "--out", "marks")
+        self.assertIn(os.fsencode(name) + b",", read_bytes(self.path("a.csv")))
+        self.assertIn(os.fsdecode(b"part\xff.marks.png"), os.listdir(self.path("marks")))
+
+    def test_what_is_no_file(self):
+        """A named pipe would wait for somebody who writes to it, and for a socket it retries."""
+        os.mkfifo(self.path("pipe"))
+        for words, fault in ((("station.json", "--in", "pipe"), "isn't a regular file"),
+                             (("pipe", "--in", "part1.pgm"), "isn't a regular file"),
+                             (("station.json", "--in", "part1.pgm", "--socket", "station.json"),
+                              "this isn't a socket")):
+            start = time.monotonic()
+            _, said = self.run_command("run", *words, status=1)
+            self.assertRegex(said, f"^feqyldan: .*{fault}.*'(pipe|station.json)'$")
+            self.assertLess(time.monotonic() - start, 8)
+
+    def test_version(self):
+        said, _ = self.run_command("--version")
+        self.assertEqual(said, f"feqyldan {vx.__version__}\n")
 
     def test_drawings(self):
         said, _ = self.run_command("draw", "station.json")

@@ -128,7 +128,7 @@ class TestGraphs(ProgramTest):
         self.assertRaises(vx.InvalidFormat, vxu.accumulate, picture, self.context.image(U8, 1, 1))
         self.assertRaises(vx.InvalidDimension, vxu.accumulate, self.source, sums)
         for shift in (16, 255):
-            with self.assertRaisesRegex(vx.InvalidValue, "accumulate_square take 0 to 15"):
+            with self.assertRaisesRegex(vx.InvalidValue, "0 to 15 for accumulate_square"):
                 vxu.accumulate_square(picture, shift, sums)
         self.assertRaises(vx.OptimizedAway, vxu.accumulate, picture, self.graph.virtual_image(S16))
         self.graph.accumulate(picture, self.graph.virtual_image(S16, 1, 1))

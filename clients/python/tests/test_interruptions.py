@@ -19,7 +19,7 @@ import time
 import unittest
 from unittest import mock
 
-from program import PROGRAM, ProgramTest, answering, needs_program, vx
+from program import SERVED, ProgramTest, answering, needs_program, of_a_process, vx
 from feqyldan import pages, samples, wire
 from feqyldan.connection import Body, Connection, Request
 from feqyldan.pipes import enlarge
@@ -80,7 +80,7 @@ class Loop:
 def interrupt_often(times, width, height, in_pipeline, seed=1):
     """Interrupts a loop at random moments; the same context goes on each time."""
     chance = random.Random(seed)
-    with interrupting() as after, vx.Server(PROGRAM) as server, server.context() as context:
+    with interrupting() as after, vx.Server(SERVED) as server, server.context() as context:
         loop = Loop(context, width, height, in_pipeline)
         for _ in range(times):
             try:
@@ -104,7 +104,7 @@ class TestAtRandom(unittest.TestCase):
     def test_what_is_made_is_released(self):
         """An interruption may lose the name of an image, but the image is released."""
         chance = random.Random(2)
-        with interrupting() as after, vx.Server(PROGRAM, quota=500_000) as server:
+        with interrupting() as after, vx.Server(SERVED, quota=500_000) as server:
             with server.context() as context:
                 for _ in range(100):
                     with contextlib.suppress(KeyboardInterrupt):
@@ -117,7 +117,7 @@ class TestAtRandom(unittest.TestCase):
 
     def test_a_stream_goes_on(self):
         chance = random.Random(3)
-        with interrupting() as after, vx.Server(PROGRAM) as server, server.context() as context:
+        with interrupting() as after, vx.Server(SERVED) as server, server.context() as context:
             loop = Loop(context, 300, 200, False)
             for times in range(TIMES):
                 frames = [loop.pictures[number % 3] for number in range(10_000)]
@@ -177,6 +177,7 @@ def write_slowly(target, data):
         time.sleep(0.0005)
 
 
+@of_a_process
 class TestEachLine(unittest.TestCase):
     """An exception before each line of a connection's code in turn."""
 
@@ -324,7 +325,8 @@ class TestStreams(ProgramTest):
         """Returns whether a stream was interrupted at the n-th line or return of its code or the
         locks that it uses. The stream ends, and another one goes on."""
         loop = self.loop
-        trace = Everywhere(number, ("streams.py", "threading.py"), ("line", "return"))
+        files = "streams.py", "sources.py", "threading.py"
+        trace = Everywhere(number, files, ("line", "return"))
         stream = loop.graph.stream(iter(loop.pictures), loop.part, loop.out)
         # Its thread is there.
         next(stream)
@@ -360,10 +362,9 @@ class TestStreams(ProgramTest):
 
 
 LOOP = """
-import sys
 import feqyldan as vx
 
-with vx.Server(sys.argv[1]) as server, server.context() as context:
+with vx.Server() as server, server.context() as context:
     part, out = (context.image(vx.U8, 1280, 720) for _ in range(2))
     graph = context.graph()
     graph.not_(part, out)
@@ -383,6 +384,7 @@ print("ended well", flush=True)
 
 
 @needs_program
+@of_a_process
 class TestPrograms(ProcessTest):
     def test_ctrl_c_in_the_plainest_loop(self):
         """The program ends normally, and no server is left."""
@@ -398,6 +400,7 @@ class TestPrograms(ProcessTest):
             self.ends(server)
 
 
+@of_a_process
 class TestQuietEnds(ProgramTest):
     def test_a_server_that_is_gone(self):
         """A program that got the error that the server ended doesn't get it again, and one that

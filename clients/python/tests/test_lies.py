@@ -10,8 +10,10 @@ import tempfile
 import threading
 import unittest
 
-from program import answering, vx
+from program import answering, skip_module_in_process, vx
 from feqyldan import wire
+
+skip_module_in_process("a library found by this package is trusted")
 
 OPENED = wire.reply_frame(0, wire.OPEN_CONTEXT)
 
@@ -57,6 +59,16 @@ class TestLies(unittest.TestCase):
         lie = wire.reply_frame(0, wire.READ_DISTRIBUTION, 0, b"\0\6" + bytes(20))
         self.is_unexpected(ask, before, lie, "the reply is of another object")
 
+    def test_a_format_that_no_image_has(self):
+        before, _, ask = ASKS[wire.QUERY_IMAGE]
+        lie = wire.reply_frame(0, wire.QUERY_IMAGE, 0, struct.pack(">BHH4H", 9, 3, 2, 0, 0, 3, 2))
+        released = [wire.reply_frame(0, op) for op in (wire.RELEASE, wire.RELEASE_CONTEXT)]
+        program = answering(OPENED, *before, lie, *released)
+        with vx.Server(program) as server, server.context() as context:
+            with self.assertRaisesRegex(vx.UnexpectedReply, "an image of the unknown format 9; "
+                                        r"the formats are 1 \(U8\), 2 \(S16\), 3 \(U32\)"):
+                ask(context)
+
     def is_unexpected(self, ask, before, lie, words):
         program = answering(OPENED, *before, lie, end="source.read()")
         with self.assertRaisesRegex(vx.UnexpectedReply, words):
@@ -65,7 +77,7 @@ class TestLies(unittest.TestCase):
                     ask(context)
                 finally:
                     # Nothing more is asked of such a server.
-                    self.assertIsNotNone(context.connection.fault)
+                    self.assertIsNotNone(context._connection.fault)
 
     def test_no_memory_is_taken_for_the_head_of_a_great_reply(self):
         before, _, ask = ASKS[wire.READ_IMAGE]
@@ -113,7 +125,9 @@ class TestOwner(unittest.TestCase):
             sock.close()
 
     def test_no_such_user(self):
-        self.assertRaises(KeyError, vx.connect, self.path, owner="no such user")
+        for wrong in ("no such user", b"root", 1.5):
+            with self.assertRaisesRegex(ValueError, f"owner .* of this machine, not {wrong!r}"):
+                vx.connect(self.path, owner=wrong)
 
 
 if __name__ == "__main__":

@@ -49,7 +49,7 @@ class TestPictures(ProgramTest):
         for dtype, words in (
                 ("uint16", r"are array.astype\(numpy.int16\); of 16 bits \(array >> 1\).astype"),
                 ("bool", r"a mask of 0 and 255 is mask.astype\(numpy.uint8\) \* 255"),
-                ("float32", r"\(255 \* array\).round\(\).astype\(numpy.uint8\)"),
+                ("float32", r"clip\(\(255 \* array\).round\(\), 0, 255\).astype\(numpy.uint8\)"),
                 ("int32", r"numpy.clip\(array, 0, 255\).astype\(numpy.uint8\)"),
                 ("int64", r"astype\(\) alone would wrap"), ("complex64", "array of whole numbers")):
             self.says(zeros.astype(dtype), f"uint8, int16 or uint32, not {dtype}: .*{words}",
@@ -99,6 +99,11 @@ class TestPictures(ProgramTest):
                           pixels.T, pixels.astype(pixels.dtype.newbyteorder(">")).T):
                 self.assertTrue((self.context.image_from(given).read() == given).all())
 
+    def test_what_is_no_text(self):
+        for wrong in (pathlib.Path("a.pgm"), "P5 1 1 255 a", None):
+            with self.assertRaisesRegex(vx.NotAPicture, "must be bytes, .*load.path. reads a file"):
+                self.context.image_from_pgm(wrong)
+
     def test_texts(self):
         for begin, words in ((b"\xff\xd8\xff", "a JPEG, which context.load"),
                              (b"\x89PNG\r\n", "a PNG"), (b"P6 1 1", "a colour picture, PPM"),
@@ -120,8 +125,19 @@ class TestCalls(ProgramTest):
 
     def test_immediate_mode_says_what_it_takes(self):
         deep = self.context.image(vx.S16, 4, 3)
-        with self.assertRaisesRegex(vx.InvalidFormat, "median3x3 takes U8 to U8. The function"):
+        with self.assertRaisesRegex(vx.InvalidFormat, "median3x3 takes U8 to U8; .*The function"):
             self.context.vxu.median3x3(deep, self.context.image_like(deep))
+
+    def test_wide_samples_for_a_filter(self):
+        """In both modes. Functions that take S16 don't say so."""
+        wide, out = self.context.image(vx.S16, 2, 2), self.context.image(vx.U8, 2, 2)
+        graph, words = self.context.graph(), r"convert_depth\(.* makes U8 of an S16 image"
+        graph.gaussian3x3(wide, out)
+        for call in (lambda: self.context.vxu.gaussian3x3(wide, out), graph.verify,
+                     lambda: self.context.vxu.histogram(wide, self.context.distribution(2))):
+            self.assertRaisesRegex(vx.InvalidFormat, words, call)
+        with self.assertRaisesRegex(vx.InvalidFormat, "absdiff takes (?!.*convert_depth)"):
+            self.context.vxu.absdiff(wide, wide, out)
 
     def test_an_open_image_that_became_s16(self):
         one, out = self.context.image(vx.U8, 4, 3), self.context.image(vx.U8, 4, 3)
@@ -197,6 +213,38 @@ class TestCalls(ProgramTest):
         self.context.vxu.convert_depth(wide, byte, vx.wire.SATURATE, 0)
         self.assertEqual(byte.read()[0, 0], 255)
 
+    def test_a_delay_like_something_else(self):
+        with self.assertRaisesRegex(TypeError, "delay takes an image, .* not MinMax"):
+            self.context.delay(self.context.min_max(), 2)
+
+    def test_both_kinds_of_a_threshold(self):
+        for limits, words in (({}, "neither was given"),
+                              ({"above": 1, "between": (1, 2)}, "both were given")):
+            self.assertRaisesRegex(TypeError, words, self.context.threshold, vx.U8, **limits)
+
+    def test_valid_rectangles(self):
+        image = self.context.image(vx.U8, 3, 2)
+        for wrong in (None, 3, (1, 2, 3), (1, 2, 3, 4, 5), "ab"):
+            with self.assertRaisesRegex(ValueError, r"must be \(x0, y0, x1, y1\), not .* "
+                                                    r"\(0, 0, 3, 2\) is all of it"):
+                image.valid = wrong
+        image.valid = iter((0, 0, 2, 1))
+        self.assertEqual(image.valid, (0, 0, 2, 1))
+
+    def test_one_class_for_a_wrong_size(self):
+        """Whether the server refuses the number or a frame can't express it."""
+        graph = self.context.graph()
+        for make in (lambda side: self.context.image(vx.U8, side, 1),
+                     lambda side: self.context.image(vx.U8, 1, side),
+                     lambda side: graph.virtual_image(vx.U8, side)):
+            for side in (-1, 8193, 70000):
+                with self.assertRaisesRegex(vx.InvalidDimension, "8192") as caught:
+                    make(side)
+                self.assertIsInstance(caught.exception, ValueError)
+        for slots in (-1, 17, 300):
+            self.assertRaises(ValueError, self.context.delay, self.context.image(vx.U8, 1, 1),
+                              slots)
+
     def test_none(self):
         out = self.context.image(vx.U8, 4, 3)
         for call, words in ((lambda f: f.not_(None, out), "not_: .*Its input is None."),
@@ -263,6 +311,36 @@ class TestCalls(ProgramTest):
             graph.not_(late, mean)
             graph.not_(part, late)
             graph.verify()
+
+
+class TestCompletion(ProgramTest):
+    def test_names_of_the_inside_begin_with_a_line(self):
+        image, graph = self.context.image_from([[1]]), self.context.graph()
+        public = {
+            self.context: "closed close convolution delay distribution graph graph_faults image "
+                          "image_from image_from_pgm image_like load load_graph lut min_max number "
+                          "pipeline read_pgm run server threshold usage vxu",
+            self.server: "close closed context quota work",
+            image: "close closed context copy dtype fill fmt height label name ndim query read "
+                   "read_bytes read_pgm save shape size valid width write write_pgm",
+            self.context.delay(image, 2)[0]: "context copy delay dtype fill fmt height ndim number "
+                                             "query read read_bytes read_pgm save shape size valid "
+                                             "width write write_pgm",
+            graph.virtual_image(): "close closed context fmt height label name query read width "
+                                   "write",
+            self.context.pipeline(): "query read read_pgm refusals wait",
+            self.context.vxu: " ".join(FUNCTIONS),
+            graph: " ".join(FUNCTIONS) + " close closed context label name nodes process profile "
+                   "register_auto_aging save stream to_dot verify virtual_image watch"}
+        for thing, names in public.items():
+            # Completion by the class shows the same names as completion by dir().
+            for found in (dir(thing), dir(type(thing))):
+                self.assertEqual({name for name in found if name[:1] != "_"}, set(names.split()),
+                                 type(thing))
+        with self.context.pipeline() as ahead:
+            result = ahead.read(image)
+        self.assertEqual([name for name in dir(type(result)) if name[:1] != "_"],
+                         ["is_there", "raw", "value"])
 
 
 class TestNames(ProgramTest):

@@ -273,6 +273,33 @@ class TestReleases(ProgramTest):
                 raise KeyError
 
 
+class TestForgottenContexts(ProgramTest):
+    def test_contexts_that_python_forgets(self):
+        """Without a garbage collection, and with objects, graphs and errors of their own."""
+        self.addCleanup(gc.enable)
+        gc.disable()
+        for _ in range(300):
+            context = self.server.context()
+            image, out = (context.image(vx.U8, 1000, 1000) for _ in range(2))
+            graph = context.graph()
+            graph.not_(image, out)
+            graph.process()
+            context.vxu.not_(image, out)
+            self.assertRaises(vx.InvalidDimension, image.write, [[1]])
+            with context.pipeline() as ahead:
+                result = ahead.read(context.min_max())
+            self.assertEqual(result.value().max, 0)
+        self.assertLess(self.server._next_number, 5)
+        if self.server._process is not None:
+            with open(f"/proc/{self.server._process.pid}/status") as file:
+                status = dict(line.split(":", 1) for line in file)
+            self.assertLess(int(status["VmRSS"].split()[0]), 50_000)
+        # Another context's request releases them too.
+        del context, image, out, graph, ahead, result
+        self.context.graph()
+        self.assertEqual(len(self.server._free_numbers), self.server._next_number - 1)
+
+
 class TestThreads(ProgramTest):
     def test_threads_that_make_and_forget_objects_of_one_context(self):
         """No thread releases what another one has just created."""

@@ -9,12 +9,15 @@ import subprocess
 import sys
 import tempfile
 import unittest
+import urllib.request
 
-from program import PROGRAM, TOOLS, vx
+from program import PROGRAM, TOOLS, skip_module_in_process, vx
 from feqyldan import program
 from feqyldan.broker import command_line as broker
 from feqyldan.door import command_line as door
 from test_packaging import files_of, missing
+
+skip_module_in_process("it is about programs in packages")
 
 ROOT = os.path.realpath(os.path.join(TOOLS, ".."))
 FIRST = os.path.join(ROOT, "examples", "first.py")
@@ -38,7 +41,7 @@ def folder_for(test):
 
 class TestVersions(unittest.TestCase):
     def test_the_tree_has_one(self):
-        said = text_of("crates", "vx_main", "src", "command_line.rt")
+        said = text_of("crates", "vx_programs", "src", "command_line.rt")
         self.assertEqual(re.search(r'VERSION: &str = "(.*)";', said)[1], vx.__version__)
         self.assertEqual(re.search(r"\d+\.\d+\.\d+", text_of("CHANGELOG.md"))[0], vx.__version__)
 
@@ -121,6 +124,10 @@ class TestStarter(unittest.TestCase):
                                  text=True, check=False)
             self.assertEqual((run.returncode, run.stdout, run.stderr), (status, out, error), words)
 
+    def test_without_the_faster_build_the_flags_decide_nothing(self):
+        os.remove(os.path.join(self.folder, "lib", "feqyldan", program.FASTER))
+        self.assertEqual(self.started(program.FASTER_FLAGS), [program.PLAIN])
+
     def test_by_another_name(self):
         link = os.path.join(self.folder, "link")
         os.symlink(self.starter, link)
@@ -143,6 +150,13 @@ class TestPackages(unittest.TestCase):
                               f"--default={PROGRAM}", f"--x86-64-v3={PROGRAM}"],
                              stdout=subprocess.PIPE, text=True, check=True)
         return run.stdout.splitlines()
+
+    def test_a_program_for_another_processor_is_refused(self):
+        run = subprocess.run([sys.executable, os.path.join(TOOLS, "package"), "--machine=aarch64",
+                              f"--aarch64={PROGRAM}", folder_for(self)],
+                             capture_output=True, text=True, check=False)
+        self.assertEqual((run.returncode, run.stdout), (1, ""))
+        self.assertIn(f"{PROGRAM} isn't a program for aarch64", run.stderr)
 
     def setUp(self):
         self.folder = folder_for(self)
@@ -192,8 +206,10 @@ class TestPackages(unittest.TestCase):
     def test_each_package_needs_what_it_says(self):
         """The server works without Python, Python without the server, the library without both."""
         names = [os.path.basename(package).partition("_")[0] for package in self.debian]
-        self.assertEqual(names, ["feqyldan-server", "python3-feqyldan", "feqyldan",
-                                 "libfeqyldan0", "libfeqyldan-dev"])
+        self.assertEqual(names[:5], ["feqyldan-server", "python3-feqyldan", "feqyldan",
+                                     "libfeqyldan0", "libfeqyldan-dev"])
+        # It is built where GStreamer's headers are installed.
+        self.assertIn(names[5:], ([], ["gstreamer1.0-feqyldan"]))
         needs = {name: self.run_there("dpkg-deb", "--field", package, "Depends").strip()
                  for name, package in zip(names, self.debian)}
         version = vx.__version__
@@ -203,6 +219,8 @@ class TestPackages(unittest.TestCase):
         self.assertEqual(needs["feqyldan"], f"python3 (>= 3.9), feqyldan-server (= {version}), "
                                             f"python3-feqyldan (= {version})")
         self.assertEqual(needs["libfeqyldan-dev"], f"libfeqyldan0 (= {version})")
+        for name in names[5:]:
+            self.assertRegex(needs[name], r"^libc6 \(>= [\d.]+\), libgstreamer1.0-0 \(>= 1.20\), ")
         files = [name for package in self.debian
                  for name in self.run_there("dpkg-deb", "--contents", package).split()
                  if name.startswith("./") and not name.endswith("/")]
@@ -220,6 +238,20 @@ class TestPackages(unittest.TestCase):
                      "CHANGELOG.md"):
             self.assertTrue(os.path.isfile(os.path.join(documents, name)), name)
 
+    def test_the_studio_with_the_debian_packages(self):
+        """It serves its page."""
+        self.unpack()
+        run = subprocess.Popen([sys.executable, "-m", "feqyldan", "studio", "--no-browser"],
+                               cwd=self.folder, env=self.environment, stdout=subprocess.PIPE,
+                               text=True)
+        try:
+            address = re.search(r"http://\S+/", run.stdout.readline())[0]
+            with urllib.request.urlopen(address + "main.js", timeout=60) as reply:
+                self.assertIn(b"class Studio", reply.read())
+        finally:
+            run.terminate()
+            run.communicate(timeout=30)
+
     def test_the_example_in_c_with_the_debian_packages(self):
         self.unpack()
         example = f"{self.root}/usr/share/doc/libfeqyldan-dev/examples/edges.c"
@@ -231,10 +263,13 @@ class TestPackages(unittest.TestCase):
         os.mkdir(few)
         for name in ("dirname", "grep", "readlink", "sh", "sort"):
             os.symlink(shutil.which(name), os.path.join(few, name))
-        run = subprocess.run([made], stdout=subprocess.PIPE, timeout=120, check=True,
-                             env={"PATH": f"{self.root}/usr/bin:{few}", "LD_LIBRARY_PATH": library})
-        self.assertTrue(run.stdout.startswith(b"P5\n256 256\n255\n"))
-        self.assertEqual(set(run.stdout[15:]), {0, 255})
+        # With the server in its own process it needs nothing.
+        for words in ({"PATH": f"{self.root}/usr/bin:{few}", "FEQYLDAN_SERVER": "process"},
+                      {"PATH": "/nowhere"}):
+            run = subprocess.run([made], stdout=subprocess.PIPE, timeout=120, check=True,
+                                 env={"LD_LIBRARY_PATH": library, **words})
+            self.assertTrue(run.stdout.startswith(b"P5\n256 256\n255\n"))
+            self.assertEqual(set(run.stdout[15:]), {0, 255})
 
     def test_the_door_and_the_broker_of_the_debian_packages(self):
         self.unpack()
@@ -312,8 +347,8 @@ class TestPackages(unittest.TestCase):
         library = os.path.join(self.root, "usr/lib/python3/dist-packages/feqyldan")
         # What Python would have left there.
         os.mkdir(os.path.join(library, "__pycache__"))
-        self.run_there(*dpkg, "--purge", "feqyldan", "feqyldan-server", "python3-feqyldan",
-                       "libfeqyldan-dev", "libfeqyldan0")
+        names = [os.path.basename(package).partition("_")[0] for package in self.debian]
+        self.run_there(*dpkg, "--purge", *names)
         self.assertEqual(os.listdir(self.root), ["var"])
         self.assertEqual(os.listdir(os.path.join(self.root, "var")), ["lib"])
         self.assertFalse([path for path in files_of(kept) if "feqyldan" in path])

@@ -9,7 +9,9 @@ import tempfile
 import unittest
 import zipfile
 
-from program import HERE, PROGRAM
+from program import HERE, PROGRAM, skip_module_in_process
+
+skip_module_in_process("it needs no server")
 
 PYTHON = os.path.realpath(os.path.join(HERE, ".."))
 
@@ -53,6 +55,10 @@ class TestPackage(unittest.TestCase):
         self.assertEqual(files_of(PYTHON), before)
         where = self.run_there(python, "-c", "import feqyldan; print(feqyldan.__file__)").strip()
         self.assertTrue(where.startswith(os.path.join(self.folder, "venv")), where)
+        # The studio's page is one of the package's files.
+        said = self.run_there(python, "-c", "from feqyldan.studio.web import Site; "
+                              "print(*Site(0, 'token', {}).files)")
+        self.assertIn("index.html", said.split())
         for name in ("feqyldan-door", "feqyldan-broker"):
             said = self.run_there(os.path.join(os.path.dirname(python), name), "--help")
             self.assertIn("--socket", said)
@@ -80,7 +86,8 @@ class TestPackage(unittest.TestCase):
             self.assertIn(f"feqyldan-{name} = feqyldan.{name}:main", about["entry_points.txt"])
         sources = {os.path.relpath(path, PYTHON)
                    for path in files_of(os.path.join(PYTHON, "feqyldan"))
-                   if path.endswith(".py")}
+                   if path.endswith((".py", ".html", ".css", ".js", ".svg"))}
+        self.assertIn(os.path.join("feqyldan", "studio", "page", "main.js"), sources)
         self.assertEqual({name for name in names if name.startswith("feqyldan/")},
                          sources | {"feqyldan/py.typed"})
 

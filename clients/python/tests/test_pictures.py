@@ -1,16 +1,44 @@
-"""Pictures in files: PGM in and out, PNG out."""
+"""Pictures in files: PGM in and out, PNG out, and files of OpenCV and PIL."""
 
+import contextlib
+import importlib
+import importlib.util
 import os
+import resource
+import stat
 import struct
 import tempfile
 import unittest
 import zlib
+from unittest import mock
 
 from program import ProgramTest, vx
-from feqyldan import samples
+from feqyldan import files, samples
 
 numpy = samples.numpy_module()
 ROWS = [[0, 10, 20], [30, 40, 255]]
+needs_both = unittest.skipUnless(numpy and all(map(importlib.util.find_spec, ("cv2", "PIL"))),
+                                 "OpenCV or PIL isn't installed")
+
+
+@contextlib.contextmanager
+def greatest_file(size):
+    """Within the `with` this process writes at most `size` bytes to a file, as on a full disk."""
+    limits = resource.getrlimit(resource.RLIMIT_FSIZE)
+    resource.setrlimit(resource.RLIMIT_FSIZE, (size, limits[1]))
+    try:
+        yield
+    finally:
+        resource.setrlimit(resource.RLIMIT_FSIZE, limits)
+
+
+@contextlib.contextmanager
+def without(module):
+    """Within the `with` this package can't import a module."""
+    importer = importlib.import_module
+    with mock.patch.object(files.importlib, "import_module", lambda name: (
+            importer(name if name != module else "no_such_module"))):
+        yield
 
 
 def chunks_of(png):
@@ -109,6 +137,59 @@ class TestFiles(ProgramTest):
             self.assertEqual((image.fmt, image.shape), (fmt, (len(rows), len(rows[0]))))
             self.holds(image, rows)
 
+    def test_pgm_files_that_are_cut_off(self):
+        self.path += ".pgm"
+        whole = b"P5 4 3 255 " + bytes(12)
+        plain = b"P2 4 3 255" + b" 7" * 12
+        for text, taken in ((whole, 13), (b"P5 4 3 4095 " + bytes(24), 25), (plain, 24)):
+            for size in (1, len(text) - 20, len(text) // 2):
+                self.write(text[: len(text) - min(size, taken - 1)])
+                for load in (self.context.load, self.context.read_pgm, files.load):
+                    with self.subTest(text=text, size=size, load=load):
+                        with self.assertRaisesRegex(vx.BadPicture, "picture.pgm: .*is cut off"):
+                            load(self.path)
+
+    def test_errors_name_the_file(self):
+        self.path += ".pgm"
+        for text, kind, words in (
+                (b"P6 1 1 255 abc", vx.WrongPicture, "a colour picture, PPM"),
+                (b"P5 0 1 255 ", vx.InvalidDimension, "create a U8 image of 0 by 1"),
+                (b"P5 9999 1 255 " + bytes(9999), vx.InvalidDimension, "of 9999 by 1"),
+                (b"P2 1 1 9 10", vx.InvalidValue, "above its maxval"),
+                (b"P5 1 1 255 ab", vx.InvalidFormat, "1 bytes follow its last sample"),
+                (b"P5 1 1 0 1", vx.InvalidFormat, "maxval is 0")):
+            self.write(text)
+            with self.subTest(words), self.assertRaisesRegex(kind, f"picture.pgm: .*{words}"):
+                self.context.read_pgm(self.path)
+
+    def test_maxvals(self):
+        """Samples are as in the file, or scaled so that the maxval becomes 255."""
+        for text, plain, scaled in (
+                (b"P5 4 1 15 \0\1\7\x0f", [0, 1, 7, 15], [0, 17, 119, 255]),
+                (b"P2 4 1 15 0 1 7 # sevens\n 15\n", [0, 1, 7, 15], [0, 17, 119, 255]),
+                (b"P5 3 1 4095 \0\0\x08\0\x0f\xff", [0, 2048, 4095], [0, 128, 255]),
+                (b"P5 2 1 65535 \x0f\xff\0\1", [4095, 1], [16, 0]),
+                (b"P5 2 1 255 \0\7", [0, 7], [0, 7])):
+            self.write(text)
+            image = self.context.load(self.path)
+            self.holds(image, [plain])
+            self.assertEqual(files.load(self.path).tolist(), [plain])
+            eight = self.context.load(self.path, scale=True, name="eight")
+            self.assertEqual((eight.fmt, eight.label), (vx.U8, "eight"))
+            self.holds(eight, [scaled])
+        self.write(b"P5 2 1 65535 \xff\xff\0\1")
+        for load in (self.context.load, files.load):
+            with self.assertRaisesRegex(vx.BadPicture, "picture: it has samples up to 65535, .*"
+                                                       r"scale=True\) makes a U8 image"):
+                load(self.path)
+        self.holds(self.context.load(self.path, scale=True), [[255, 0]])
+        for text, words in ((b"P2 2 1 255 7 x", "numbers after its header"),
+                            (b"P2 2 1 255 7 8 9", "numbers after its header"),
+                            (b"P2 2 1 255 7 999999999", "a sample of 999999, above its maxval")):
+            self.write(text)
+            with self.assertRaisesRegex(vx.WrongPicture, f"picture: .*{words}"):
+                files.load(self.path)
+
     def test_pgm_files_that_are_none(self):
         for text, kind in ((b"P6 1 1 255 ", ValueError), (b"", ValueError),
                            (b"P5 0 1 255 ", vx.InvalidDimension),
@@ -133,12 +214,203 @@ class TestFiles(ProgramTest):
         self.holds(delay[-1], ROWS)
         self.assertRaises(vx.InvalidDimension, delay[0].write_pgm, b"P2 1 1 255 7")
 
+    def test_what_is_no_file(self):
+        """A named pipe would wait for somebody who writes to it."""
+        pipe = self.path + ".pipe"
+        os.mkfifo(pipe)
+        for load in (self.context.load, self.context.read_pgm, self.context.load_graph, files.load):
+            with self.assertRaisesRegex(OSError, "isn't a regular file: .*picture.pipe"):
+                load(pipe)
+            self.assertRaises(IsADirectoryError, load, os.path.dirname(pipe))
+        with open(self.path, "wb") as file:
+            file.truncate(2**29 + 1)
+        with self.assertRaisesRegex(OSError, "536,870,913 bytes, .* at most .*picture'"):
+            self.context.load(self.path)
+
+    def test_paths(self):
+        image = self.context.image_from(ROWS)
+        for call in (lambda: vx.write_png(ROWS, self.path), lambda: vx.write_pgm(image, self.path),
+                     lambda: image.save(7), lambda: self.context.load(7),
+                     lambda: self.context.load(None)):
+            self.assertRaisesRegex(TypeError, "a path must be text, bytes or an os.PathLike", call)
+        for call in (self.context.load, self.context.load_graph, image.save):
+            self.assertRaisesRegex(ValueError, "the path of the file, not its bytes", call,
+                                   b"P5 1 1 255 \0")
+        for wrong in ({}, {1: 2}, self.path, None, [["a"]]):
+            self.assertRaises(vx.BadPicture, vx.write_png, self.path, wrong)
+        self.assertFalse(os.path.exists(self.path))
+        name = os.fsencode(self.path) + b"\xff.pgm"
+        image.save(name)
+        for path in (name, os.fsdecode(name)):
+            self.holds(self.context.load(path), ROWS)
+
+    def test_a_file_is_replaced_when_it_is_complete(self):
+        noise = os.urandom(4096)
+        image, graph = self.context.image(vx.U8, 64, 64), self.context.graph()
+        image.write(noise)
+        graph.not_(image, self.context.image_like(image))
+        graph.max(image, image, self.context.image_like(image))
+        endings = [".pgm", ".png", ".npy", ".json"]
+        if files._module("cv2") or files._module("PIL.Image"):
+            endings += [".jpg", ".bmp", ".webp", ".tif"]
+        for ending in endings:
+            save = image.save if ending != ".json" else (
+                lambda path: graph.save(path, inputs=[]))
+            path, link = self.path + ending, self.path + ".link" + ending
+            with open(path, "wb") as file:
+                file.write(b"good")
+            os.chmod(path, 0o640)
+            os.symlink(path, link)
+            with self.subTest(ending):
+                with greatest_file(100), self.assertRaisesRegex(OSError, f"link{ending}"):
+                    save(link)
+                with open(path, "rb") as file:
+                    self.assertEqual(file.read(), b"good")
+                save(link)
+                self.assertGreater(os.path.getsize(path), 100)
+                self.assertTrue(os.path.islink(link))
+                self.assertEqual(stat.S_IMODE(os.stat(path).st_mode), 0o640)
+            os.remove(link)
+            os.remove(path)
+        self.assertEqual(os.listdir(os.path.dirname(self.path)), [])
+        with self.assertRaisesRegex(FileNotFoundError, "none/a.png"):
+            image.save(os.path.join(os.path.dirname(self.path), "none/a.png"))
+        # A device can't be replaced.
+        vx.write_pgm("/dev/null", image)
+        self.assertFalse(os.path.isfile("/dev/null"))
+
+    def test_a_file_that_is_write_protected(self):
+        vx.write_png(self.path, ROWS)
+        with mock.patch("os.access", return_value=False):
+            self.assertRaisesRegex(PermissionError, "picture", vx.write_png, self.path, ROWS)
+
     def test_png_files_are_written(self):
         image = self.context.image_from(ROWS)
         vx.write_png(self.path, self.context.delay(image, 1)[0])
         vx.write_png(self.path, image)
         with open(self.path, "rb") as file:
             self.assertEqual(decoded(file.read())[4], [bytes(row) for row in ROWS])
+
+
+@needs_both
+class TestOtherFiles(ProgramTest):
+    """Files that OpenCV or PIL reads or writes."""
+
+    def setUp(self):
+        super().setUp()
+        folder = tempfile.TemporaryDirectory()
+        self.addCleanup(folder.cleanup)
+        self.folder = folder.name
+        import cv2
+        noise = numpy.random.default_rng(1).integers(0, 256, (60, 80), numpy.uint8)
+        self.picture = cv2.GaussianBlur(noise, (0, 0), 2)
+
+    def put(self, name, content):
+        path = os.path.join(self.folder, name)
+        with open(path, "wb") as file:
+            file.write(content)
+        return path
+
+    def encoded(self, ending, *options):
+        import cv2
+        return cv2.imencode(ending, self.picture, options)[1].tobytes()
+
+    def readers(self):
+        """Runs the body of a loop with OpenCV alone, and with PIL alone."""
+        for missing in ("PIL.Image", "cv2"):
+            with without(missing):
+                yield missing
+
+    def test_a_file_that_is_cut_off(self):
+        import cv2
+        whole = {"a.jpg": self.encoded(".jpg"), "b.png": self.encoded(".png"),
+                 "c.jpg": self.encoded(".jpg", cv2.IMWRITE_JPEG_PROGRESSIVE, 1)}
+        # A thumbnail in a segment has an end of its own.
+        thumbnail = b"\xff\xe1\0\x0a....\xff\xd8\xff\xd9"
+        whole["d.jpg"] = whole["a.jpg"][:2] + thumbnail + whole["a.jpg"][2:]
+        for _ in self.readers():
+            for name, content in whole.items():
+                for kept in (len(content) - 1, len(content) - 2, len(content) - 9,
+                             len(content) // 2, 40):
+                    path = self.put(name, content[:kept])
+                    with self.assertRaisesRegex(vx.BadPicture, f"{name}: this is a (PNG|JPEG) file "
+                                                               "without its end: it is cut off"):
+                        self.context.load(path)
+                # Bytes after the end are no fault.
+                for more in (b"", bytes(200), b"\xff\xd8 more"):
+                    image = self.context.load(self.put(name, content + more))
+                    self.assertEqual(image.shape, self.picture.shape)
+
+    def test_names_that_arent_utf_8(self):
+        """OpenCV crashes on them."""
+        image = self.context.image_from(self.picture)
+        for _ in self.readers():
+            for ending in (b".png", b".bmp", b".jpg"):
+                path = os.path.join(os.fsencode(self.folder), b"part\xff" + ending)
+                image.save(os.fsdecode(path))
+                again = self.context.load(path)
+                self.assertLess(abs(again.read().astype(int) - self.picture).max(), 30)
+
+    def test_wide_samples(self):
+        """Formats of 8 bits would clip them."""
+        for rows in ([[-300, 5, 300]], [[0, 5, 300]], [[0, 5, 255]]):
+            deep = self.context.image_from(rows, vx.S16)
+            for _ in self.readers():
+                for ending in (".jpg", ".bmp", ".webp"):
+                    path = os.path.join(self.folder, "a" + ending)
+                    with self.assertRaisesRegex(ValueError, f"a{ending}: .*{ending}.*"):
+                        deep.save(path)
+                    self.assertFalse(os.path.exists(path))
+            with without("PIL.Image"):
+                deep.save(os.path.join(self.folder, "a.tif"))
+                self.holds(self.context.load(os.path.join(self.folder, "a.tif")), rows)
+        self.assertRaises(ValueError, self.context.image(vx.U32, 2, 2).save, path)
+        for _ in self.readers():
+            self.assertRaisesRegex(ValueError, "a.text: .* can't write this picture as .text",
+                                   self.context.image(vx.U8, 2, 2).save,
+                                   os.path.join(self.folder, "a.text"))
+
+    def test_a_file_of_too_many_pixels(self):
+        """It isn't unpacked: a file of 100 kB could take 10 GB."""
+        path = os.path.join(self.folder, "a.png")
+        for shape, words in (((1, 8193), "8,193 by 1"), ((8193, 1), "1 by 8,193")):
+            vx.write_png(path, numpy.zeros(shape, numpy.uint8))
+            for missing in self.readers():
+                with mock.patch.object(files, "_by_cv2" if missing != "cv2" else "_by_pil") as read:
+                    with self.assertRaisesRegex(vx.BadPicture, f"a.png: it has {words} pixels"):
+                        self.context.load(path)
+                read.assert_not_called()
+
+    def test_scaled_samples(self):
+        import cv2
+        wide = numpy.array([[0, 32896, 65535]], numpy.uint16)
+        path = self.put("wide.png", cv2.imencode(".png", wide)[1].tobytes())
+        for _ in self.readers():
+            self.assertRaises(vx.BadPicture, self.context.load, path)
+            self.holds(self.context.load(path, scale=True), [[0, 128, 255]])
+        numpy.save(os.path.join(self.folder, "a.npy"), numpy.array([[0.5]]))
+        for scale, words in ((False, "a.npy: samples must be uint8, int16 or uint32, not float64"),
+                             (True, "a.npy: scale=True takes unsigned samples")):
+            with self.assertRaisesRegex(vx.BadPicture, words):
+                self.context.load(os.path.join(self.folder, "a.npy"), scale)
+        for content in (b"\x93NUMPY\1\0", files.read_bytes(os.path.join(
+                self.folder, "a.npy"))[:-3]):
+            with self.assertRaisesRegex(vx.BadPicture, "b.npy: this isn't a whole .npy file"):
+                self.context.load(self.put("b.npy", content))
+
+    def test_palettes(self):
+        """The numbers of a palette image aren't its greys."""
+        import PIL.Image
+        palette = PIL.Image.fromarray(numpy.array([[0, 1, 2]], numpy.uint8), "P")
+        palette.putpalette([10, 10, 10, 200, 200, 200, 90, 90, 90])
+        path = os.path.join(self.folder, "a.png")
+        palette.save(path)
+        for _ in self.readers():
+            self.holds(self.context.load(path), [[10, 200, 90]])
+        with self.assertRaisesRegex(vx.NotAPicture, r"numbers of colours: image.convert\('L'\)"):
+            self.context.image_from(palette)
+        self.holds(self.context.image_from(palette.convert("L")), [[10, 200, 90]])
+        self.holds(self.context.image_from(numpy.asarray(palette)), [[0, 1, 2]])
 
 
 if __name__ == "__main__":

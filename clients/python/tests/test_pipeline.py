@@ -7,7 +7,7 @@ import threading
 import time
 import unittest
 
-from program import INTERRUPT, ProgramTest, answering, vx
+from program import INTERRUPT, ProgramTest, answering, of_a_process, vx
 from feqyldan import wire
 
 OPENED = wire.reply_frame(0, wire.OPEN_CONTEXT)
@@ -147,6 +147,7 @@ class TestPipelines(ProgramTest):
                               for context in [self.server.context() for _ in range(3)]}), 3)
 
 
+@of_a_process
 class TestInterruptions(unittest.TestCase):
     def interrupted(self, call):
         """Makes a call that the server interrupts by SIGALRM, as SIGINT would."""

@@ -11,7 +11,7 @@ import tempfile
 import time
 import unittest
 
-from program import HERE, PROGRAM, answering, needs_program, vx
+from program import HERE, PROGRAM, answering, needs_program, of_a_process, vx
 from feqyldan import wire
 
 OPENED = wire.reply_frame(0, wire.OPEN_CONTEXT)
@@ -39,7 +39,7 @@ def heed_signals():
 class ProcessTest(unittest.TestCase):
     def start(self, script):
         """Starts a program in a process group of its own, as a shell does."""
-        client = subprocess.Popen([sys.executable, "-c", script, PROGRAM], stdin=subprocess.PIPE,
+        client = subprocess.Popen([sys.executable, "-c", script], stdin=subprocess.PIPE,
                                   stdout=subprocess.PIPE,
                                   env={**os.environ, "PYTHONPATH": PACKAGE,
                                        "PYTHONDONTWRITEBYTECODE": "1"},
@@ -72,15 +72,16 @@ import os, sys, time
 import feqyldan as vx
 
 def server_of(server):
-    return server._process.pid
+    return server._process.pid if server._process else 0
 
-server = vx.Server(sys.argv[1])
+server = vx.Server()
 context = server.context()
 image = context.image_from([[1, 2]])
 """
 
 
 @needs_program
+@of_a_process
 class TestInterruptions(ProcessTest):
     def test_ctrl_c_interrupts_the_program_alone(self):
         """A terminal sends SIGINT to the whole group."""
@@ -138,7 +139,7 @@ def child(pipe):
     server.close()
     context.close()
     image.close()
-    with vx.Server(sys.argv[1]) as own, own.context() as other:
+    with vx.Server() as own, own.context() as other:
         pipe.send(other.image_from([[5, 6]]).read().tolist())
 
 ours, theirs = multiprocessing.get_context("fork").Pipe()
@@ -216,6 +217,7 @@ class TestForks(ProcessTest):
         self.assertEqual([self.line_of(client) for _ in range(2)], [["0"], ["closed"]])
         self.assertEqual(client.wait(PATIENCE), 0)
 
+    @of_a_process
     def test_the_server_ends_with_the_parent_though_a_child_lives(self):
         client = self.start(CHILD_LIVES)
         server = int(self.line_of(client)[0])
@@ -230,6 +232,7 @@ class TestForks(ProcessTest):
         """A lock that another thread had at the fork belongs to nobody in the child."""
         self.assertEqual(self.line_of(self.start(THREADS)), ["{0}"])
 
+    @of_a_process
     def test_sockets(self):
         """A child's copy of a socket is closed, and so the broker sees its end."""
         with tempfile.TemporaryDirectory() as folder:

@@ -7,7 +7,7 @@ import tempfile
 import unittest
 
 from documents import ROOT
-from program import PROGRAM, needs_program
+from program import PROGRAM, needs_program, of_a_process, vx
 from test_pictures import decoded
 
 # Takes too long here: tools/test runs all tests, this one among them.
@@ -29,7 +29,10 @@ def commands():
 
 class TestCommands(unittest.TestCase):
     def test_two_do_the_set_up(self):
-        self.assertEqual(commands()[:2], ["examples/run", "tools/test"])
+        self.assertEqual(commands()[1:3], ["examples/run", "tools/test"])
+
+    def test_one_looks_first(self):
+        self.assertIn("rt try -- apply dilate) < examples/flange.pgm", commands()[0])
 
     def test_the_toolchain_is_the_one_that_is_trusted(self):
         names = [re.findall(r"rattle-kit-\S+ logic [0-9a-f]+", text_of(*path))
@@ -43,11 +46,13 @@ class TestCommands(unittest.TestCase):
             self.assertTrue(os.access(os.path.join(ROOT, command), os.X_OK), command)
 
     @needs_program
+    @of_a_process
     def test_each_works_when_pasted(self):
         with tempfile.TemporaryDirectory() as folder:
             checkout, temporary = (os.path.join(folder, name) for name in ("checkout", "tmp"))
             os.mkdir(checkout)
             os.mkdir(temporary)
+            self.put_toolchain(temporary)
             for name in ("clients", "crates", "examples", "tools"):
                 os.symlink(os.path.realpath(os.path.join(ROOT, name)),
                            os.path.join(checkout, name))
@@ -57,10 +62,26 @@ class TestCommands(unittest.TestCase):
                         ["bash", "-c", command], cwd=checkout, timeout=300, check=False, text=True,
                         stdin=subprocess.DEVNULL, stdout=subprocess.PIPE, stderr=subprocess.STDOUT,
                         env={**os.environ, "FEQYLDAN_PROGRAM": PROGRAM, "TMPDIR": temporary,
+                             "PATH": f"{temporary}:{os.environ['PATH']}",
                              "PYTHONDONTWRITEBYTECODE": "1"})
                     self.assertEqual(run.returncode, 0, f"{command}:\n{run.stdout}")
             with open(os.path.join(checkout, "outlines.png"), "rb") as file:
                 self.assertEqual(decoded(file.read())[:2], (256, 256))
+            with vx.Server(PROGRAM) as server, server.context() as context:
+                flange = context.load(os.path.join(ROOT, "examples", "flange.pgm"))
+                wide = context.image_like(flange)
+                context.vxu.dilate3x3(flange, wide)
+                with open(os.path.join(checkout, "wide.pgm"), "rb") as file:
+                    self.assertEqual(file.read(), wide.read_pgm())
+
+    def put_toolchain(self, folder):
+        """Writes a command rt whose `rt try -- ..` runs the program, without compiling it for some
+        minutes."""
+        path = os.path.join(folder, "rt")
+        with open(path, "w", encoding="utf-8") as file:
+            file.write('#!/bin/sh\n[ "$1 $2" = "try --" ] && shift 2 && '
+                       'exec "$FEQYLDAN_PROGRAM" "$@"\n')
+        os.chmod(path, 0o755)
 
 
 if __name__ == "__main__":

@@ -9,8 +9,10 @@ import time
 import unittest
 from typing import List
 
-from program import PROGRAM, needs_program
+from program import PROGRAM, needs_program, skip_module_in_process
 from feqyldan import wire
+
+skip_module_in_process("it is about the pipes of a process")
 
 CLIENT = 7
 # Seconds after which a test gives up waiting.

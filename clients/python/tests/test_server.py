@@ -1,5 +1,6 @@
 """Servers: their limits, client numbers, and those behind a socket."""
 
+import asyncio
 import os
 import queue
 import socket
@@ -8,7 +9,7 @@ import tempfile
 import threading
 import unittest
 
-from program import PROGRAM, ProgramTest, needs_program, vx
+from program import PROGRAM, SERVED, ProgramTest, needs_program, of_a_process, vx
 
 
 class TestServers(ProgramTest):
@@ -33,7 +34,7 @@ class TestServers(ProgramTest):
         self.context.close()
 
     def test_limits(self):
-        with vx.Server(PROGRAM, quota=100, work=50) as server, server.context() as context:
+        with vx.Server(SERVED, quota=100, work=50) as server, server.context() as context:
             image = context.image(vx.U8, 10, 10)
             self.assertRaises(vx.NoResources, context.image, vx.U8, 1, 1)
             graph = context.graph()
@@ -41,10 +42,47 @@ class TestServers(ProgramTest):
             with self.assertRaisesRegex(vx.NoResources, "work bytes"):
                 graph.verify()
 
+    def test_limits_that_are_none(self):
+        for name in ("quota", "work"):
+            for wrong in (-1, 0, 2**40 + 1):
+                with self.assertRaisesRegex(ValueError, f"the {name} of a server must be from 1 to "
+                                                        f"1,099,511,627,776 bytes, not {wrong:,}"):
+                    vx.Server(SERVED, **{name: wrong})
+
+    def test_async_with(self):
+        async def run():
+            async with vx.Server(SERVED) as server, server.context() as context:
+                self.holds(await context.run(context.image_from, [[7]]), [[7]])
+            return server
+
+        self.assertTrue(asyncio.run(run()).closed)
+
+    @of_a_process
+    def test_what_is_logged(self):
+        with self.assertLogs("feqyldan", "INFO") as log:
+            with vx.Server(SERVED) as server, server.context() as context:
+                with self.assertRaises(vx.InvalidDimension):
+                    context.image(vx.U8, 1, 1).write([[1, 2]])
+            with self.assertRaises(vx.ServerEnded), vx.Server(SERVED) as server:
+                context = server.context()
+                server._process.kill()
+                context.graph()
+        number = r"process \d+"
+        for record, level, words in zip(log.records, (
+                "INFO", "WARNING", "INFO", "INFO", "WARNING"), (
+                f"server started: {number}, {PROGRAM}", "refused: write 2 by 1 U8 samples to image",
+                f"server of {number} ended with status 0", f"server started: {number}",
+                f"server of {number} ended with status -9")):
+            self.assertEqual(record.levelname, level, record)
+            self.assertRegex(record.getMessage(), words)
+        self.assertEqual(len(log.records), 5)
+
+    @of_a_process
     def test_words_of_a_command(self):
         with vx.Server(["env", PROGRAM]) as server, server.context() as context:
             context.image(vx.U8, 1, 1)
 
+    @of_a_process
     def test_memory_that_the_server_hasnt(self):
         """Under a limit on its address space, such as a shell's, the server refuses and goes on."""
         limited = ["sh", "-c", 'ulimit -v 100000 && exec "$0" "$@"', PROGRAM]
@@ -70,6 +108,7 @@ class TestServers(ProgramTest):
 
 
 @needs_program
+@of_a_process
 class TestSockets(unittest.TestCase):
     """A socket at which each connection gets a server program of its own."""
 
@@ -115,6 +154,22 @@ class TestSockets(unittest.TestCase):
         for _ in range(3):
             self.assertEqual(self.programs.get(timeout=10).wait(), 0)
         self.assertTrue(self.programs.empty())
+
+    def test_contexts_that_python_forgets(self):
+        """Their connections are closed, so their programs end."""
+        with vx.connect(self.path) as server:
+            for _ in range(5):
+                server.context().image(vx.U8, 9, 9).query()
+            with server.context() as context:
+                for _ in range(5):
+                    self.assertEqual(self.programs.get(timeout=10).wait(10), 0)
+                context.graph()
+                # Also before another context's request.
+                server.context()
+                context.graph()
+                mine, other = (self.programs.get(timeout=10) for _ in range(2))
+                self.assertEqual(other.wait(10), 0)
+            self.assertEqual(mine.wait(10), 0)
 
     def test_much_both_ways(self):
         with vx.connect(self.path) as server, server.context() as context:

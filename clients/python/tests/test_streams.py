@@ -105,6 +105,91 @@ class TestResultsAfterRefusals(StationTest):
                 self.assertRaisesRegex(vx.InvalidFormat, "read a PGM text", result.raw)
 
 
+class TestRefusedFrames(StationTest):
+    """A graph doesn't run for a frame that is refused, nor for the frames after it."""
+
+    def setUp(self):
+        super().setUp()
+        self.sums = self.context.image(vx.S16, 6, 4)
+        self.old = self.context.delay(self.part, 6)
+        self.adding = self.context.graph()
+        self.adding.accumulate(self.part, self.sums)
+        self.adding.max(self.part, self.part, self.old[0])
+        self.adding.register_auto_aging(self.old)
+
+    def has_run_for(self, *shades):
+        """Checks for which frames the graph has run since the last call."""
+        self.assertEqual(self.sums.read()[0, 0], sum(shades))
+        aged = [self.old[-k].read()[0, 0] for k in range(1, 6)]
+        self.assertEqual(aged[: len(shades)], [*reversed(shades)])
+        self.assertEqual(aged[len(shades)], 0)
+        for thing in (self.sums, *self.old):
+            thing.fill(0)
+
+    def test_frames_of_a_wrong_size_or_format(self):
+        deep = memoryview(bytes(48)).cast("h", [4, 6])
+        for wrong, kind in ((self.picture(9, 7), vx.WrongPictureSize),
+                            (deep, vx.WrongPictureFormat), (None, vx.NotAPicture),
+                            ([[9], [9, 9]], vx.WrongPicture)):
+            for take, ahead in ((list, 0), (list, 2), (iter, 2), (iter, 9)):
+                frames = take([*map(self.picture, (1, 2, 3)), wrong, *map(self.picture, (4, 5))])
+                with self.subTest(kind=kind, ahead=ahead):
+                    with self.assertLogs("feqyldan", "WARNING") as log, self.assertRaisesRegex(
+                            kind, "frame 4 .* The graph ran for frames 1 to 3"):
+                        [*self.adding.stream(frames, self.part, self.sums, ahead)]
+                    self.assertIn("the stream ends at frame 4: ", log.output[0])
+                    self.has_run_for(1, 2, 3)
+
+    def test_the_first_and_the_second_frame(self):
+        for count, words in ((0, "for no frame"), (1, "for frame 1 only")):
+            with self.assertRaisesRegex(vx.BadPicture, f"The graph ran {words}"):
+                [*self.adding.stream([*map(self.picture, range(1, count + 1)), [[1]]], self.part,
+                                     self.sums)]
+            self.has_run_for(*range(1, count + 1))
+
+    def test_objects_that_are_closed_meanwhile(self):
+        for at in range(2):
+            camera, out = self.context.image(vx.U8, 6, 4), self.context.image(vx.U8, 6, 4)
+            graph = self.context.graph()
+            graph.not_(camera, out)
+            graph.accumulate(camera, self.sums)
+            stream = graph.stream([*map(self.picture, (1, 2))], camera, out, ahead=0)
+            next(stream)
+            (camera, out)[at].close()
+            with self.assertRaisesRegex(vx.InvalidReference, "frame 2 of the stream.*uses closed "
+                                                             "image .*The graph ran for frame 1"):
+                next(stream)
+            self.assertEqual(self.sums.read()[0, 0], 1)
+            self.sums.fill(0)
+
+    def test_a_refusal_that_the_package_cant_foresee(self):
+        """Frames that were sent ahead have run."""
+        made = [wire.reply_frame(0, op, 0, bytes([0, 0, 0, number])) for op, number in (
+            (wire.CREATE_IMAGE, 1), (wire.CREATE_IMAGE, 2), (wire.CREATE_GRAPH, 3),
+            (wire.ADD_NODE, 1))]
+        done = [wire.reply_frame(0, wire.WRITE_IMAGE), wire.reply_frame(0, wire.PROCESS_GRAPH),
+                wire.reply_frame(0, wire.READ_IMAGE, 0, b"\1\0\1\0\1\7")]
+        full = wire.reply_frame(0, wire.WRITE_IMAGE, wire.NO_MEMORY)
+        skipped = wire.reply_frame(0, wire.PROCESS_GRAPH, wire.NO_MEMORY)
+        for second, third, words in (
+                ([full, *done[1:]], done, "ran for frame 1 only. It also ran for what had been "
+                                          "sent already: frames 2 and 3"),
+                ([done[0], skipped, done[2]], done, "sent already: frame 3"),
+                ([full, skipped, done[2]], [full, skipped, done[2]],
+                 "The graph ran for frame 1 only. The machine had no memory")):
+            # It answers when all three frames were sent.
+            replies = OPENED, *made, *8 * [b""], b"".join((*done, *second, *third))
+            with vx.Server(answering(*replies, end="source.read()")) as server:
+                context = server.context()
+                camera, out = (context.image(vx.U8, 1, 1) for _ in range(2))
+                graph = context.graph()
+                graph.not_(camera, out)
+                stream = graph.stream([[[k]] for k in range(3)], camera, out)
+                self.assertEqual(next(stream)[1].tolist(), [[7]])
+                with self.assertRaisesRegex(vx.NoMemory, f"frame 2 of the stream.*{words}"):
+                    next(stream)
+
+
 class TestPolling(StationTest):
     def test_is_there_becomes_true_by_itself(self):
         with self.context.pipeline() as ahead:
@@ -114,7 +199,7 @@ class TestPolling(StationTest):
             while not result.is_there and time.monotonic() < until:
                 time.sleep(0.001)
             self.assertTrue(result.is_there)
-            with mock.patch.object(self.context.connection, "_await") as waits:
+            with mock.patch.object(self.context._connection, "_await") as waits:
                 self.assertEqual(result.value()[0, 0], 9)
             waits.assert_not_called()
 
@@ -250,9 +335,9 @@ class TestStreams(StationTest):
         self.assertEqual(self.shades(self.graph.stream(iter([self.picture(3)]), self.part,
                                                        self.out)), [(3, 3)])
         until = time.monotonic() + PATIENCE
-        while self.context.barred and time.monotonic() < until:
+        while self.context._barred and time.monotonic() < until:
             time.sleep(0.001)
-        self.assertEqual(self.context.barred, set())
+        self.assertEqual(self.context._barred, set())
 
     @unittest.skipUnless(samples.numpy_module(), "NumPy isn't installed")
     def test_an_array_that_is_filled_again(self):
@@ -304,6 +389,25 @@ class TestStreams(StationTest):
             found = self.shades(vx.stream([*map(self.picture, range(5))], stations))
         self.assertEqual(found, [(0, 0), (1, 254), (2, 2), (3, 252), (4, 4)])
 
+    def test_graphs_that_need_every_frame(self):
+        """Two servers would each see every second frame."""
+        stations = []
+        for build in (lambda graph, part, out: graph.accumulate(part, out),
+                      lambda graph, part, out: graph.not_(part, self.delay[0])):
+            graph, sums = self.context.graph(), self.context.image(vx.S16, 6, 4)
+            self.delay = self.context.delay(self.part, 2)
+            build(graph, self.part, sums)
+            station = graph, self.part, sums if graph._writes == {sums.name} else self.delay[0]
+            stations.append(station)
+            self.assertEqual(len([*vx.stream([self.picture(1)], [station])]), 1)
+            with self.assertRaisesRegex(ValueError, "graph .* keeps (sums|delay).* one station"):
+                next(vx.stream([self.picture(1)], [(self.graph, self.part, self.out), station]))
+        aging = self.context.graph()
+        aging.not_(self.part, self.out)
+        aging.register_auto_aging(self.delay)
+        with self.assertRaisesRegex(ValueError, "keeps a delay that it ages"):
+            next(vx.stream([self.picture(1)], 2 * [vx.Station(aging, self.part, self.out)]))
+
     def test_virtual_images(self):
         virtual = self.graph.virtual_image(vx.U8)
         for camera, out in ((virtual, self.out), (self.part, virtual), (self.part, [virtual])):
@@ -346,6 +450,17 @@ class TestStreams(StationTest):
         aging.register_auto_aging(delay)
         self.assertEqual(len([*aging.stream(frames, delay[0], self.out)]), 2)
 
+    def test_what_is_no_station(self):
+        station = vx.Station(self.graph, self.part, self.out)
+        for wrong, words in ((station, "must be in a list"), (self.graph, "must be in a list"),
+                             (None, "must be in a list"), ([self.graph], "must be vx.Station"),
+                             ([(self.part, self.out)], "must be vx.Station"),
+                             ([(self.part, self.graph, self.out)], "must be vx.Station")):
+            with self.subTest(words), self.assertRaisesRegex(TypeError, words):
+                vx.stream([self.picture(1)], wrong)
+        (_, out), = vx.stream([self.picture(1)], [tuple(station)])
+        self.assertEqual(out[0, 0], 1)
+
     def test_what_is_no_stream(self):
         for call in (lambda: self.graph.stream([], self.part, self.out, ahead=-1),
                      lambda: vx.stream([], []),
@@ -383,7 +498,7 @@ def camera():
     finally:
         say("left")
 
-with vx.Server(sys.argv[1]) as server, server.context() as context:
+with vx.Server() as server, server.context() as context:
     part, out = (context.image(vx.U8, 1, 1) for _ in range(2))
     graph = context.graph()
     graph.not_(part, out)

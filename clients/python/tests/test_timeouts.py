@@ -2,6 +2,7 @@
 socket."""
 
 import os
+import signal
 import socket
 import tempfile
 import threading
@@ -9,8 +10,10 @@ import time
 import unittest
 from unittest import mock
 
-from program import answering, vx
+from program import SERVED, answering, needs_program, skip_module_in_process, vx
 from feqyldan import wire
+
+skip_module_in_process("no call can be given up there")
 
 OPENED = wire.reply_frame(0, wire.OPEN_CONTEXT)
 NAMED = wire.reply_frame(0, wire.CREATE_IMAGE, 0, b"\0\0\0\1")
@@ -70,10 +73,56 @@ class TestOwnServers(unittest.TestCase):
         for wrong in (0, -1, float("nan"), float("inf")):
             self.assertRaises(ValueError, vx.Server, answering(), timeout=wrong)
             self.assertRaises(ValueError, vx.connect, "/no/such/socket", timeout=wrong)
-        self.assertRaises(TypeError, vx.Server, answering(), timeout="1")
+        for call in (vx.Server, vx.connect):
+            with self.assertRaisesRegex(TypeError, "timeout must be a number of .*, not '5'"):
+                call("/no/such", timeout="5")
+        self.assertRaisesRegex(ValueError, "retry must be .*, not '5'", vx.connect, "/no/such",
+                               retry="5")
         for wrong in (-1, float("nan")):
             with self.assertRaisesRegex(ValueError, f"retry must be .*, not {wrong}"):
                 vx.connect("/no/such/socket", retry=wrong)
+
+
+@needs_program
+class TestStoppedServers(unittest.TestCase):
+    """Servers that don't even hear that they should end."""
+
+    def stopped(self, **options):
+        server = vx.Server(SERVED, **options)
+        self.addCleanup(lambda: server.closed or server.close())
+        context = server.context()
+        os.kill(server._process.pid, signal.SIGSTOP)
+        # SIGTERM would end a process that doesn't stand yet.
+        while "T (stopped)" not in self.status_of(server._process.pid):
+            time.sleep(0.001)
+        return server, context
+
+    def status_of(self, process):
+        with open(f"/proc/{process}/status") as file:
+            return file.read()
+
+    def seconds_of(self, call):
+        start = time.monotonic()
+        call()
+        return time.monotonic() - start
+
+    def test_a_call_that_times_out(self):
+        server, context = self.stopped(timeout=SHORT)
+        self.assertRaises(vx.TimedOut, context.graph)
+        self.assertLess(self.seconds_of(server.close), 5)
+
+    def test_no_close(self):
+        server, context = self.stopped(timeout=SHORT)
+        self.assertRaises(vx.TimedOut, context.graph)
+        self.assertEqual(server._process.wait(5), -signal.SIGKILL)
+
+    def test_an_error_in_a_with(self):
+        def fail():
+            with self.assertRaises(KeyError):
+                with self.stopped()[0]:
+                    raise KeyError
+
+        self.assertLess(self.seconds_of(fail), 5)
 
 
 class TestSockets(unittest.TestCase):

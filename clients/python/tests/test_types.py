@@ -16,6 +16,7 @@ AROUND = """
 from __future__ import annotations
 import asyncio
 from collections.abc import Callable, Iterable, Iterator
+import cv2
 import numpy
 import feqyldan as vx
 
@@ -43,6 +44,8 @@ def build(context: vx.Context, reference: npt.NDArray[np.uint8]) -> tuple[vx.Gra
 
 with vx.Server() as server, server.context() as context:
     g, out = build(context, np.zeros((3, 4), np.uint8))
+    out.valid = (0, 0, 3, 3)
+    print(out.valid.x1, vx.Image.valid.__doc__)
     print(out.read().mean(), out.read()[0, 1], out.read().tolist())
     extremes, counts, delay = context.min_max(), context.distribution(4), context.delay(out, 2)
     with context.pipeline() as ahead:
@@ -68,6 +71,7 @@ with vx.Server() as server, server.context() as context:
     g.medianBlur(out, out)                  # error: attr-defined
     context.imread("part.png")              # error: attr-defined
     out.width = 3                           # error: misc
+    out.valid = (0, 3)                      # error: assignment
     out.vaild = 3                           # error: attr-defined
 """
 

@@ -1,23 +1,34 @@
 """The units of systemd in deploy/."""
 
+import contextlib
 import glob
 import os
 import re
 import shlex
 import shutil
+import socket
 import subprocess
 import tempfile
+import time
 import unittest
 from typing import Dict, List, Set
 
 from broker_tools import HERE, LATE
-from program import PROGRAM, needs_program, vx
+from program import PROGRAM, needs_program, skip_module_in_process, vx
 from feqyldan.broker import command_line as broker
 from feqyldan.broker.loop import END_SECONDS
 from feqyldan.door import command_line as door
+from feqyldan.service.listener import STATUS_NAME
+
+skip_module_in_process("it is about the processes of systemd")
 
 DEPLOY = os.path.realpath(os.path.join(HERE, "..", "..", "..", "deploy"))
 SERVICES = {"feqyldan-door": door, "feqyldan-broker": broker}
+MANAGER = "/lib/systemd/systemd"
+# A user that no other program of this machine has.
+USER = 61_358
+# Where control groups of systemd may be.
+GROUPS = ("/sys/fs/cgroup", "/sys/fs/cgroup/systemd", "/sys/fs/cgroup/unified")
 # The greatest exposure level, of 10, that systemd-analyze may report for a service.
 EXPOSURE = 2.0
 
@@ -31,6 +42,58 @@ def unit(name: str) -> Dict[str, List[str]]:
             if equals and not line.startswith("#"):
                 found.setdefault(word, []).append(value.strip())
     return found
+
+
+class UserManager:
+    """A user manager of systemd with these units, one of which it starts. It runs as a user of its
+    own, in control groups of its own, and sees an empty /run, so it reaches nothing of the
+    machine."""
+
+    def __init__(self, folder: str, units: Dict[str, str], started: str) -> None:
+        runtime, place = os.path.join(folder, "run"), os.path.join(folder, "config/systemd/user")
+        os.makedirs(runtime, 0o700)
+        os.makedirs(place)
+        for name, text in units.items():
+            with open(os.path.join(place, name), "w", encoding="utf-8") as file:
+                file.write(text)
+        self.groups = [self.own_group(path) for path in GROUPS
+                       if os.path.exists(os.path.join(path, "cgroup.procs"))]
+        for path in (folder, runtime):
+            os.chown(path, USER, USER)
+        environment = {"PATH": os.environ["PATH"], "HOME": folder, "XDG_RUNTIME_DIR": runtime,
+                       "XDG_CONFIG_HOME": os.path.join(folder, "config")}
+        enter = " && ".join(f"echo 0 > {group}/cgroup.procs" for group in self.groups)
+        self.process = subprocess.Popen(
+            ["sh", "-c", f'{enter} && exec unshare --mount --pid --fork --kill-child --mount-proc '
+             'sh -c "$0"',
+             "mount -t tmpfs tmpfs /run && mkdir -p /run/systemd/system && setpriv "
+             f"--reuid={USER} --regid={USER} --clear-groups sh -c '{MANAGER} --user & "
+             # With the first process of the namespace all others end.
+             f"until systemctl --user start {started}; do sleep 0.1; done; wait'; exit"],
+            env=environment, stdout=subprocess.DEVNULL, stderr=subprocess.DEVNULL)
+
+    def own_group(self, parent: str) -> str:
+        group = os.path.join(parent, f"feqyldan-test-{os.getpid()}")
+        os.mkdir(group)
+        for path in (group, *(entry.path for entry in os.scandir(group)
+                              if entry.name in ("cgroup.procs", "cgroup.subtree_control"))):
+            os.chown(path, USER, USER)
+        return group
+
+    def close(self) -> None:
+        self.process.kill()
+        self.process.wait()
+        for group in self.groups:
+            for folder, _, _ in os.walk(group, topdown=False):
+                self.remove(folder)
+
+    def remove(self, folder: str) -> None:
+        """Removes a control group as soon as its processes have ended."""
+        end = time.monotonic() + LATE
+        while os.path.exists(folder) and time.monotonic() < end:
+            with contextlib.suppress(OSError):
+                os.rmdir(folder)
+            time.sleep(0.01)
 
 
 class Units(unittest.TestCase):
@@ -50,11 +113,12 @@ class Units(unittest.TestCase):
         service = unit("feqyldan@.service")
         self.assertEqual((service["User"], service["PrivateUsers"], service["ProtectProc"]),
                          (["feqyldan"], ["yes"], ["invisible"]))
-        # Not even fcntl, which can have a signal sent.
-        self.assertEqual(service["SystemCallFilter"],
-                         ["@default @basic-io",
-                          "access fstat madvise mremap newfstatat openat rt_sigaction statx",
-                          "~prlimit64"])
+        # Not even fcntl, which can have a signal sent. On aarch64 the loader calls faccessat.
+        self.assertEqual(
+            service["SystemCallFilter"],
+            ["@default @basic-io",
+             "access faccessat fstat madvise mremap newfstatat openat rt_sigaction statx",
+             "~prlimit64"])
         self.assertEqual(service["SystemCallErrorNumber"], ["EPERM"])
 
     @unittest.skipUnless(shutil.which("systemd-analyze"), "systemd-analyze isn't there")
@@ -96,25 +160,50 @@ class Units(unittest.TestCase):
             service, sockets = unit(f"{name}.service"), unit(f"{name}.socket")
             words = shlex.split(service["ExecStart"][0])
             told = module.parser().parse_args(words[words.index("-m") + 2 :])
-            # Both sockets are handed over, that of the programs first.
+            # Both sockets are handed over.
             self.assertEqual((told.socket, told.status), (None, None))
-            self.assertEqual(sockets["ListenStream"],
-                             ["/run/feqyldan/socket", "/run/feqyldan/status"])
+            self.assertEqual(sockets["ListenStream"], ["/run/feqyldan/socket"])
             self.assertEqual(service["Type"], ["notify"])
             self.assertLess(told.grace + END_SECONDS, float(service["TimeoutStopSec"][0]))
             # It is started again for as long as that takes, and no kill of a server ends it.
             self.assertEqual((service["StartLimitIntervalSec"], service["Restart"],
                               service["OOMPolicy"]), (["0"], ["on-failure"], ["continue"]))
 
+    def test_the_status_has_a_socket_and_a_group_of_its_own(self) -> None:
+        for name in SERVICES:
+            status, sockets = unit(f"{name}-status.socket"), unit(f"{name}.socket")
+            self.assertEqual((status["ListenStream"], status["FileDescriptorName"]),
+                             (["/run/feqyldan/status"], [STATUS_NAME]))
+            self.assertEqual(status["Service"], [f"{name}.service"])
+            self.assertEqual((status["SocketMode"], status["SocketGroup"]),
+                             (["0660"], ["feqyldan-status"]))
+            self.assertEqual((sockets["SocketMode"], sockets["SocketGroup"]),
+                             (["0660"], ["feqyldan"]))
+            self.assertIn(f"{name}-status.socket", unit(f"{name}.service")["Requires"][0])
+
+    def test_no_burst_stops_a_socket(self) -> None:
+        for path in glob.glob(f"{DEPLOY}/*.socket"):
+            self.assertEqual(unit(os.path.basename(path))["TriggerLimitIntervalSec"], ["0"], path)
+
     def test_two_are_not_at_one_path(self) -> None:
         self.assertEqual(unit("feqyldan-door.socket")["Conflicts"], ["feqyldan.socket"])
         self.assertEqual(unit("feqyldan-broker.socket")["Conflicts"],
                          ["feqyldan.socket feqyldan-door.socket"])
+        self.assertEqual(unit("feqyldan-broker-status.socket")["Conflicts"],
+                         ["feqyldan-door-status.socket"])
+        for name in SERVICES:
+            self.assertEqual(unit(f"{name}-status.socket")["PartOf"], [f"{name}.socket"])
 
     def test_no_core_has_pictures(self) -> None:
         for path in glob.glob(f"{DEPLOY}/*.service"):
             found = unit(os.path.basename(path))
             self.assertEqual((found["LimitCORE"], found["UMask"]), (["0"], ["0077"]), path)
+
+    def test_no_server_writes_where_all_programs_can_read(self) -> None:
+        for path in glob.glob(f"{DEPLOY}/*.service"):
+            found = unit(os.path.basename(path))
+            self.assertEqual((found["PrivateTmp"], found["InaccessiblePaths"]),
+                             (["yes"], ["-/dev/shm -/dev/mqueue"]), path)
 
     @unittest.skipUnless(shutil.which("systemd-analyze"), "systemd-analyze isn't there")
     def test_systemd_finds_no_fault_with_them(self) -> None:
@@ -140,6 +229,44 @@ class Units(unittest.TestCase):
             level = re.search(r"Overall exposure level for \S+: ([\d.]+)", said)
             assert level is not None, said
             self.assertLessEqual(float(level[1]), EXPOSURE, said)
+
+    @unittest.skipIf(os.geteuid() or not os.path.exists(MANAGER) or not shutil.which("unshare"),
+                     "a manager of systemd in a mount namespace needs root, systemd and unshare")
+    def test_a_burst_of_connections_leaves_the_socket(self) -> None:
+        with tempfile.TemporaryDirectory() as folder, contextlib.ExitStack() as ends:
+            path = os.path.join(folder, "socket")
+            with open(os.path.join(DEPLOY, "feqyldan.socket"), encoding="utf-8") as file:
+                sockets = re.sub("(?m)^Socket(User|Group)=.*\n", "", file.read())
+            manager = UserManager(folder, {
+                "feqyldan.socket": sockets.replace("/run/feqyldan/socket", path),
+                "feqyldan@.service": "[Service]\nExecStart=/bin/cat\nStandardInput=socket\n"
+                                     "StandardOutput=socket\n"}, "feqyldan.socket")
+            ends.callback(manager.close)
+            end = time.monotonic() + LATE / 4
+            while not os.path.exists(path) and time.monotonic() < end:
+                time.sleep(0.01)
+            if not os.path.exists(path):
+                self.skipTest("no manager of systemd can be started here")
+            for _ in range(1000):
+                with socket.socket(socket.AF_UNIX) as sock:
+                    sock.connect(path)
+            for _ in range(5):
+                self.assertTrue(self.is_served(path))
+
+    def is_served(self, path: str) -> bool:
+        """Returns whether a connection comes to be served in time. Those beyond MaxConnections are
+        closed."""
+        end = time.monotonic() + LATE
+        while time.monotonic() < end:
+            with socket.socket(socket.AF_UNIX) as sock, contextlib.suppress(BrokenPipeError,
+                                                                            ConnectionResetError):
+                sock.settimeout(LATE)
+                sock.connect(path)
+                sock.sendall(b"x")
+                if sock.recv(1) == b"x":
+                    return True
+            time.sleep(0.1)
+        return False
 
     def analyze(self, *words: str) -> str:
         run = subprocess.run(["systemd-analyze", *words], stdout=subprocess.PIPE,

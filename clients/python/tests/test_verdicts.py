@@ -1,11 +1,12 @@
 """Messages for a graph that can't run: the node at fault, the cycle, the unwritten virtual input.
 They agree with the server's verdict."""
 
+import pickle
 import random
 import unittest
 from unittest import mock
 
-from program import ProgramTest, vx
+from program import ProgramTest, of_a_process, vx
 from feqyldan import verdicts, wire
 
 U8, S16, U32 = vx.U8, vx.S16, vx.U32
@@ -93,8 +94,8 @@ class TestWords(ProgramTest):
         self.graph.convert_depth(self.context.image(U8, 10, 6), self.graph.virtual_image(), vx.WRAP,
                                  0)
         self.says(vx.NoResources, "Its virtual images need 120 bytes, and its work bytes are 100.")
-        verdict = verdicts.verdict_on(self.graph.members, wire.NO_RESOURCES)
-        self.assertEqual(verdict.fault,
+        verdict = verdicts.verdict_on(self.graph._members, wire.NO_RESOURCES)
+        self.assertEqual(verdict.fault.words,
                          "Its virtual images need 120 bytes, more than its work bytes.")
 
     def test_work_bytes_that_nobody_said(self):
@@ -159,9 +160,10 @@ class TestWords(ProgramTest):
                 self.graph.verify()
         self.assertEqual(caught.exception.fault, "")
 
+    @of_a_process
     def test_after_an_interruption(self):
         """The reply to the interrupted call comes later, and has the number of the node."""
-        with mock.patch.object(type(self.context.connection), "wait",
+        with mock.patch.object(type(self.context._connection), "wait",
                                side_effect=KeyboardInterrupt):
             self.assertRaises(KeyboardInterrupt, self.graph.not_, self.source, self.source)
         self.assertRaises(vx.InvalidGraph, self.graph.verify)
@@ -169,6 +171,82 @@ class TestWords(ProgramTest):
         self.says(vx.InvalidGraph,
                   "These nodes form a cycle: node 1, not_(image 1 (U8, 3 by 1), image 1 (U8, 3 by "
                   "1)).")
+
+
+class TestFaultsAsData(ProgramTest):
+    """The nodes and the operand of a refusal."""
+
+    limits = {"work": 100}
+
+    def setUp(self):
+        super().setUp()
+        self.source, self.target = (self.context.image(U8, 3, 1) for _ in range(2))
+        self.graph = self.context.graph()
+
+    def says(self, kind, nodes, operand):
+        with self.assertRaises(kind) as caught:
+            self.graph.process()
+        self.assertEqual((caught.exception.nodes, caught.exception.operand), (nodes, operand))
+        again = pickle.loads(pickle.dumps(caught.exception))
+        self.assertEqual((again.fault, again.nodes, again.operand),
+                         (caught.exception.fault, nodes, operand))
+
+    def test_two_writers(self):
+        self.graph.not_(self.source, self.target)
+        self.graph.sobel3x3(self.source, None, self.target)
+        self.says(vx.MultipleWriters, (1, 2), "output_y")
+
+    def test_a_node_that_writes_twice(self):
+        self.graph.sobel3x3(self.source, self.target, self.target)
+        self.says(vx.MultipleWriters, (1,), "output_y")
+
+    def test_a_cycle(self):
+        one, other = self.graph.virtual_image(), self.graph.virtual_image()
+        self.graph.not_(self.source, self.target)
+        self.graph.and_(self.source, other, one)
+        self.graph.not_(one, other)
+        self.says(vx.InvalidGraph, (2, 3), "")
+
+    def test_a_virtual_input_that_is_not_written(self):
+        self.graph.not_(self.source, self.target)
+        self.graph.max(self.source, self.graph.virtual_image(), self.context.image(U8, 3, 1))
+        self.says(vx.InvalidLink, (2,), "in2")
+
+    def test_sums_in_a_virtual_image(self):
+        self.graph.accumulate(self.source, self.graph.virtual_image())
+        self.says(vx.InvalidLink, (1,), "accum")
+
+    def test_formats(self):
+        deep = self.context.image(S16, 3, 1)
+        limit = self.context.threshold(S16, above=3)
+        for add, operand in (
+                (lambda: self.graph.not_(deep, self.target), "input"),
+                (lambda: self.graph.threshold(self.source, limit, self.target), "threshold"),
+                (lambda: self.graph.min(self.source, deep, self.target), "in2"),
+                (lambda: self.graph.not_(self.source, deep), "output"),
+                (lambda: self.graph.histogram(deep, self.context.distribution(4)), "input"),
+                (lambda: self.graph.sobel3x3(self.source, None, self.target), "output_y")):
+            node = add()
+            with self.subTest(operand):
+                self.says(vx.InvalidFormat, (node.number,), operand)
+            node.remove()
+
+    def test_sizes(self):
+        wide = self.context.image(U8, 4, 1)
+        for images, operand in (((wide, self.source, self.target), "in2"),
+                                ((self.source, self.source, wide), "output")):
+            node = self.graph.min(*images)
+            self.says(vx.InvalidDimension, (node.number,), operand)
+            node.remove()
+
+    def test_work_bytes(self):
+        self.graph.not_(self.context.image(U8, 11, 10), self.graph.virtual_image())
+        self.says(vx.NoResources, (), "")
+
+    def test_arguments_of_a_call(self):
+        with self.assertRaises(vx.InvalidValue) as caught:
+            self.context.vxu.multiply(self.source, self.source, 16, vx.WRAP, self.target)
+        self.assertEqual((caught.exception.nodes, caught.exception.operand), ((), "shift"))
 
 
 class Maker:
@@ -234,7 +312,7 @@ class TestRandomGraphs(ProgramTest):
                     maker.add()
                     code = self.code_of(maker.graph)
                     # That there are too many bytes is taken from the server's code.
-                    verdict = verdicts.verdict_on(maker.graph.members, code)
+                    verdict = verdicts.verdict_on(maker.graph._members, code)
                     self.assertEqual(verdict.code if verdict else wire.SUCCESS, code,
                                      f"seed {seed}")
                     met[code] = met.get(code, 0) + 1
@@ -263,7 +341,7 @@ class TestRandomGraphs(ProgramTest):
                     for made in images:
                         out = context.image(made, 3, 1)
                         node = getattr(graph, name)(images[fmt], out)
-                        verdict = verdicts.verdict_on(graph.members)
+                        verdict = verdicts.verdict_on(graph._members)
                         self.assertEqual(verdict.code if verdict else 0, self.code_of(graph),
                                          (name, fmt, made))
                         node.remove()

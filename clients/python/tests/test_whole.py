@@ -5,7 +5,7 @@ import decimal
 import fractions
 import unittest
 
-from program import PROGRAM, ProgramTest, vx
+from program import SERVED, ProgramTest, vx
 from feqyldan import samples
 
 U8, S16, U32 = vx.U8, vx.S16, vx.U32
@@ -118,7 +118,7 @@ class TestWholeNumbers(ProgramTest):
             for value in (*wrong, 1e6):
                 with self.subTest(name=name, value=value), self.assertRaisesRegex(
                         TypeError, f"the {name} of a server must be a whole number, not"):
-                    vx.Server(PROGRAM, **{name: value})
+                    vx.Server(SERVED, **{name: value})
 
     def test_shifts_and_borders(self):
         image, deep = self.context.image(U8, 2, 2), self.context.image(S16, 2, 2)
@@ -150,8 +150,8 @@ class TestWholeNumbers(ProgramTest):
         for dtype in ("float16", "float32", "float64"):
             for call in (image.write, self.context.image_from):
                 with self.assertRaisesRegex(TypeError,
-                                            rf"uint8, int16 or uint32, not {dtype}: scale and "
-                                            rf"round them"):
+                                            rf"uint8, int16 or uint32, not {dtype}: scale, "
+                                            "round and clip them"):
                     call(numpy.full((2, 3), 0.5, dtype))
         for dtype in ("int8", "uint16", "int32", "int64", "bool", "complex64", "object"):
             self.assertRaises(TypeError, image.write, numpy.zeros((2, 3), dtype))

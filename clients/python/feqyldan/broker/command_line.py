@@ -8,7 +8,7 @@ from typing import List, Optional
 
 from ..service import options
 from ..service.lines import Unusable
-from ..service.machine import processors, raise_file_limit
+from ..service.machine import open_standard_files, processors, raise_file_limit
 from ..service.options import memory_from, number_from, part_of_memory, seconds_from
 from .connection import Limits
 from .incoming import AHEAD, GREATEST_LENGTH
@@ -22,12 +22,14 @@ SERVERS_PART, OWN_PART, HELD_PART = 3 / 4, 1 / 4, 1 / 8
 # The least limit on the broker's own memory, in bytes. Python itself takes about 40 MB of address
 # space.
 LEAST_OWN_MEMORY = 2**27
+# The least limit on what all connections hold: two reads.
+LEAST_HELD = 2 * AHEAD
 # The pipes to and from a server, and those of its replacement while that one starts.
 FILES_OF_SERVER = 6
 USAGE = """
 Memory: for each connection the broker buffers at most one request frame and one reply. Each has at
-most --bytes-held bytes and 131,072 more. Long frames and replies of all connections together take
-at most --total-held bytes. Buffers grow as bytes arrive and aren't allocated in advance. The broker
+most --bytes-held bytes and 131,072 more. Frames and replies of all connections together take at
+most --total-held bytes. Buffers grow as bytes arrive and aren't allocated in advance. The broker
 closes a connection whose frame or waiting replies exceed its limit. If the total would be exceeded,
 it closes the connection with the most bytes. Not counted: the kernel's socket buffers, and the
 images of the servers' clients (their --quota).
@@ -85,9 +87,9 @@ def add_memory(made: argparse.ArgumentParser) -> None:
     add("--bytes-held", type=partial(number_from, 7, GREATEST_LENGTH + 4), default=BYTES_HELD,
         metavar="BYTES", help="most bytes of a request frame, and of a reply (default: "
                               f"{BYTES_HELD}, enough for an image of 8192x8192 U32)")
-    add("--total-held", type=partial(number_from, 1, options.MOST_MEMORY), metavar="BYTES",
-        help="most bytes of long frames and waiting replies of all connections together "
-             "(default: an eighth of the same memory)")
+    add("--total-held", type=partial(number_from, LEAST_HELD, options.MOST_MEMORY), metavar="BYTES",
+        help="most bytes of frames and waiting replies of all connections together, at least "
+             f"{LEAST_HELD} (default: an eighth of the same memory)")
 
 
 def add_times(made: argparse.ArgumentParser) -> None:
@@ -125,6 +127,7 @@ def limit_own_memory(asked: Optional[int]) -> None:
 
 def main(words: Optional[List[str]] = None) -> int:
     """Runs the broker until it ends, and returns its exit status."""
+    open_standard_files()
     told = parser().parse_args(words)
     limits = limits_of(told)
     servers = told.servers or servers_unless_told()

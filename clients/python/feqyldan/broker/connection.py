@@ -11,10 +11,8 @@ from .incoming import AHEAD, CHUNK, Frames, Incoming, Total, release_of
 if TYPE_CHECKING:
     from .server import Server, Turn
 
-# The most seconds that a turn of requests that may take long is expected to take.
+# The most seconds that the turns with a server are expected to take, if another one joins them.
 TURN_SECONDS = 0.001
-# The most requests in a turn that may take long, if the earlier ones were quick.
-LONG_AT_ONCE = 4
 
 
 class Limits(NamedTuple):
@@ -82,14 +80,17 @@ class Connection:
     def may_ask(self) -> bool:
         return self.turn is None and self.incoming.is_whole and len(self.outgoing) <= AHEAD
 
-    def next_frames(self, turn_bytes: int) -> Frames:
+    @property
+    def begins_long(self) -> bool:
+        """Whether the first request of its next turn may take long."""
+        return self.is_leaving or self.incoming.begins_long
+
+    def next_frames(self, may_be_long: bool, turn_bytes: int) -> Frames:
         """Returns the frames of the next turn. After the connection's end that is the release of
         its context."""
         if self.is_leaving:
             return release_of(self.number)
-        return self.incoming.take(self.number,
-                                  min(LONG_AT_ONCE, max(1, int(TURN_SECONDS / self.pace))),
-                                  turn_bytes)
+        return self.incoming.take(self.number, may_be_long, turn_bytes)
 
     def has_taken(self, seconds: float, long: int) -> None:
         """Notes how long the server took for a turn, and how many requests of the turn may take

@@ -60,7 +60,7 @@ class TotalReached(MemoryError):
 
 
 class Total:
-    """The total bytes of long frames and of waiting replies, over all connections."""
+    """The total bytes of frames and of waiting replies, over all connections."""
 
     def __init__(self, most: int) -> None:
         self.most, self.bytes = most, 0
@@ -103,6 +103,12 @@ class Incoming:
             self.held) >= self.size
 
     @property
+    def begins_long(self) -> bool:
+        """Whether the first frame, which must be complete, is a request that may take long."""
+        op: int = (self.pieces[0] if self.pieces else self.held)[LEAST_FRAME - 1]
+        return KINDS[op] != LIGHT
+
+    @property
     def has_part(self) -> bool:
         """Whether there is an incomplete frame and nothing else."""
         return bool(self.pieces or self.held) and not self.is_whole
@@ -111,11 +117,22 @@ class Incoming:
         """Reads the bytes that have come, as far as the buffer allows, and returns how many."""
         if self.pieces:
             return self.receive_long(sock)
-        data = self.descriptors.read(sock, AHEAD - len(self.held))
+        data = self.read_ahead(sock, AHEAD - len(self.held))
         self.held += data
         if self.size is None or self.size > AHEAD:
             self.look()
         return len(data)
+
+    def read_ahead(self, sock: socket.socket, most: int) -> bytes:
+        """Reads at most this many bytes, and takes their share of the total."""
+        data = b""
+        self.total.take(most)
+        try:
+            data = self.descriptors.read(sock, most)
+        finally:
+            self.total.give(most - len(data))
+        self.taken += len(data)
+        return data
 
     def receive_long(self, sock: socket.socket) -> int:
         if self.filled == len(self.pieces[-1]):
@@ -133,10 +150,10 @@ class Incoming:
         self.pieces.append(piece)
         self.filled = 0
 
-    def let_go(self) -> None:
-        """Gives the connection's share of the total back."""
-        self.total.give(self.taken)
-        self.taken = 0
+    def let_go(self, count: int) -> None:
+        """Gives this many bytes of the connection's share of the total back."""
+        self.total.give(count)
+        self.taken -= count
 
     def look(self) -> None:
         """Reads the length of the first frame, if it has come."""
@@ -156,12 +173,12 @@ class Incoming:
                 self.filled = len(self.pieces[0])
                 self.left = self.size - self.filled
 
-    def take(self, number: int, long_at_once: int, turn_bytes: int) -> Frames:
+    def take(self, number: int, may_be_long: bool, turn_bytes: int) -> Frames:
         """Returns the frames of a turn, with this client number filled in. The first frame must be
-        complete. At most `long_at_once` of them may take long, and no frame follows one of an
-        unknown kind."""
+        complete. At most one of them may take long, and none unless `may_be_long`. No frame
+        follows one of an unknown kind."""
         frames = (self.take_long(number) if self.pieces else
-                  self.take_small(number, long_at_once, turn_bytes))
+                  self.take_small(number, may_be_long, turn_bytes))
         self.look()
         return frames
 
@@ -170,10 +187,10 @@ class Incoming:
         CLIENT.pack_into(self.pieces[0], 4, number)
         frames = Frames(self.pieces, 4 + length, [client << 8 | op], int(KINDS[op] != LIGHT))
         self.pieces = []
-        self.let_go()
+        self.let_go(self.taken)
         return frames
 
-    def take_small(self, number: int, long_at_once: int, turn_bytes: int) -> Frames:
+    def take_small(self, number: int, may_be_long: bool, turn_bytes: int) -> Frames:
         held, at, kind = self.held, 0, LIGHT
         end, most = len(held), self.most
         asked: List[int] = []
@@ -186,9 +203,9 @@ class Incoming:
                 break
             kind = KINDS[op]
             if kind:
-                if long == long_at_once:
+                if long or not may_be_long:
                     break
-                long += 1
+                long = 1
             CLIENT.pack_into(held, at + 4, number)
             asked.append(client << 8 | op)
             at = after
@@ -197,8 +214,9 @@ class Incoming:
             del self.held[:at]
         else:
             self.held = bytearray()
+        self.let_go(at)
         return Frames([held], at, asked, long)
 
     def clear(self) -> None:
         self.held, self.size, self.pieces, self.left = bytearray(), None, [], 0
-        self.let_go()
+        self.let_go(self.taken)

@@ -1,13 +1,16 @@
 """The loop over the connections, the servers' pipes, new connections and signals."""
 
+import contextlib
 import signal
 import socket
+import subprocess
 import time
 from collections import deque
 from functools import partial
 from typing import Any, Deque, Dict, List, NamedTuple, Optional, Set
 
 from ..service.admission import ACCEPT_PAUSE, Owner
+from ..service.descriptors import SentDescriptors
 from ..service.events import READ, WRITE
 from ..service.front import Front
 from ..service.lines import Unusable
@@ -72,7 +75,11 @@ class Broker(Front):
             with self.signals:
                 self.begin_first()
                 while not self.is_over:
-                    self.go_round()
+                    try:
+                        self.go_round()
+                    except MemoryError:
+                        # Events that weren't handled come again.
+                        self.end_for_memory()
         finally:
             status = self.finish()
         return status
@@ -106,7 +113,7 @@ class Broker(Front):
             return PUT_OFF_LOOKS
         if self.stops_at is not None:
             return STOP_LOOKS
-        has_nobody = not (self.open or self.status
+        has_nobody = not (self.open or self.status or self.descriptors.left
                           or self.admission.turned_away.present) and self.is_listening
         has_all = self.has_servers() and len(self.servers) == self.plan.servers
         may_sleep = has_nobody and has_all and not self.has_news() and self.manager.pause is None
@@ -162,6 +169,8 @@ class Broker(Front):
                 self.receive(connection)
         except BlockingIOError:
             pass
+        except SentDescriptors as reason:
+            self.end(connection, str(reason))
         except OSError:
             connection.reads = False
             self.end(connection, connection.fault())
@@ -179,6 +188,13 @@ class Broker(Front):
         greatest = max(self.open, key=lambda one: one.bytes_held + more * (one is growing))
         self.end(greatest, f"{greatest.bytes_held} bytes of its frames or replies wait, the most "
                            f"of {self.total.bytes} in all (--total-held)")
+
+    def end_for_memory(self) -> None:
+        """Ends the connection that holds the most bytes, because the broker has no memory left."""
+        greatest = max(self.open, key=lambda one: one.bytes_held, default=None)
+        if greatest is not None:
+            self.end(greatest, "it holds the most memory, and the broker has none left "
+                               "(--own-memory)")
 
     def receive(self, connection: Connection) -> None:
         if connection.incoming.receive(connection.sock):
@@ -257,8 +273,13 @@ class Broker(Front):
     def pass_on(self, server: Server) -> None:
         """Begins the turns that can begin now, and writes as much as the server takes."""
         for connection in server.begin_turns(self.now):
-            if connection.is_open:
+            if connection.is_open and connection.turn is None:
+                self.end(connection, "the broker has no memory for its requests (--own-memory)")
+            elif connection.is_open:
                 self.watch(connection)
+            elif connection.turn is None:
+                # The release of its context is tried again.
+                server.line.add(connection)
         if not server.waiting or server.closed_at is not None:
             return
         try:
@@ -362,11 +383,13 @@ class Broker(Front):
             for server in before:
                 server.is_retiring = False
             return
-        for server in before:
-            self.close_if_left(server)
 
     def close_if_left(self, server: Server) -> None:
-        if server.is_retiring and not server.members:
+        """Ends a retiring server whose last connection has ended, once a new server has run for a
+        while. If the new program is faulty, the old servers are used again."""
+        is_replaced = any(other.takes_connections and not self.is_untried(other)
+                          for other in self.servers)
+        if server.is_retiring and not server.members and is_replaced:
             server.is_told = True
             self.close_input(server)
 
@@ -399,6 +422,7 @@ class Broker(Front):
 
     def bury(self) -> None:
         """Removes the servers whose processes have ended, and starts others."""
+        self.descriptors.reap()
         for server in [*self.servers]:
             if self.is_overdue(server):
                 server.process.kill()
@@ -434,11 +458,14 @@ class Broker(Front):
         return not server.answers and self.now < server.began_at + EARLY_SECONDS
 
     def give_up(self) -> None:
-        """Stops the broker if it has no server that has ever answered. Otherwise it goes on with
-        those servers, and tries again later."""
-        left = [server for server in self.servers if server.closed_at is None and server.answers]
+        """Stops the broker if it has no server that has answered, or has run for a while. Otherwise
+        it goes on with those servers, and tries again later if they are too few."""
+        left = [server for server in self.servers
+                if server.closed_at is None and not self.is_untried(server)]
         if not left:
             self.stop()
+        elif any(server.is_retiring for server in left):
+            self.lines.say("keeps the old servers: the new ones end right after their start")
         for server in left:
             server.is_retiring = False
         self.starts_from = self.now + ACCEPT_PAUSE
@@ -455,6 +482,8 @@ class Broker(Front):
         self.manager.is_alive()
         self.end_hung()
         self.bury()
+        for server in self.servers:
+            self.close_if_left(server)
         self.end_late_visitors()
         # If the broker itself had no time, it may not have moved bytes that have come.
         if late < self.look_seconds:
@@ -548,6 +577,7 @@ class Broker(Front):
                 self.lines.say(f"{server} is killed: {why}")
             server.process.kill()
             server.close(self.now)
-            server.process.wait()
+            with contextlib.suppress(subprocess.TimeoutExpired):
+                server.process.wait(END_SECONDS)
         self.close()
         return 0 if self.was_told else self.failure

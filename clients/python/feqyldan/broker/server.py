@@ -145,6 +145,9 @@ class Server:
         self.waiting: Deque[Tuple[memoryview, Turn]] = deque()
         self.owed: Deque[Turn] = deque()
         self.expected = 0.0
+        # Whether one of these turns has a request that may take long. However quick the earlier
+        # requests of a connection were, the next one may not be: so there is one such turn at most.
+        self.has_long = False
         # The bytes that the server wrote last, after the beginning of an incomplete reply head; and
         # how many bytes of the current reply are still to come.
         self.buffer = bytearray(CHUNK)
@@ -179,7 +182,7 @@ class Server:
 
     def begin_turns(self, now: float) -> List[Connection]:
         """Begins turns as long as the turns in progress aren't expected to take long. Returns their
-        connections."""
+        connections. The last one has no turn if there is no memory for it."""
         begun: List[Connection] = []
         self.puts_off = False
         while self.line and (not self.owed
@@ -191,10 +194,16 @@ class Server:
             # send its next request before the long turn.
             if self.owed and self.line.first.took >= LONG_TURN:
                 break
+            if self.has_long and self.line.first.begins_long:
+                break
             connection = self.line.take()
-            frames = connection.next_frames(SHARED_TURN_BYTES if self.line else TURN_BYTES)
-            self.ask(Turn(connection, frames, now), frames)
             begun.append(connection)
+            try:
+                frames = connection.next_frames(not self.has_long,
+                                                SHARED_TURN_BYTES if self.line else TURN_BYTES)
+            except MemoryError:
+                break
+            self.ask(Turn(connection, frames, now), frames)
         return begun
 
     def may_be_asked_first(self, now: float) -> bool:
@@ -217,6 +226,7 @@ class Server:
         self.waiting.extend((memoryview(piece), turn) for piece in frames.pieces)
         self.owed.append(turn)
         self.expected += turn.expected
+        self.has_long = self.has_long or turn.long > 0
         self.counts_of(turn).bytes_in += turn.size
 
     def write(self) -> List[Connection]:
@@ -299,6 +309,7 @@ class Server:
         """Notes that all replies to the first pending turn have come."""
         self.owed.popleft()
         self.expected = self.expected - turn.expected if self.owed else 0.0
+        self.has_long = self.has_long and not turn.long
         turn.connection.has_taken(max(now - max(self.turned_at, turn.began), turn.least), turn.long)
         turn.connection.turn = None
         self.last = turn.connection

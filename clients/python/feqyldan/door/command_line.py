@@ -8,10 +8,10 @@ from typing import List, Optional
 
 from ..service import options
 from ..service.lines import Unusable
-from ..service.machine import raise_file_limit
+from ..service.machine import open_standard_files, raise_file_limit
 from ..service.options import memory_from, number_from, part_of_memory, seconds_from
 from .loop import Door, Limits
-from .server import Plan
+from .program import Plan, Program
 
 # The default share of the memory for all servers together.
 SERVERS_PART = 3 / 4
@@ -22,7 +22,8 @@ buffers no requests or replies; it neither sees nor counts them.
 
 Signals: SIGTERM and SIGINT stop the door with status 0. It closes the servers' inputs. They answer
 the requests that they have received, and are killed after --grace seconds. A second signal kills
-them immediately. After SIGHUP the door looks up the program again, for new connections.
+them immediately. After SIGHUP the door looks up the program again, and tries it on an empty input.
+New connections get it if the trial succeeds; otherwise they get the same program file as before.
 
 Failures: if the door is killed or crashes, its servers and their programs keep running. It ends
 with status 2 if it can't start itself.
@@ -79,13 +80,15 @@ def plan_of(told: argparse.Namespace) -> Plan:
 
 def main(words: Optional[List[str]] = None) -> int:
     """Runs the door until it ends, and returns its exit status."""
+    open_standard_files()
     told = parser().parse_args(words)
     limits = Limits(told.connections, told.per_process, told.per_user, told.grace, told.report)
     try:
         plan = plan_of(told)
+        program = Program(plan.command)
         raise_file_limit(f"{limits.connections} connections", limits.connections)
         listener, status = options.listeners(told)
-        door = Door(listener, status, plan, limits)
+        door = Door(listener, status, program, plan, limits)
         return door.run()
     except Unusable as reason:
         print(f"feqyldan door: {reason}", file=sys.stderr)

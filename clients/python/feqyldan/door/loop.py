@@ -14,10 +14,14 @@ from ..service.lines import Unusable
 from ..service.listener import Listener
 from ..service.signals import Signals
 from .counts import USUAL, Counts, as_metrics, meaning_of
-from .server import Plan, Server, chosen
+from .program import Failures, Plan, Program, Trial
+from .server import Server
 
 # Seconds between two checks of the clock.
 LOOK_SECONDS = 1.0
+# The seconds in which killed servers have to end before the door ends without them, and between two
+# looks whether they have.
+KILL_SECONDS, KILL_LOOKS = 2.0, 0.01
 
 
 class Limits(NamedTuple):
@@ -42,10 +46,13 @@ def has_ended(sock: socket.socket) -> bool:
 class Door(Front):
     """The door: its listening socket, and the servers, each with its connection."""
 
-    def __init__(self, listener: Listener, status: Optional[Listener], plan: Plan,
+    def __init__(self, listener: Listener, status: Optional[Listener], program: Program, plan: Plan,
                  limits: Limits) -> None:
         self.plan, self.limits, self.counts = plan, limits, Counts()
-        self.words = plan.command
+        # The program of new servers; and the one that takes its place if its trial succeeds.
+        self.program = program
+        self.trial: Optional[Trial] = None
+        self.failures = Failures()
         # The servers by their process numbers.
         self.servers: Dict[int, Server] = {}
         super().__init__("door", listener, status, self.counts, limits, as_metrics)
@@ -61,11 +68,11 @@ class Door(Front):
         """Serves until a signal comes, and returns the exit status. Raises Unusable if the program
         can't be started."""
         try:
-            self.words = chosen(self.plan.command)
+            self.try_first()
             with self.signals:
                 memory = "" if self.plan.memory is None else f", of {self.plan.memory} bytes each"
                 self.lines.say(f"listening at {self.listener.path}, with servers of "
-                               f"{self.words[0]}{memory}")
+                               f"{self.program.words[0]}{memory}")
                 self.manager.is_listening()
                 while self.stops_at is None or (self.servers and self.now < self.stops_at):
                     self.listen_or_not()
@@ -77,13 +84,25 @@ class Door(Front):
                 self.kill_all()
         finally:
             self.close()
+            self.failures.close()
         return 0
+
+    def try_first(self) -> None:
+        """Raises Unusable if the program isn't a server."""
+        trial = Trial(self.program, self.plan, self.failures)
+        status = trial.wait()
+        if status is None:
+            os.kill(trial.process, signal.SIGKILL)
+        fault = trial.fault(status, self.failures.of(trial.process))
+        if fault:
+            raise Unusable(fault)
 
     def timeout(self) -> Optional[float]:
         """Returns the seconds until the clock must be checked; None if nothing has a deadline."""
         if self.stops_at is not None:
             return max(0.0, min(LOOK_SECONDS, self.stops_at - self.now))
-        is_quiet = not (self.status or self.admission.turned_away.present
+        is_quiet = not (self.status or self.admission.turned_away.present or self.trial
+                        or self.descriptors.left
                         or any(server.left_at is not None for server in self.servers.values()))
         may_sleep = is_quiet and self.is_listening and not self.has_news()
         return None if may_sleep and self.manager.pause is None else LOOK_SECONDS
@@ -110,7 +129,7 @@ class Door(Front):
             self.descriptors.close(sock)
             return
         try:
-            server = Server(sock, owner, self.words, self.plan, self.now)
+            server = Server(sock, owner, self.program, self.plan, self.failures, self.now)
         except (OSError, ValueError) as error:
             self.admission.turn_away(sock, owner, f"no server could be started: {error}")
             return
@@ -127,22 +146,32 @@ class Door(Front):
 
     def bury(self) -> None:
         """Removes all servers that have ended, and counts them."""
-        while self.servers:
+        while True:
             try:
                 process, status, usage = os.wait4(-1, os.WNOHANG)
             except ChildProcessError:
                 return
             if process == 0:
                 return
+            self.descriptors.closers.discard(process)
+            reason = self.failures.of(process)
             server = self.servers.pop(process, None)
             if server is not None:
                 self.counts.processor_seconds += usage.ru_utime + usage.ru_stime
-                self.end(server, os.waitstatus_to_exitcode(status))
+                self.end(server, os.waitstatus_to_exitcode(status), reason)
+            elif self.trial is not None and process == self.trial.process:
+                self.end_trial(os.waitstatus_to_exitcode(status), reason)
 
-    def end(self, server: Server, status: int) -> None:
+    def end(self, server: Server, status: int, reason: Optional[str]) -> None:
+        """Handles the end of a server's process, with its exit status, and the reason why it
+        couldn't become the program."""
         self.events.forget(server.sock.fileno())
-        self.descriptors.close(server.sock)
         self.admission.let_out(server.owner)
+        if reason is not None:
+            self.admission.turn_away(server.sock, server.owner,
+                                     f"no server could be started: {reason}")
+            return
+        self.descriptors.close(server.sock)
         self.counts.ended += 1
         if status not in USUAL:
             self.counts.failed += 1
@@ -169,13 +198,16 @@ class Door(Front):
         self.manager.is_alive()
         self.bury()
         self.end_left()
+        if self.trial is not None and self.now > self.trial.until:
+            os.kill(self.trial.process, signal.SIGKILL)
+            self.end_trial(None, None)
         self.end_late_visitors()
         self.report(len(self.servers))
 
     def state(self) -> Dict[str, Any]:
         counts = self.counts
         return {
-            "uptime_seconds": round(self.now - self.began_at, 3), "program": self.words[0],
+            "uptime_seconds": round(self.now - self.began_at, 3), "program": self.program.words[0],
             "connections": {"open": len(self.servers), "accepted": counts.accepted,
                             "turned_away": counts.turned_away},
             "servers_ended": counts.ended, "servers_failed": counts.failed,
@@ -187,7 +219,8 @@ class Door(Front):
             if which == signal.SIGCHLD:
                 self.bury()
             elif which == signal.SIGHUP:
-                self.reload()
+                if self.stops_at is None:
+                    self.reload()
             elif self.stops_at is not None:
                 # A second signal ends the waiting.
                 self.was_told_twice, self.stops_at = True, self.now
@@ -196,17 +229,36 @@ class Door(Front):
                 self.stop()
 
     def reload(self) -> None:
-        """Finds the program again, for new connections."""
+        """Finds the program again, and tries it. New connections get it after the trial."""
+        self.stop_trial()
         try:
-            self.words = chosen(self.plan.command)
+            self.trial = Trial(Program(self.plan.command), self.plan, self.failures)
         except (Unusable, OSError) as reason:
-            self.lines.say(f"keeps {self.words[0]} after SIGHUP: {reason}")
-        else:
-            self.lines.say(f"starts {self.words[0]} for new connections after SIGHUP")
+            self.keep_program(str(reason))
+
+    def stop_trial(self) -> None:
+        if self.trial is not None:
+            os.kill(self.trial.process, signal.SIGKILL)
+            self.trial = None
+
+    def end_trial(self, status: Optional[int], reason: Optional[str]) -> None:
+        """Handles the end of a trial; Trial.fault() explains the arguments."""
+        assert self.trial is not None
+        trial, self.trial = self.trial, None
+        fault = trial.fault(status, reason)
+        if fault:
+            self.keep_program(fault)
+            return
+        self.program = trial.program
+        self.lines.say(f"starts {self.program.words[0]} for new connections after SIGHUP")
+
+    def keep_program(self, reason: str) -> None:
+        self.lines.say(f"keeps {self.program.words[0]} after SIGHUP: {reason}")
 
     def stop(self) -> None:
         """Accepts no more connections, and closes the servers' inputs."""
         self.stops_at = self.now + self.limits.grace
+        self.stop_trial()
         self.stop_listening()
         for server in self.servers.values():
             server.end_input()
@@ -216,5 +268,10 @@ class Door(Front):
                f"its request takes longer than {self.limits.grace:g} s (--grace)")
         for server in self.servers.values():
             self.kill(server, why)
-        for process in self.servers:
-            os.waitpid(process, 0)
+        until = time.monotonic() + KILL_SECONDS
+        while self.servers and time.monotonic() < until:
+            time.sleep(KILL_LOOKS)
+            self.bury()
+        for server in self.servers.values():
+            # Another process traces it, or a call of it to the system doesn't end.
+            self.lines.say(f"{server} was killed and hasn't ended; the door doesn't wait for it")

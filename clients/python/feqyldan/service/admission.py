@@ -1,7 +1,6 @@
 """Admission: limits on the connections of each process and of each user."""
 
 import socket
-import struct
 from collections import Counter
 from typing import NamedTuple, Optional, Set, Tuple
 
@@ -9,28 +8,27 @@ from .descriptors import Descriptors
 from .events import Events
 from .lines import Lines
 from .listener import Listener
+from .peers import Ranges, peer_of
 from .visitors import turned_away
 
 # Connections accepted before other events have their turn; and the seconds until the next try after
 # the system had no resources for a connection.
 ACCEPTED_AT_ONCE, ACCEPT_PAUSE = 4, 1.0
+# Connections that wait to be accepted. Further ones wait in connect(), and get their turns one by
+# one. So a program that connects again and again delays another one by this many connections.
+WAITING = 128
 
 
 class Owner(NamedTuple):
-    """The process that made a connection, and its user."""
+    """The process that made a connection, its user, and the user for whom it counts: the one in
+    whose range of users its user is."""
 
     process: int
     user: int
+    counted: int
 
     def __str__(self) -> str:
         return f"process {self.process} of user {self.user}"
-
-
-def owner_of(sock: socket.socket) -> Owner:
-    process, user, _group = struct.unpack("iII",
-                                          sock.getsockopt(socket.SOL_SOCKET, socket.SO_PEERCRED,
-                                                          12))
-    return Owner(process, user)
 
 
 class Accepted:
@@ -54,7 +52,7 @@ class Admission:
     def __init__(self, per_process: int, per_user: int, counts: Accepted, lines: Lines,
                  events: Events, descriptors: Descriptors) -> None:
         self.per_process, self.per_user, self.counts = per_process, per_user, counts
-        self.lines, self.descriptors = lines, descriptors
+        self.lines, self.descriptors, self.ranges = lines, descriptors, Ranges()
         self.processes: "Counter[Owner]" = Counter()
         self.users: "Counter[int]" = Counter()
         # The processes that were turned away since the last report. Only the first time is logged.
@@ -65,38 +63,39 @@ class Admission:
         """Accepts the next connection; None if nobody waits. Raises OSError if the system has no
         resources for it."""
         try:
-            sock, _ = listener.sock.accept()
+            sock = self.descriptors.accept(listener.sock)
         except BlockingIOError:
             return None
-        return sock, owner_of(sock)
+        peer = peer_of(sock)
+        return sock, Owner(peer.process, peer.user, self.ranges.owner_of(peer.user))
 
     def reason_against(self, owner: Owner) -> Optional[str]:
         """Returns in words why a process gets no connection; None if it gets one."""
         if self.processes[owner] >= self.per_process:
             return f"it has {self.processes[owner]} connections, the limit (--per-process)"
-        if self.users[owner.user] >= self.per_user:
-            return f"its user has {self.users[owner.user]} connections, the limit (--per-user)"
+        if self.users[owner.counted] >= self.per_user:
+            return f"its user has {self.users[owner.counted]} connections, the limit (--per-user)"
         return None
 
     def let_in(self, owner: Owner) -> None:
         self.counts.accepted += 1
         self.processes[owner] += 1
-        self.users[owner.user] += 1
+        self.users[owner.counted] += 1
 
     def let_out(self, owner: Owner) -> None:
         self.processes[owner] -= 1
-        self.users[owner.user] -= 1
+        self.users[owner.counted] -= 1
         if not self.processes[owner]:
             del self.processes[owner]
-        if not self.users[owner.user]:
-            del self.users[owner.user]
+        if not self.users[owner.counted]:
+            del self.users[owner.counted]
 
     def turn_away(self, sock: socket.socket, owner: Owner, reason: str) -> None:
         if owner not in self.told:
             self.lines.say(f"{owner} is turned away: {reason}")
         self.told.add(owner)
         self.counts.turned_away += 1
-        self.turned_away.add(sock)
+        self.turned_away.add(sock, owner.user)
 
     @property
     def present(self) -> int:

@@ -1,23 +1,37 @@
 """
-Handles descriptors that a program sends along with its bytes (SCM_RIGHTS). Nothing here needs them.
-Closing the last copy of one may take as long as its sender likes: a TCP socket that lingers with
-unsent bytes waits for up to 2^15 seconds, and a message can have 253 of them.
+Reads from and closes sockets through which a program may have sent file descriptors (SCM_RIGHTS).
+Nothing here needs them. Closing one may take as long as its sender likes: a file of a FUSE file
+system waits for its daemon, even in a process that is killed, and a TCP socket that lingers with
+unsent bytes waits for up to 2^15 seconds.
 
 Linux refuses descriptors at the sender if the receiving socket asks for that (SO_PASSRIGHTS, from
-6.16 on). On older systems a separate process closes them, together with the sockets in which unread
-ones may wait. That process is killed if it hangs: a process that exits waits for nothing.
+6.16 on). On older systems:
+
+- Before bytes are read, they are looked at (MSG_PEEK) without space for descriptors. So the system
+  neither opens a descriptor here nor drops one. Bytes with descriptors are never read.
+- A connection with unread bytes is closed by a separate process, which does so by ending. Nothing
+  waits for that process.
 """
 
-import array
 import contextlib
+import fcntl
 import os
-import signal
 import socket
-from typing import Iterator, List, Optional, Tuple
+import struct
+import termios
+from typing import List, Set
+
+from .processes import close_all_but, fork
 
 SO_PASSRIGHTS = 83
-# The most descriptors in a message.
-MOST_SENT = 253
+# The most bytes that are looked at before a read.
+PEEK_BYTES = 65_536
+# The most connections that wait to be closed by a separate process.
+LEFT_AT_ONCE = 64
+
+
+class SentDescriptors(OSError):
+    """A connection has sent file descriptors. They and the bytes with them are still unread."""
 
 
 def refuse(sock: socket.socket) -> bool:
@@ -29,112 +43,100 @@ def refuse(sock: socket.socket) -> bool:
     return False
 
 
+def has_unread(sock: socket.socket) -> bool:
+    """Returns whether bytes or, at a listening socket, connections may wait in a socket."""
+    try:
+        count, = struct.unpack("i", fcntl.ioctl(sock, termios.FIONREAD, bytes(4)))
+    except OSError:
+        return True
+    return bool(count)
+
+
 class Descriptors:
-    """Reads from and closes sockets, without ever closing a descriptor that a program has sent."""
+    """Accepts, reads from and closes connections. None of these waits for a descriptor that a
+    program has sent."""
 
     def __init__(self, are_refused: bool) -> None:
         self.are_refused = are_refused
-        self.space = socket.CMSG_SPACE(MOST_SENT * array.array("i").itemsize)
-        self.closer: Optional[Closer] = None
+        self.peeked = memoryview(bytearray(0 if are_refused else PEEK_BYTES))
+        # The connections that a separate process has to close, and the processes that do so.
+        self.left: List[socket.socket] = []
+        self.closers: Set[int] = set()
+
+    def accept(self, listening: socket.socket) -> socket.socket:
+        sock, _ = listening.accept()
+        if not self.are_refused:
+            # Otherwise a read drops a byte out of band, with its descriptors, although no look
+            # shows it.
+            sock.setsockopt(socket.SOL_SOCKET, socket.SO_OOBINLINE, 1)
+        return sock
 
     def read(self, sock: socket.socket, most: int) -> bytes:
-        if self.are_refused:
-            return sock.recv(most)
-        data, sent, _, _ = sock.recvmsg(most, self.space, socket.MSG_CMSG_CLOEXEC)
-        self.close_sent(sent)
-        return data
+        """Reads at most this many bytes. Raises SentDescriptors if there are descriptors with
+        them."""
+        return sock.recv(most if self.are_refused else self.readable(sock, most))
 
     def read_into(self, sock: socket.socket, room: memoryview) -> int:
+        """Reads bytes, and returns how many. Raises SentDescriptors if there are descriptors with
+        them."""
         if self.are_refused:
             return sock.recv_into(room)
-        count, sent, _, _ = sock.recvmsg_into([room], self.space, socket.MSG_CMSG_CLOEXEC)
-        self.close_sent(sent)
+        with room[: self.readable(sock, len(room))] as part:
+            return sock.recv_into(part)
+
+    def readable(self, sock: socket.socket, most: int) -> int:
+        """Returns how many bytes can be read now, at most PEEK_BYTES."""
+        with self.peeked[:most] as part:
+            count, _, flags, _ = sock.recvmsg_into([part], 0, socket.MSG_PEEK)
+        if flags & socket.MSG_CTRUNC:
+            raise SentDescriptors("it sent file descriptors")
         return count
 
-    def close_sent(self, sent: List[Tuple[int, int, bytes]]) -> None:
-        for level, kind, data in sent:
-            if (level, kind) == (socket.SOL_SOCKET, socket.SCM_RIGHTS):
-                descriptors = array.array("i", data)
-                with self.held_elsewhere(list(descriptors)):
-                    for descriptor in descriptors:
-                        os.close(descriptor)
-
     def close(self, sock: socket.socket) -> None:
-        """Closes a connection that may have unread descriptors."""
+        """Closes a connection or a listening socket."""
         if self.are_refused or sock.fileno() < 0:
             sock.close()
-        else:
-            # The other end sees the end now, even if the last copy is closed later.
-            with contextlib.suppress(OSError):
-                sock.shutdown(socket.SHUT_RDWR)
-            with self.held_elsewhere([sock.fileno()]):
-                sock.close()
-
-    @contextlib.contextmanager
-    def held_elsewhere(self, descriptors: List[int]) -> Iterator[None]:
-        """Runs a `with` in which closing a descriptor never closes its last copy. Another process
-        has that copy, and closes it after the `with`."""
-        if not self.hand_over(descriptors):
-            # The other process hangs, or has ended.
-            self.end()
-            self.hand_over(descriptors)
-        yield
-        if self.closer is not None and not self.closer.take([]):
-            self.end()
-
-    def hand_over(self, descriptors: List[int]) -> bool:
+            return
+        # The other end sees the end now, and can send no more.
         with contextlib.suppress(OSError):
-            self.closer = self.closer or Closer()
-        return self.closer is not None and self.closer.take(descriptors)
+            sock.shutdown(socket.SHUT_RDWR)
+        if not has_unread(sock):
+            sock.close()
+            return
+        self.left.append(sock)
+        if len(self.left) >= LEFT_AT_ONCE:
+            self.close_left()
 
-    def end(self) -> None:
-        if self.closer is not None:
-            self.closer.kill()
-            self.closer = None
-
-
-class Closer:
-    """A process that receives descriptors, and closes them when a message without descriptors
-    comes."""
-
-    def __init__(self) -> None:
-        self.sock, theirs = socket.socketpair(socket.AF_UNIX, socket.SOCK_SEQPACKET)
-        self.sock.setblocking(False)
-        self.process = os.fork()
-        if self.process == 0:
+    def close_left(self) -> None:
+        """Closes the connections that are left, after a separate process has copies of them. If the
+        system has no resources for the process, they stay open until the next call."""
+        if not self.left:
+            return
+        with contextlib.suppress(OSError):
+            reader, writer = os.pipe()
             try:
-                close_all_sent(theirs)
+                self.closers.add(self.begin_closer(reader))
+                while self.left:
+                    self.left.pop().close()
+            finally:
+                os.close(writer)
+                os.close(reader)
+
+    def begin_closer(self, reader: int) -> int:
+        """Starts a process with copies of the connections that are left. It ends when nobody has
+        the other end of the pipe any more."""
+        process = fork()
+        if process == 0:
+            try:
+                os.setsid()
+                close_all_but([reader, *(sock.fileno() for sock in self.left)])
+                os.read(reader, 1)
             finally:
                 os._exit(0)
-        theirs.close()
+        return process
 
-    def take(self, descriptors: List[int]) -> bool:
-        try:
-            socket.send_fds(self.sock, [b"\0"], descriptors)
-        except OSError:
-            return False
-        return True
-
-    def kill(self) -> None:
-        self.sock.close()
-        # If the process ended by itself, the door has waited for it already.
-        with contextlib.suppress(ProcessLookupError, ChildProcessError):
-            os.kill(self.process, signal.SIGKILL)
-            os.waitpid(self.process, 0)
-
-
-def close_all_sent(source: socket.socket) -> None:
-    """Closes the descriptors that this child of a fork inherited, then those that it receives."""
-    signal.set_wakeup_fd(-1)
-    for which in (signal.SIGTERM, signal.SIGINT, signal.SIGHUP):
-        signal.signal(which, signal.SIG_IGN)
-    commands = socket.socket(fileno=os.dup2(source.fileno(), 3))
-    os.closerange(4, os.sysconf("SC_OPEN_MAX"))
-    held: List[int] = []
-    while True:
-        data, descriptors, _, _ = socket.recv_fds(commands, 1, MOST_SENT)
-        if not data:
-            return
-        held += descriptors
-        while held and not descriptors:
-            os.close(held.pop())
+    def reap(self) -> None:
+        """Forgets the processes that have ended."""
+        for process in [*self.closers]:
+            if os.waitpid(process, os.WNOHANG) != (0, 0):
+                self.closers.discard(process)

@@ -5,7 +5,7 @@ import socket
 import time
 from typing import Any, Callable, Dict, Optional
 
-from .admission import ACCEPT_PAUSE, ACCEPTED_AT_ONCE, Accepted, Admission, Owner
+from .admission import ACCEPT_PAUSE, ACCEPTED_AT_ONCE, WAITING, Accepted, Admission, Owner
 from .descriptors import Descriptors
 from .events import READ, Events
 from .lines import Lines
@@ -20,6 +20,7 @@ class Front:
     def __init__(self, name: str, listener: Listener, status: Optional[Listener], counts: Accepted,
                  limits: Any, as_metrics: Callable[[Dict[str, Any]], str]) -> None:
         self.listener, self.report_seconds = listener, limits.report
+        listener.sock.listen(WAITING)
         self.lines, self.events, self.manager = Lines(name), Events(), Manager()
         self.descriptors = Descriptors(listener.refuses_descriptors)
         self.admission = Admission(limits.per_process, limits.per_user, counts, self.lines,
@@ -68,6 +69,7 @@ class Front:
         self.admission.turned_away.end_late(self.now)
         if self.status:
             self.status.look_at_clock(self.now)
+        self.descriptors.close_left()
 
     def report(self, connections: int) -> None:
         """Reports what has happened since the last report, at most once a minute by default."""
@@ -90,7 +92,7 @@ class Front:
         self.listener.close(self.descriptors)
         if self.status:
             self.status.close()
-        self.descriptors.end()
+        self.descriptors.close_left()
         self.events.close()
 
     # ---- for the door and the broker to define

@@ -14,6 +14,8 @@ from .lines import Unusable
 
 # The first descriptor that a service manager passes (sd_listen_fds(3)).
 FIRST_HANDED = 3
+# The name under which it passes the socket that reports the state.
+STATUS_NAME = "status"
 # Seconds that another program may take to begin to listen at the same path.
 LOCK_SECONDS = 5.0
 
@@ -40,12 +42,13 @@ class Listener:
                 os.unlink(self.path)
 
 
-def listen_at(path: str, mode: int) -> Listener:
-    """Returns a socket of this program, whose file has the permissions `mode`."""
+def listen_at(path: str, mode: int, group: Optional[int] = None) -> Listener:
+    """Returns a socket of this program, whose file has the permissions `mode` and this group; by
+    default the group of this program."""
     if not path:
         raise Unusable("the path of a socket is empty: give one by --socket PATH or --status PATH")
     with locked(path):
-        return bind(path, mode)
+        return bind(path, mode, group)
 
 
 @contextlib.contextmanager
@@ -84,13 +87,16 @@ def lock(name: str) -> Optional[int]:
     return None
 
 
-def bind(path: str, mode: int) -> Listener:
+def bind(path: str, mode: int, group: Optional[int]) -> Listener:
     remove_stale(path)
     sock = socket.socket(socket.AF_UNIX, socket.SOCK_STREAM)
-    # The file must have its permissions from the first moment on.
+    # The file must have its permissions from the first moment on. Nobody can connect before
+    # listen().
     mask = os.umask(0o777 & ~mode)
     try:
         sock.bind(path)
+        if group is not None:
+            os.chown(path, -1, group)
     except OSError as error:
         sock.close()
         raise Unusable(f"can't listen at {path}: {error.strerror or error}") from error
@@ -101,12 +107,16 @@ def bind(path: str, mode: int) -> Listener:
 
 
 def handed_over() -> List[Listener]:
-    """Returns the sockets that a service manager passes. The manager goes on listening when this
-    program ends."""
-    process, count = os.environ.pop("LISTEN_PID", ""), os.environ.pop("LISTEN_FDS", "")
+    """Returns the sockets that a service manager passes, the one that reports the state last. The
+    manager goes on listening when this program ends."""
+    process, count, names = (os.environ.pop(f"LISTEN_{what}", "")
+                             for what in ("PID", "FDS", "FDNAMES"))
     if process != str(os.getpid()):
         return []
-    return [handed(FIRST_HANDED + k) for k in range(int(count) if count.isdigit() else 0)]
+    passed = [handed(FIRST_HANDED + k) for k in range(int(count) if count.isdigit() else 0)]
+    if names.split(":")[:1] == [STATUS_NAME]:
+        passed.reverse()
+    return passed
 
 
 def handed(descriptor: int) -> Listener:

@@ -3,6 +3,7 @@
 import contextlib
 import os
 import resource
+import sys
 from typing import Iterator, Optional
 
 from .lines import Unusable
@@ -11,6 +12,18 @@ from .lines import Unusable
 OWN_FILES = 256
 # The control groups of the machine, and the file that says which of them this program is in.
 GROUPS, OWN_GROUPS = "/sys/fs/cgroup", "/proc/self/cgroup"
+
+
+def open_standard_files() -> None:
+    """Opens /dev/null as each of the descriptors 0 to 2 that is closed. Otherwise a connection
+    would get the number, and be read or written in place of a standard file."""
+    for descriptor in range(3):
+        try:
+            os.fstat(descriptor)
+        except OSError:
+            os.set_inheritable(os.open(os.devnull, os.O_RDWR), True)
+    # Python has none if the descriptor was closed.
+    sys.stderr = sys.stderr or open(2, "w", closefd=False)
 
 
 def processors() -> int:

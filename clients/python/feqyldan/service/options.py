@@ -1,6 +1,7 @@
 """The common options of the command lines of the door and the broker."""
 
 import argparse
+import grp
 from functools import partial
 from typing import Optional, Tuple
 
@@ -28,6 +29,14 @@ def mode_from(words: str) -> int:
     if not (is_octal and int(words, 8) <= 0o777):
         raise argparse.ArgumentTypeError(f"must be an octal number up to 0777, not {words!r}")
     return int(words, 8)
+
+
+def group_from(words: str) -> int:
+    try:
+        return int(words) if words.isdecimal() else grp.getgrnam(words).gr_gid
+    except KeyError:
+        raise argparse.ArgumentTypeError(
+            f"must be a group of this machine, not {words!r}: add it by groupadd") from None
 
 
 def seconds_from(words: str) -> float:
@@ -59,12 +68,17 @@ def parser(name: str, description: str, epilog: str) -> argparse.ArgumentParser:
     add = made.add_argument
     add("--socket", metavar="PATH", help="path of the Unix socket that programs connect to")
     add("--mode", type=mode_from, default=0o600, metavar="OCTAL",
-        help="permissions of the socket files; a program needs write permission to connect "
+        help="permissions of the socket's file; a program needs write permission to connect "
              "(default: 0600, the owner only)")
     add("--status", metavar="PATH",
         help="path of a second socket that reports the state (default: none). A client that "
              "sends a line, or shuts down its side, gets one line of JSON. HTTP clients get the "
              "same from GET /status, and Prometheus text from GET /metrics")
+    add("--status-mode", type=mode_from, default=0o600, metavar="OCTAL",
+        help="permissions of the status socket's file (default: 0600, the owner only)")
+    add("--status-group", type=group_from, metavar="GROUP",
+        help="group of the status socket's file, as a name or a number (default: the group of "
+             "this program)")
     add("--report", type=seconds_from, default=REPORT, metavar="SECONDS",
         help="seconds between two lines of counts on standard error (default: "
              f"{REPORT:g}); a line is left out if nothing has happened")
@@ -82,7 +96,8 @@ def add_admission(made: argparse.ArgumentParser, among: str) -> None:
     add("--per-process", type=connections, default=PER_PROCESS, metavar="N",
         help=f"most connections of one process (default: {PER_PROCESS})")
     add("--per-user", type=connections, default=PER_USER, metavar="N",
-        help="most connections of all processes of one user (default: same as --connections)")
+        help="most connections of all processes of one user, including those of the users in the "
+             "user's range in /etc/subuid (default: same as --connections)")
 
 
 def listeners(told: argparse.Namespace) -> Tuple[Listener, Optional[Listener]]:
@@ -95,8 +110,10 @@ def listeners(told: argparse.Namespace) -> Tuple[Listener, Optional[Listener]]:
     listener = handed[0] if handed else listen_at(told.socket, told.mode)
     if len(handed) > 1:
         return listener, handed[1]
+    if told.status is None:
+        return listener, None
     try:
-        return listener, listen_at(told.status, told.mode) if told.status is not None else None
+        return listener, listen_at(told.status, told.status_mode, told.status_group)
     except Unusable:
         listener.close(Descriptors(listener.refuses_descriptors))
         raise

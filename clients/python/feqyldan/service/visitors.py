@@ -5,12 +5,14 @@ import json
 import socket
 import struct
 import time
+from collections import Counter
 from typing import Any, Callable, Dict, List, Optional
 
 from .. import wire
 from .descriptors import Descriptors
 from .events import READ, WRITE, Events
 from .listener import Listener
+from .peers import peer_of
 
 # The head of a frame: its length, client number and op. No frame is shorter.
 HEAD = struct.Struct(">IHB")
@@ -20,8 +22,15 @@ LEAST_FRAME = HEAD.size
 VISITORS_AT_ONCE, VISIT_SECONDS = 64, 5.0
 # The seconds until the next try to accept, after the system had no resources for a connection.
 ACCEPT_PAUSE = 1.0
+# Connections to the status socket that wait to be accepted, and that are accepted before other
+# events have their turn. Few wait, so that those of a flood are soon gone, and an operator's turn
+# comes.
+WAITING, ACCEPTED_AT_ONCE = 64, 4
 # The longest first line of a question for the state, in bytes.
 LINE_BYTES = 4096
+# How much longer than the processor time for a text of the state the text is given to others too.
+# So all questions together take a tenth of the loop's time for it, at most.
+REUSE = 9
 PAGE = "HTTP/1.0 {}\r\nContent-Type: {}\r\nContent-Length: {}\r\nConnection: close\r\n\r\n"
 
 # Returns the answer to the bytes so far; None if more are needed. The second argument says that no
@@ -30,13 +39,13 @@ Answer = Callable[[bytes, bool], Optional[bytes]]
 
 
 class Visitor:
-    """A connection that is answered once: the bytes that have come, the unsent rest of the answer
-    once there is one, and the time at which the connection is ended in any case."""
+    """A connection that is answered once: its user, the bytes that have come, the unsent rest of
+    the answer once there is one, and the time at which the connection is ended in any case."""
 
-    __slots__ = ("heard", "answer", "until")
+    __slots__ = ("user", "heard", "answer", "until")
 
-    def __init__(self, until: float) -> None:
-        self.heard, self.until = b"", until
+    def __init__(self, user: int, until: float) -> None:
+        self.user, self.heard, self.until = user, b"", until
         self.answer: Optional[memoryview] = None
 
 
@@ -50,12 +59,14 @@ class Visitors:
         # In the order in which they came.
         self.present: Dict[socket.socket, Visitor] = {}
 
-    def add(self, sock: socket.socket) -> None:
-        """Adds a connection. If there are too many, the oldest one is closed."""
+    def add(self, sock: socket.socket, user: int) -> None:
+        """Adds a connection of a user. If there are too many, the oldest one of the user with the
+        most is closed, so that no user keeps another one away."""
         if len(self.present) >= VISITORS_AT_ONCE:
-            self.end(next(iter(self.present)))
+            (most, _), = Counter(each.user for each in self.present.values()).most_common(1)
+            self.end(next(one for one, each in self.present.items() if each.user == most))
         sock.setblocking(False)
-        self.present[sock] = Visitor(time.monotonic() + VISIT_SECONDS)
+        self.present[sock] = Visitor(user, time.monotonic() + VISIT_SECONDS)
         self.events.watch(sock.fileno(), READ, lambda _: self.serve(sock))
 
     def serve(self, sock: socket.socket) -> None:
@@ -110,6 +121,20 @@ def turned_away(events: Events, descriptors: Descriptors) -> Visitors:
     return Visitors(events, descriptors, LEAST_FRAME, answer)
 
 
+class RecentText:
+    """A text of the state that is made again when it is too old (REUSE)."""
+
+    def __init__(self, make: Callable[[], str]) -> None:
+        self.make, self.text, self.until = make, "", 0.0
+
+    def get(self) -> str:
+        if time.monotonic() >= self.until:
+            began = time.process_time()
+            self.text = self.make()
+            self.until = time.monotonic() + REUSE * (time.process_time() - began)
+        return self.text
+
+
 class StatusSocket:
     """A second socket that reports the state of the program: as JSON, or in Prometheus' text format
     for HTTP's GET /metrics."""
@@ -117,11 +142,13 @@ class StatusSocket:
     def __init__(self, listener: Listener, events: Events, descriptors: Descriptors,
                  state: Callable[[], Dict[str, Any]],
                  metrics: Callable[[Dict[str, Any]], str]) -> None:
-        self.listener, self.events, self.state, self.metrics = listener, events, state, metrics
-        self.descriptors = descriptors
+        self.listener, self.events, self.descriptors = listener, events, descriptors
+        self.json = RecentText(lambda: json.dumps(state()) + "\n")
+        self.metrics = RecentText(lambda: metrics(state()))
         self.visitors = Visitors(events, descriptors, LINE_BYTES, self.answer)
         # When the next accept is tried, after the system had no resources for a connection.
         self.accepts_from: Optional[float] = None
+        listener.sock.listen(WAITING)
         self.listen()
 
     def listen(self) -> None:
@@ -129,7 +156,9 @@ class StatusSocket:
 
     def accept(self, _mask: int) -> None:
         try:
-            self.visitors.add(self.listener.sock.accept()[0])
+            for _ in range(ACCEPTED_AT_ONCE):
+                sock = self.descriptors.accept(self.listener.sock)
+                self.visitors.add(sock, peer_of(sock).user)
         except BlockingIOError:
             pass
         except OSError:
@@ -148,16 +177,16 @@ class StatusSocket:
             return None
         words: List[bytes] = line.split()
         if words[:1] != [b"GET"]:
-            return json.dumps(self.state()).encode() + b"\n"
+            return self.json.get().encode()
         return self.page(words[1] if len(words) > 1 else b"/")
 
     def page(self, path: bytes) -> bytes:
         """Returns the HTTP answer to GET."""
-        status, kind, body = "200 OK", "application/json", json.dumps(self.state()) + "\n"
+        status, kind, body = "404 Not Found", "text/plain", "There are /status and /metrics.\n"
         if path == b"/metrics":
-            kind, body = "text/plain; version=0.0.4", self.metrics(self.state())
-        elif path not in (b"/", b"/status"):
-            status, kind, body = "404 Not Found", "text/plain", "There are /status and /metrics.\n"
+            status, kind, body = "200 OK", "text/plain; version=0.0.4", self.metrics.get()
+        elif path in (b"/", b"/status"):
+            status, kind, body = "200 OK", "application/json", self.json.get()
         return PAGE.format(status, kind, len(body)).encode() + body.encode()
 
     def close(self) -> None:

@@ -1,0 +1,92 @@
+"""The server as a library in this process, libfeqyldan-core.so, which ctypes loads."""
+
+from __future__ import annotations
+
+import ctypes
+import os
+import sys
+from functools import lru_cache
+from typing import Any, Optional
+
+from . import program
+from .errors import FeqyldanError, ProgramNotFound
+
+VARIABLE = "FEQYLDAN_CORE"
+NO_MEMORY = 6
+
+
+class Handle(ctypes.Structure):
+    """struct feqyldan_handle: a server, or none."""
+
+    _fields_ = ("at", ctypes.c_void_p), ("held", ctypes.c_bool)
+
+
+def find() -> Optional[str]:
+    """Returns the path of the library: the value of FEQYLDAN_CORE, else the one inside this
+    package, else the one built in this checkout; None if there is none. Raises ProgramNotFound if
+    the variable names no file."""
+    told = os.environ.get(VARIABLE)
+    if told:
+        if not os.path.isfile(told):
+            raise ProgramNotFound(f"{VARIABLE} is {told}, and there is no such file: set it to "
+                                  "the path of libfeqyldan-core.so, or unset it")
+        return told
+    return next(iter(program.cores()), None)
+
+
+@lru_cache(maxsize=None)
+def load(path: str) -> Any:
+    """Returns the library at a path. Raises ProgramNotFound if it isn't one."""
+    try:
+        library = ctypes.CDLL(os.path.abspath(path))
+        library.feqyldan_open.argtypes = ctypes.c_uint64, ctypes.c_uint64, ctypes.c_void_p
+        library.feqyldan_serve.argtypes = (
+            ctypes.c_void_p, ctypes.c_void_p, ctypes.c_size_t, ctypes.c_void_p, ctypes.c_size_t,
+            ctypes.c_void_p, ctypes.c_size_t, ctypes.c_void_p)
+        library.feqyldan_close.argtypes = ctypes.c_void_p,
+        library.feqyldan_close.restype = None
+    except (OSError, AttributeError) as error:
+        raise ProgramNotFound(f"{path} isn't the server's library: {error}. Set {VARIABLE} to "
+                              "libfeqyldan-core.so, or start a process by "
+                              "vx.Server(process=True)") from None
+    return library
+
+
+class Core:
+    """A server in this process. The caller makes one call at a time."""
+
+    def __init__(self, path: str, quota: int, work: int) -> None:
+        self._handle, self._is_lost = Handle(), False
+        library = load(path)
+        self._close = library.feqyldan_close
+        self.serve = library.feqyldan_serve
+        self.address = ctypes.addressof(self._handle)
+        if library.feqyldan_open(quota, work, self.address) == NO_MEMORY:
+            raise FeqyldanError("start a server in this process: the system refuses the memory")
+
+    def close(self) -> None:
+        """Frees the server with all of its contexts. Does nothing if that was done."""
+        if not self._is_lost:
+            self._close(self.address)
+
+    def lose(self) -> None:
+        """Leaves the server in the child of a fork, where it can't be used, not even to close
+        it."""
+        self._is_lost = True
+
+    def __del__(self) -> None:
+        if hasattr(self, "address"):
+            self.close()
+
+
+def address_of(memory: Any) -> Any:
+    """Returns what ctypes passes as the address of bytes or of a memoryview. It is valid as long as
+    the memory and the result are kept."""
+    if isinstance(memory, bytes):
+        return memory
+    if not memory.readonly:
+        return ctypes.addressof(ctypes.c_char.from_buffer(memory)) if len(memory) else b""
+    numpy = sys.modules.get("numpy")
+    if numpy is None:
+        return bytes(memory)
+    return int(numpy.frombuffer(memory, numpy.uint8).__array_interface__["data"][0])

@@ -1,0 +1,286 @@
+"""
+Answers requests by calls of the server in this process: the counterpart of Connection without
+pipes.
+
+Each call is made under a lock, and its reply has come when it returns. The requests of a stream
+wait in a line instead, which a thread serves; so several servers use several processors. A plain
+request first serves what waits in the line, so that all are answered in the order of the calls.
+
+An exception, such as KeyboardInterrupt, may come at any bytecode, and no reply is lost: the call
+itself stores the length of the reply, and the reply is given to its request before the next call.
+"""
+
+from __future__ import annotations
+
+import _thread
+import ctypes
+import select
+import socket
+import threading
+import time
+import weakref
+from collections import deque
+from contextlib import suppress
+from queue import SimpleQueue
+from typing import Any, Deque, List, Optional, Sequence, Set, Tuple
+
+from .connection import BEFORE_SAMPLES, HEAD, HEAD_AND_NAME, LEAD, Buffers, Part, Request
+from .core import Core, address_of
+from .errors import Closed, FeqyldanError, UnexpectedReply
+from .log import LOG
+
+# The least length of a reply buffer, in bytes: FEQYLDAN_LEAST_BUFFER.
+LEAST = 28
+
+
+class Bell:
+    """Wakes a thread that waits for replies, and maybe for a file descriptor too."""
+
+    def __init__(self) -> None:
+        self._here, self._there = socket.socketpair()
+        self._there.setblocking(False)
+
+    def ring(self) -> None:
+        with suppress(BlockingIOError):
+            self._there.send(b"\0")
+
+    def await_ring(self, wake: Optional[int], limit: Optional[float]) -> bool:
+        """Waits for a ring. Returns False if `wake` became readable, or after `limit` seconds."""
+        poll = select.poll()
+        poll.register(self._here, select.POLLIN)
+        if wake is not None:
+            poll.register(wake, select.POLLIN)
+        ready = poll.poll(None if limit is None else max(0.0, limit) * 1000 + 1)
+        if not ready or any(descriptor == wake for descriptor, _ in ready):
+            return False
+        self._here.recv(1)
+        return True
+
+    def close(self) -> None:
+        self._here.close()
+        self._there.close()
+
+    def __del__(self) -> None:
+        # After an interruption nobody has closed it, and maybe it wasn't made.
+        with suppress(AttributeError):
+            self.close()
+
+
+class DirectConnection:
+    """The way to a server in this process. Several threads may use it: each call is completed
+    before another thread's call begins."""
+
+    def __init__(self, core: Core) -> None:
+        self._core = core
+        self._lock = threading.RLock()
+        self._fault: Optional[FeqyldanError] = None
+        self._buffers = Buffers()
+        self._short = ctypes.create_string_buffer(LEAST)
+        self._short_view = memoryview(self._short).cast("B")
+        # The length of a reply that no request has got yet, else 0; and the last request with its
+        # reply's memory.
+        self._length = ctypes.c_size_t(0)
+        self._last: Optional[Tuple[Request, memoryview]] = None
+        self._addresses = ctypes.addressof(self._short), ctypes.addressof(self._length)
+        # The requests of streams without a reply, and whether the last one's frame is incomplete.
+        self._line: Deque[Request] = deque()
+        self._is_open = False
+        # An item for each frame in the line; None until there was one.
+        self._wanted: Optional[SimpleQueue[Any]] = None
+        self._bells: Set[Bell] = set()
+        self._bells_lock = threading.Lock()
+
+    @property
+    def fault(self) -> Optional[FeqyldanError]:
+        """Returns why no more calls can be made; None while they can."""
+        return self._fault
+
+    def ask(self, request: Request, parts: List[Part]) -> None:
+        """Makes the call of a request. Its reply has come when this returns."""
+        with self._lock:
+            self._serve_line()
+            self._serve(request, parts)
+
+    def send(self, request: Request, parts: List[Part], is_followed: bool = False) -> None:
+        """Makes the call of a request, or queues it if it is a stream's."""
+        if not request.is_ahead:
+            self.ask(request, parts)
+            return
+        self._refuse_if_ended()
+        request.parts, self._is_open = parts, is_followed
+        self._line.append(request)
+        if not is_followed:
+            self._wake_thread()
+
+    def wait(self, request: Optional[Request] = None, limit: Optional[float] = None,
+             wake: Optional[int] = None) -> bool:
+        """Waits for the reply to a request, or for all replies if no request is given. Waits at
+        most `limit` seconds, or until the file descriptor `wake` is readable. Returns whether the
+        reply has come."""
+        if request is not None and request.answer is not None:
+            return True
+        self._refuse_if_ended()
+        if request is not None and request.is_ahead:
+            return self._await(request, limit, wake)
+        with self._lock:
+            self._serve_line()
+        return True
+
+    def own_unsent(self) -> None:
+        """Copies the queued requests after an interruption within a frame, so that the caller may
+        change their samples."""
+        if self._is_open:
+            for request in list(self._line):
+                request.own()
+
+    def let_go(self, place: memoryview) -> None:
+        """Redirects the samples that are still to come for `place`, after an interruption."""
+        with self._lock:
+            if self._last is not None and self._last[0].into is place:
+                self._last[0].into = None
+
+    def look(self) -> None:
+        """Raises the fault, if there is one: replies come by themselves."""
+        self._refuse_if_ended()
+
+    def close(self) -> None:
+        """Ends the server, after the call that is being made. Nothing more is answered."""
+        self._fault = self._fault or Closed("the connection to the server was closed")
+        with self._lock:
+            self._core.close()
+        if self._wanted is not None:
+            self._wanted.put(None)
+        self._ring()
+
+    def lose(self, why: str) -> None:
+        """Ends the connection in the child of a fork, where a thread of the parent may hold the
+        locks."""
+        self._lock, self._bells_lock = threading.RLock(), threading.Lock()
+        self._fault, self._wanted = Closed(why), None
+        self._core.lose()
+
+    def _refuse_if_ended(self) -> None:
+        if self._fault is not None:
+            raise self._fault.with_traceback(None)
+
+    # ---- calls
+
+    def _serve_line(self) -> None:
+        """Answers all queued requests, in order."""
+        line = self._line
+        while line:
+            self._serve(line[0], line[0].parts)
+            line.popleft().parts = ()
+            self._ring()
+
+    def _serve(self, request: Request, parts: Sequence[Part]) -> None:
+        """Answers a request, unless it has an answer."""
+        self._settle()
+        if self._fault is not None:
+            self._refuse_if_ended()
+        if request.answer is not None:
+            return
+        size = HEAD.size + request.body.size
+        frame, place = self._short_view, self._addresses[0]
+        if size > HEAD_AND_NAME:
+            size = max(size, LEAST)
+            frame = memoryview(self._buffers.take(LEAD + size))[LEAD:]
+            place = address_of(frame)
+        front, back = parts[0], b"" if len(parts) == 1 else parts[1]
+        samples = address_of(back)
+        self._last = request, frame
+        try:
+            self._core.serve(self._core.address, front, len(front), samples, len(back), place,
+                             len(frame), self._addresses[1])
+        finally:
+            self._settle()
+        if request.answer is None:
+            raise FeqyldanError(f"{request.words}: the server takes no frame of {len(front):,} and "
+                                f"{len(back):,} bytes")
+
+    def _settle(self) -> None:
+        """Gives the reply of the last call to its request, unless that was done."""
+        length = self._length.value
+        if length == 0 or self._last is None:
+            return
+        request, frame = self._last
+        try:
+            request.arrive(reply_of(request, frame, length), 0)
+        except UnexpectedReply as fault:
+            self._fault = fault
+            raise
+        finally:
+            if request.answer is not None or self._fault is not None:
+                self._length.value, self._last = 0, None
+
+    # ---- the line
+
+    def _wake_thread(self) -> None:
+        """Lets the thread serve the line. The thread is started for the first frame."""
+        if self._wanted is None:
+            wanted: SimpleQueue[Any] = SimpleQueue()
+            # The queue's put() is in C, so the end of the connection can call it at any moment. An
+            # interruption of Thread.start() may raise RuntimeError; this call is in C too.
+            _thread.start_new_thread(serve_lines, (wanted, weakref.ref(self, wanted.put)))
+            self._wanted = wanted
+        self._wanted.put(True)
+
+    def _serve_in_thread(self) -> None:
+        try:
+            with self._lock:
+                self._serve_line()
+        except Exception as error:
+            if self._fault is None:
+                LOG.warning("the thread of a server ends: %s", error)
+                self._fault = FeqyldanError(f"a stream's frame wasn't answered: {error!r}")
+            self._ring()
+
+    def _ring(self) -> None:
+        """Wakes the threads that wait for replies."""
+        if self._bells:
+            with self._bells_lock:
+                for bell in self._bells:
+                    bell.ring()
+
+    def _await(self, request: Request, limit: Optional[float], wake: Optional[int]) -> bool:
+        """Waits while the thread serves the line, and returns whether the reply has come."""
+        until = None if limit is None else time.monotonic() + limit
+        bell = Bell()
+        try:
+            with self._bells_lock:
+                self._bells.add(bell)
+            # An interruption may have come before the thread was woken.
+            self._wake_thread()
+            while request.answer is None:
+                self._refuse_if_ended()
+                if not bell.await_ring(wake, None if until is None else until - time.monotonic()):
+                    return False
+        finally:
+            with self._bells_lock:
+                self._bells.discard(bell)
+            bell.close()
+        return True
+
+
+def reply_of(request: Request, frame: memoryview, length: int) -> memoryview:
+    """Returns the reply in a frame, whose samples go to the request's place if it has one. Raises
+    UnexpectedReply if it doesn't answer the request."""
+    if length > len(frame):
+        raise UnexpectedReply(f"{request.words}: the reply has {length:,} bytes, more than "
+                              f"{len(frame):,}")
+    size, client, op, code = HEAD.unpack_from(frame)
+    request.look_at(size, client, op, code)
+    if request.into is not None and code == 0:
+        request.into[:] = frame[BEFORE_SAMPLES:length]
+        return memoryview(bytes(frame[:BEFORE_SAMPLES]))
+    return memoryview(bytes(frame[:length])) if length <= HEAD_AND_NAME else frame[:length]
+
+
+def serve_lines(wanted: SimpleQueue[Any], connection: weakref.ref[DirectConnection]) -> None:
+    """Serves the line of a connection each time that it is wanted, until the connection ends."""
+    while wanted.get() is not None:
+        served = connection()
+        if served is None:
+            return
+        served._serve_in_thread()
+        del served

@@ -1,0 +1,231 @@
+"""The sources of a stream's frames: sequences, and iterators in threads of their own."""
+
+from __future__ import annotations
+
+import atexit
+import os
+import sys
+import threading
+import time
+import zlib
+from collections import deque
+from queue import SimpleQueue
+from typing import TYPE_CHECKING, Any, Callable, Deque, Dict, Iterable, Iterator, Optional, Sequence
+
+from .errors import WrongPicture
+from .samples import is_array
+
+if TYPE_CHECKING:
+    from .context import Context
+
+# Seconds that the end of the program waits for iterators to yield the frame that was asked for.
+PATIENCE = 2.0
+# The number of rows in a frame's fingerprint, which shows whether its array was overwritten.
+PRINTED = 16
+
+
+class Source:
+    """A source of frames: has_frame says whether one has come, and take() returns it. `descriptor`
+    becomes readable when a frame comes, or at the end."""
+
+    descriptor = -1
+    error: Optional[BaseException] = None
+
+    def __enter__(self) -> Source:
+        return self
+
+    def __exit__(self, *_: object) -> None:
+        self.close()
+
+    @property
+    def has_frame(self) -> bool:
+        raise NotImplementedError
+
+    @property
+    def has_ended(self) -> bool:
+        raise NotImplementedError
+
+    def take(self) -> Any:
+        raise NotImplementedError
+
+    def let_go(self, frame: Any) -> None:
+        """Notes that the result of a frame has come. Raises BadPicture if the array of a frame was
+        overwritten before its result had come."""
+
+    def close(self) -> None:
+        """Stops taking frames."""
+        raise NotImplementedError
+
+
+class Listed(Source):
+    """Frames in a sequence."""
+
+    def __init__(self, frames: Sequence[Any]) -> None:
+        self._frames, self._at = frames, 0
+
+    @property
+    def has_frame(self) -> bool:
+        return self._at < len(self._frames)
+
+    @property
+    def has_ended(self) -> bool:
+        return not self.has_frame
+
+    def take(self) -> Any:
+        self._at += 1
+        return self._frames[self._at - 1]
+
+    def close(self) -> None:
+        self._at = len(self._frames)
+
+
+class Taker(threading.Thread):
+    """The thread that runs an iterator. After `leave` is called, it takes no more frames."""
+
+    def __init__(self, take_all: Callable[[Iterator[Any]], None], frames: Iterator[Any],
+                 leave: Callable[[], None]) -> None:
+        super().__init__(target=take_all, args=(frames,), daemon=True)
+        self.leave = leave
+
+
+def leave_all() -> None:
+    """
+    Ends all iterators that still run, each after the frame that it was asked for, and waits for
+    them at most PATIENCE seconds.
+
+    A program that ends while one of its threads is in C++, for example in OpenCV, is aborted:
+    Python ends the thread by an exception there.
+    """
+    takers = [thread for thread in threading.enumerate()
+              if isinstance(thread, Taker) and thread.ident is not None]
+    for taker in takers:
+        taker.leave()
+    until = time.monotonic() + PATIENCE
+    for taker in takers:
+        taker.join(max(0.0, until - time.monotonic()))
+
+
+atexit.register(leave_all)
+
+
+class Prints:
+    """
+    The arrays of frames that have no result yet, by the address of their samples. A fingerprint of
+    some rows of each array shows whether it was overwritten too early.
+    """
+
+    def __init__(self) -> None:
+        self._prints: Dict[int, int] = {}
+        self._fault: Optional[str] = None
+
+    def take(self, frame: Any) -> None:
+        """Notes a frame that the iterator has just yielded."""
+        if is_pixels(frame):
+            start, found = start_of(frame), print_of(frame)
+            if self._prints.get(start, found) != found:
+                self._fault = ("the iterator of a stream overwrote an array before the result of "
+                               "its frame had come, so two frames were mixed: yield array.copy()")
+            self._prints[start] = found
+
+    def let_go(self, frame: Any) -> None:
+        """Notes that the result of a frame has come."""
+        if self._fault is not None:
+            raise WrongPicture(self._fault)
+        if is_pixels(frame):
+            self._prints.pop(start_of(frame), None)
+
+
+def is_pixels(frame: Any) -> bool:
+    """Returns whether a value is a NumPy array with rows."""
+    numpy = sys.modules.get("numpy")
+    return numpy is not None and isinstance(frame, numpy.ndarray) and frame.ndim > 1
+
+
+def start_of(pixels: Any) -> int:
+    return int(pixels.__array_interface__["data"][0])
+
+
+def print_of(pixels: Any) -> int:
+    """Returns a fingerprint that almost always changes when another frame is written to the
+    array."""
+    return zlib.crc32(pixels[:: max(1, len(pixels) // PRINTED)].tobytes())
+
+
+class Threaded(Source):
+    """Frames that a thread takes from an iterator, one ahead, so that results can be yielded while
+    the iterator waits for a camera. The thread must not use the contexts of the stream."""
+
+    def __init__(self, frames: Iterable[Any], contexts: Sequence[Context]) -> None:
+        self._contexts = contexts
+        self._ready: Deque[Any] = deque()
+        self._prints = Prints()
+        # An item for each frame that may be taken. A semaphore is written in Python, and an
+        # interruption within it might leave it locked.
+        self._wanted: SimpleQueue[None] = SimpleQueue()
+        self._wanted.put(None)
+        self._lock = threading.Lock()
+        self._is_closed = self._is_over = False
+        taker = Taker(self._take_all, iter(frames), self.close)
+        self.descriptor, self._writer = os.pipe()
+        taker.start()
+
+    def _take_all(self, frames: Iterator[Any]) -> None:
+        thread = threading.get_ident()
+        for context in self._contexts:
+            context._barred.add(thread)
+        try:
+            self._take_each(frames)
+        finally:
+            # Another thread may get the same thread number.
+            for context in self._contexts:
+                context._barred.discard(thread)
+
+    def _take_each(self, frames: Iterator[Any]) -> None:
+        try:
+            for frame in frames:
+                self._prints.take(frame)
+                self._ready.append(frame)
+                self._tell()
+                self._wanted.get()
+                if self._is_closed:
+                    return
+        except BaseException as error:
+            self.error = error
+        self._is_over = True
+        self._tell()
+
+    def _tell(self) -> None:
+        with self._lock:
+            if not self._is_closed:
+                os.write(self._writer, b"\0")
+
+    @property
+    def has_frame(self) -> bool:
+        return bool(self._ready) and not self._is_closed
+
+    @property
+    def has_ended(self) -> bool:
+        return self._is_closed or self._is_over and not self._ready
+
+    def take(self) -> Any:
+        os.read(self.descriptor, 1)
+        frame = self._ready.popleft()
+        self._wanted.put(None)
+        return frame
+
+    def let_go(self, frame: Any) -> None:
+        self._prints.let_go(frame)
+
+    def close(self) -> None:
+        with self._lock:
+            if not self._is_closed:
+                self._is_closed = True
+                os.close(self.descriptor)
+                os.close(self._writer)
+        self._wanted.put(None)
+
+
+def source_of(frames: Iterable[Any], contexts: Sequence[Context]) -> Source:
+    if isinstance(frames, (list, tuple)) or is_array(frames):
+        return Listed(frames)  # type: ignore[arg-type]
+    return Threaded(frames, contexts)

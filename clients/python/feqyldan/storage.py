@@ -1,0 +1,99 @@
+"""Reads and writes whole files. A file that is written is complete, or as it was before."""
+
+from __future__ import annotations
+
+import contextlib
+import errno
+import os
+import secrets
+import stat
+from typing import Any, Iterator, Sequence, Union
+
+from .errors import BadPicture, Refused
+
+Path = Union[str, "os.PathLike[str]"]
+# The most bytes of a file that is read: more than any picture for an image has.
+GREATEST_FILE = 1 << 29
+
+
+def name_of_file(path: Any) -> str:
+    """Returns a path as text. Raises TypeError or ValueError if the value is no path."""
+    try:
+        name = os.fsdecode(path)
+    except TypeError:
+        raise TypeError(f"a path must be text, bytes or an os.PathLike, not {type(path).__name__}: "
+                        "where a file is written, the path comes before the picture") from None
+    if "\0" in name:
+        raise ValueError(f"a path has no byte 0, and this one begins with {name[:20]!r}: give the "
+                         "path of the file, not its bytes")
+    return name
+
+
+def read_bytes(path: Path, most: int = GREATEST_FILE) -> bytes:
+    """Returns the bytes of a file. Raises OSError, which names the file, if it can't be read, isn't
+    a regular file, or has more than `most` bytes."""
+    name = name_of_file(path)
+    # With O_NONBLOCK open() doesn't wait for somebody to write to a named pipe.
+    with open(name, "rb", opener=lambda name, flags: os.open(name, flags | os.O_NONBLOCK)) as file:
+        there = os.fstat(file.fileno())
+        if not stat.S_ISREG(there.st_mode):
+            raise OSError(errno.EINVAL, "it isn't a regular file: copy its bytes to one", name)
+        if there.st_size > most:
+            raise OSError(errno.EFBIG, f"it has {there.st_size:,} bytes, and at most {most:,} are "
+                                       "read", name)
+        return file.read()
+
+
+def write_bytes(path: Path, parts: Sequence[Any]) -> None:
+    """
+    Replaces a file by the bytes of these parts. They are written to a new file in the same folder,
+    which gets the name when it is complete and on the disk. So if the disk is full, the old file
+    stays. Raises OSError, which names the file.
+    """
+    name = name_of_file(path)
+    # A symbolic link stays, and its target is replaced.
+    target = os.path.realpath(name)
+    try:
+        if os.path.exists(target) and not os.path.isfile(target):
+            # A device or a pipe can't be replaced.
+            with open(target, "wb") as file:
+                file.writelines(parts)
+            return
+        _replace(target, parts)
+    except OSError as error:
+        raise type(error)(error.errno, error.strerror, name) from None
+
+
+def _replace(target: str, parts: Sequence[Any]) -> None:
+    """Writes a new file, and gives it the name and the mode of a target."""
+    temporary = os.path.join(os.path.dirname(target), f".feqyldan-{secrets.token_hex(8)}")
+    exists = os.path.exists(target)
+    if exists and not os.access(target, os.W_OK):
+        raise PermissionError(errno.EACCES, os.strerror(errno.EACCES))
+    descriptor = os.open(temporary, os.O_WRONLY | os.O_CREAT | os.O_EXCL | os.O_CLOEXEC, 0o666)
+    try:
+        with open(descriptor, "wb") as file:
+            if exists:
+                os.fchmod(descriptor, stat.S_IMODE(os.stat(target).st_mode))
+            file.writelines(parts)
+            file.flush()
+            os.fsync(descriptor)
+            if os.fstat(descriptor).st_size != sum(map(len, parts)):
+                raise OSError(errno.EIO, "the disk didn't take all bytes")
+        os.replace(temporary, target)
+    except BaseException:
+        with contextlib.suppress(OSError):
+            os.unlink(temporary)
+        raise
+
+
+@contextlib.contextmanager
+def naming(path: str) -> Iterator[None]:
+    """Yields once; errors about a picture within the `with` name its file."""
+    try:
+        yield
+    except Refused as refused:
+        raise refused.in_words(f"{path}: {refused.request}") from None
+    except (BadPicture, ImportError, ValueError) as error:
+        kind = type(error) if isinstance(error, (BadPicture, ImportError)) else ValueError
+        raise kind(f"{path}: {error}") from None

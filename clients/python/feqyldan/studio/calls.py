@@ -1,0 +1,168 @@
+"""The calls that the page makes: runs of the edited graph, its pictures, and its file."""
+
+from __future__ import annotations
+
+import os
+import threading
+from typing import Any, Dict, Mapping, Sequence
+
+from ..errors import ServerEnded
+from ..functions import FUNCTIONS, OPERANDS, Functions, parameters_of
+from ..graph_files import FIELDS, GraphFileError
+from ..ranges import PARAMETER_RANGES, SIDES_OF_CONVOLUTIONS
+from ..verdicts import OPENED, TAKEN, formats_in_words
+from .bench import Bench, Outcome, Shown, fault_for_run
+from .document import Document
+from .drafts import Blobs
+from .views import marked, masks_in, part_of, thumb
+from .web import Call, Packed, Refusal
+
+
+class Studio:
+    """A graph file, and two servers that run it: one on the chosen picture, the other one on all
+    pictures in turn."""
+
+    def __init__(self, path: str, pictures: Sequence[str]) -> None:
+        self._pictures = list(pictures)
+        self._blobs = Blobs()
+        self._document = Document(path, pictures, self._blobs)
+        self._chosen = Bench(path, pictures, self._blobs)
+        self._others = Bench(path, pictures, self._blobs)
+        self._saving = threading.Lock()
+
+    @property
+    def calls(self) -> Mapping[str, Call]:
+        return {"about": self._about, "run": self._run, "part": self._part, "pixel": self._pixel,
+                "strip": self._strip, "graphs": self._graphs, "open": self._open,
+                "save": self._save}
+
+    def close(self) -> None:
+        self._chosen.close()
+        self._others.close()
+
+    def _about(self, _: Dict[str, Any]) -> Any:
+        return {
+            **self._file(), "pictures": [os.path.basename(path) for path in self._pictures],
+            "functions": {name: about(name) for name in FUNCTIONS}, "operands": OPERANDS,
+            "fields": FIELDS, "ranges": PARAMETER_RANGES, "sides": SIDES_OF_CONVOLUTIONS}
+
+    def _file(self) -> Dict[str, Any]:
+        document = self._document
+        return {"name": document.name, "folder": document.folder, "contents": document.contents,
+                "files": document.files}
+
+    def _graphs(self, _: Dict[str, Any]) -> Any:
+        return self._document.graphs()
+
+    def _open(self, told: Dict[str, Any]) -> Any:
+        with self._saving:
+            self._document.open(str(told["name"]))
+            for bench in (self._chosen, self._others):
+                bench.path = self._document.path
+            return self._file()
+
+    def _save(self, told: Dict[str, Any]) -> Any:
+        contents = self._document.checked(told["contents"])
+        with self._saving:
+            name = str(told.get("name") or self._document.name)
+            self._document.save(contents, name, bool(told.get("sure")))
+            for bench in (self._chosen, self._others):
+                bench.path = self._document.path
+            return {**self._file(), "fault": fault_for_run(self._document.path)}
+
+    def _run(self, told: Dict[str, Any]) -> Packed:
+        """Runs the contents. The reply has the thumbnails that the page doesn't have yet, and the
+        parts of images that it wants."""
+        contents, has = self._document.checked(told["contents"]), told.get("has", {})
+        outcome = ran(self._chosen, contents, self._index(told))
+        masks, shown = masks_in(contents), outcome.shown
+        head: Dict[str, Any] = {**faults(outcome), "shown": {}, "seconds": outcome.seconds}
+        packed = Packed(head)
+        for name, one in shown.items():
+            about = head["shown"][name] = described(one, name in masks)
+            if one.kind == "image" and has.get(name) != about["mark"]:
+                small = thumb(one.samples, name in masks)
+                about["thumb"] = {"width": small.width, "height": small.height,
+                                  "times": small.times, "part": packed.add(small.content)}
+        for want in told.get("want", []):
+            about = head["shown"].get(want["name"], {})
+            if about.get("kind") == "image" and want.get("mark") != about["mark"]:
+                about["full"] = full(packed, shown[want["name"]], want, about["mask"])
+        return packed
+
+    def _part(self, told: Dict[str, Any]) -> Packed:
+        """Returns a part of an image of the last run."""
+        one = self._chosen.shown.get(told["name"])
+        if one is None or one.kind != "image":
+            raise Refusal(404, f"there is no image {told['name']!r}")
+        is_mask = bool(told.get("mask"))
+        head = described(one, is_mask)
+        packed = Packed(head)
+        head["full"] = full(packed, one, told, is_mask)
+        return packed
+
+    def _pixel(self, told: Dict[str, Any]) -> Any:
+        """Returns the sample of each image of the last run at a pixel."""
+        x, y = int(told["x"]), int(told["y"])
+        return {name: int(one.samples[y, x]) for name, one in self._chosen.shown.items()
+                if one.kind == "image" and 0 <= x < one.about["width"]
+                and 0 <= y < one.about["height"]}
+
+    def _strip(self, told: Dict[str, Any]) -> Packed:
+        """Runs another picture. Returns a thumbnail of one image, and how many samples aren't 0."""
+        contents, name = self._document.checked(told["contents"]), str(told["name"])
+        outcome = ran(self._others, contents, self._index(told), name)
+        head: Dict[str, Any] = {"marked": None, "fault": ""}
+        packed, one = Packed(head), outcome.shown.get(name)
+        if one is not None and one.kind == "image":
+            is_mask = name in masks_in(contents)
+            small = thumb(one.samples, is_mask)
+            head.update(marked=marked(one.samples), mask=is_mask, width=small.width,
+                        height=small.height, part=packed.add(small.content))
+        elif outcome.faults:
+            head["fault"] = outcome.faults[0].words
+        return packed
+
+    def _index(self, told: Dict[str, Any]) -> int:
+        at = told.get("at", 0)
+        if not isinstance(at, int) or not 0 <= at < max(1, len(self._pictures)):
+            raise Refusal(400, f"there is no picture {at}")
+        return at
+
+
+def ran(bench: Bench, contents: Dict[str, Any], at: int, only: str = "") -> Outcome:
+    """Runs the contents. If the server ends, this is refused, and the next run starts another."""
+    try:
+        return bench.run(contents, at, only or None)
+    except ServerEnded as error:
+        raise Refusal(503, f"{error} The next change starts another server.") from None
+
+
+def about(name: str) -> Dict[str, Any]:
+    """Returns what the page has to know of a function."""
+    words = (getattr(Functions, name).__doc__ or "").split("\n\n")[0]
+    return {"openvx": FUNCTIONS[name].openvx, "parameters": parameters_of(name),
+            "words": " ".join(words.split()), "formats": formats_in_words(name),
+            "opened": str(OPENED.get(name) or ""),
+            "taken": [[fmt and str(fmt) for fmt in formats] for formats in TAKEN[name]]}
+
+
+def faults(outcome: Outcome) -> Dict[str, Any]:
+    return {"faults": [in_json(fault) for fault in outcome.faults],
+            "waiting": {position: str(place) for position, place in outcome.waiting.items()}}
+
+
+def in_json(fault: GraphFileError) -> Dict[str, Any]:
+    return {"object": fault.object, "node": fault.node, "operand": fault.operand,
+            "code": fault.code, "words": fault.words, "advice": fault.advice}
+
+
+def described(one: Shown, is_mask: bool) -> Dict[str, Any]:
+    return {"kind": one.kind, "mark": f"{one.mark}{' mask' if is_mask else ''}", "mask": is_mask,
+            **one.about}
+
+
+def full(packed: Packed, one: Shown, want: Dict[str, Any], is_mask: bool) -> Dict[str, Any]:
+    """Adds a part of an image to a reply, and describes it."""
+    place, content = part_of(one.samples, want, is_mask)
+    return {"place": place, "part": packed.add(content)}

@@ -1,0 +1,163 @@
+// The contents of a graph file, and edits of them. Every edit can be undone.
+
+const MOST_UNDONE = 500
+const INPUTS = ['input', 'in1', 'in2']
+const IMAGES = ['image', 'virtual image', 'delay']
+
+export class Model {
+  constructor (about) {
+    this.about = about
+    this.replace(about.contents)
+  }
+
+  // Begins with the contents of a file that was opened.
+  replace (contents) {
+    this.contents = structuredClone(contents)
+    this.past = []
+    this.future = []
+    this.gesture = null
+    // Images that are results only because no node reads them.
+    this.automatic = new Set()
+    this.markSaved()
+  }
+
+  get objects () { return this.contents.objects }
+  get nodes () { return this.contents.nodes }
+  get isModified () { return JSON.stringify(this.contents) !== this.saved }
+
+  markSaved () { this.saved = JSON.stringify(this.contents) }
+
+  // Changes the contents. The edits of one gesture, such as the drag of a slider, are undone
+  // together.
+  edit (change, gesture = null) {
+    const before = structuredClone(this.contents)
+    const result = change()
+    if (JSON.stringify(before) === JSON.stringify(this.contents)) return result
+    if (gesture === null || gesture !== this.gesture) this.past.push(before)
+    if (this.past.length > MOST_UNDONE) this.past.shift()
+    this.future = []
+    this.gesture = gesture
+    return result
+  }
+
+  endGesture () { this.gesture = null }
+  undo () { return this.swap(this.past, this.future) }
+  redo () { return this.swap(this.future, this.past) }
+
+  swap (from, to) {
+    if (!from.length) return false
+    to.push(this.contents)
+    this.contents = from.pop()
+    this.gesture = null
+    return true
+  }
+
+  // ---- looking. A node is an index, an object a name, and a slot of a delay a name such as d[-1].
+
+  functionOf (node) { return this.about.functions[node.function] }
+
+  // The parameters that take an image, whether it is connected or not.
+  imageParameters (node) { return (this.functionOf(node)?.parameters ?? []).filter(p => INPUTS.includes(p)) }
+
+  ins (node) { return this.imageParameters(node).filter(p => node[p] != null).map(p => [p, node[p]]) }
+
+  outs (node) {
+    return (this.functionOf(node)?.parameters ?? [])
+      .filter(p => this.about.operands[p] >= 2 && node[p] != null).map(p => [p, node[p]])
+  }
+
+  operands (node) {
+    return (this.functionOf(node)?.parameters ?? [])
+      .filter(p => p in this.about.operands && node[p] != null).map(p => [p, node[p]])
+  }
+
+  base (name) { return /^(.+)\[(0|-\d+)\]$/.exec(name)?.[1] ?? name }
+  object (name) { return this.objects[this.base(name)] }
+  isImage (name) { return IMAGES.includes(this.object(name)?.kind) }
+  input () { return Object.keys(this.objects).find(name => this.objects[name].input) }
+
+  writerOf (name) { return this.nodes.findIndex(node => this.outs(node).some(([, out]) => out === name)) }
+
+  readersOf (name) {
+    return this.nodes.flatMap((node, at) => this.ins(node).filter(([, one]) => one === name).map(([p]) => [at, p]))
+  }
+
+  // All images and slots, in the order of the file.
+  images () {
+    return Object.entries(this.objects).flatMap(([name, { kind, slots }]) =>
+      kind === 'delay' ? Array.from({ length: slots }, (_, k) => `${name}[${k ? -k : 0}]`)
+        : IMAGES.includes(kind) ? [name] : [])
+  }
+
+  // The images that depend on a node. Reading one of them would close a cycle.
+  below (at, found = new Set()) {
+    for (const [, out] of this.outs(this.nodes[at])) {
+      if (found.has(out)) continue
+      found.add(out)
+      this.readersOf(out).forEach(([next]) => this.below(next, found))
+    }
+    return found
+  }
+
+  // A name that no object has yet.
+  fresh (wish) {
+    const stem = wish.replace(/_$/, '')
+    for (let k = 1; ; k++) {
+      const name = k === 1 ? stem : `${stem}${k}`
+      if (!(name in this.objects)) return name
+    }
+  }
+
+  // ---- changing, each within edit()
+
+  // Removes a node with the objects that only it uses. The readers of its output read its input.
+  // Returns the name of that input.
+  remove (at) {
+    const node = this.nodes[at]
+    const from = this.ins(node)[0]?.[1]
+    for (const [, out] of this.outs(node)) {
+      for (const [reader, p] of this.readersOf(out)) {
+        if (from) this.nodes[reader][p] = from
+        else delete this.nodes[reader][p]
+      }
+    }
+    this.nodes.splice(at, 1)
+    this.operands(node).forEach(([, name]) => this.removeUnused(this.base(name)))
+    return from
+  }
+
+  // Removes an object that no node uses, unless it has content of its own.
+  removeUnused (name) {
+    const told = this.objects[name]
+    const isUsed = this.nodes.some(node => this.operands(node).some(([, one]) => this.base(one) === name))
+    if (told && !isUsed && !told.input && !told.file && !told.samples) delete this.objects[name]
+  }
+
+  // Removes an object that no node writes. Nodes that read it aren't connected any more.
+  removeObject (name) {
+    delete this.objects[name]
+    for (const node of this.nodes) {
+      this.ins(node).filter(([, one]) => this.base(one) === name).forEach(([p]) => delete node[p])
+    }
+  }
+
+  // Returns whether the name can be given to the object.
+  rename (old, wish) {
+    const name = wish.trim()
+    if (!name || name === old || name in this.objects || /\/|\[(0|-\d+)\]$/.test(name)) return false
+    this.contents.objects = Object.fromEntries(
+      Object.entries(this.objects).map(([key, told]) => [key === old ? name : key, told]))
+    for (const node of this.nodes) {
+      this.operands(node).filter(([, one]) => this.base(one) === old)
+        .forEach(([p, one]) => { node[p] = name + one.slice(old.length) })
+    }
+    if (this.automatic.delete(old)) this.automatic.add(name)
+    return true
+  }
+
+  // Makes an image a result, which `run` writes, or a virtual image.
+  setResult (name, isResult, { fmt, width, height }) {
+    this.automatic.delete(name)
+    this.objects[name] = isResult ? { kind: 'image', format: fmt, width, height } : { kind: 'virtual image' }
+  }
+}

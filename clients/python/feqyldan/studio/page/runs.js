@@ -1,0 +1,74 @@
+// Runs of the graph. While one is under way, only the last change waits.
+import { call } from './api.js'
+import { byId, setText } from './dom.js'
+
+export class Runs {
+  constructor (studio) {
+    this.studio = studio
+    // The milliseconds of each run, for benchmarks.
+    this.latencies = []
+    Object.assign(this, { isRunning: false, isDue: false, stamp: null })
+  }
+
+  // Runs the graph as it is now. `stamp` is the time of the event that changed it.
+  start (stamp = performance.now()) {
+    this.stamp ??= stamp
+    this.isDue = true
+    this.studio.strip?.stop()
+    if (!this.isRunning) this.run()
+  }
+
+  async run () {
+    this.isRunning = true
+    try {
+      while (this.isDue) {
+        const stamp = this.stamp ?? performance.now()
+        Object.assign(this, { isDue: false, stamp: null })
+        await this.once(stamp)
+      }
+    } catch (error) {
+      this.studio.say(error.message, true)
+    } finally { this.isRunning = false }
+    this.studio.strip.fillSoon()
+  }
+
+  async once (stamp) {
+    const { studio } = this
+    const { result, model, at } = studio
+    const wanted = studio.needed()
+    const sent = performance.now()
+    const reply = await call('run', { contents: model.contents, at, has: result.has(), want: wanted.map(name => this.want(name)) })
+    const came = performance.now()
+    result.take(reply, wanted)
+    // What is shown may have changed with the graph.
+    if (studio.needed().some(name => !wanted.includes(name) && result.shown[name]?.kind === 'image')) this.isDue = true
+    studio.show()
+    const drawn = performance.now()
+    await painted()
+    const took = performance.now() - stamp
+    this.latencies.push({ took, call: came - sent, draw: drawn - came, graph: 1e3 * reply.seconds.graph })
+    setText(byId('times'), `${took.toFixed(0)} ms · graph ${(1e3 * reply.seconds.graph).toFixed(1)} ms`)
+    studio.say('')
+  }
+
+  // The part of an image that is needed, and the mark of the samples that are here.
+  want (name) {
+    const { result, viewer } = this.studio
+    const full = result.fulls.get(name)
+    const shape = result.shown[name] ?? full
+    const part = shape ? viewer.partOf(shape) : {}
+    return { name, mark: full?.covers(part) ? full.mark : null, ...part }
+  }
+}
+
+// Resolves after the next frame was painted.
+function painted () {
+  return new Promise(resolve => {
+    if (document.hidden) { resolve(); return }
+    requestAnimationFrame(() => {
+      const { port1, port2 } = new MessageChannel()
+      port1.onmessage = resolve
+      port2.postMessage(0)
+    })
+  })
+}

@@ -1,0 +1,462 @@
+"""
+Servers in the process of the tests, and how vx.Server() chooses between the two ways. The
+library is the one that FEQYLDAN_CORE names, or the one built in this checkout.
+"""
+
+import contextlib
+import gc
+import os
+import shutil
+import subprocess
+import sys
+import tempfile
+import threading
+import unittest
+from unittest import mock
+
+from program import CORE, HERE, PROGRAM, needs_program, vx
+from feqyldan import core, program, samples, wire
+from feqyldan.connection import Body, Request
+from feqyldan.core import Core
+from feqyldan.direct import DirectConnection
+from test_interruptions import Everywhere, Loop, interrupting
+
+PATH = CORE or next(iter(program.cores()), None)
+ROOT = os.path.realpath(os.path.join(HERE, "..", "..", ".."))
+PACKAGE = os.path.realpath(os.path.join(HERE, ".."))
+needs_core = unittest.skipUnless(PATH, "FEQYLDAN_CORE isn't set, and this checkout has built no "
+                                       "libfeqyldan-core.so")
+# Another process finds the library alone.
+VARIABLES = {"FEQYLDAN_CORE": PATH or "", "PYTHONPATH": PACKAGE, "FEQYLDAN_PROGRAM": "",
+             "PYTHONDONTWRITEBYTECODE": "1"}
+GREATEST = 2**40
+
+
+def run(script):
+    """Runs a script with the library, and returns its status and its output."""
+    done = subprocess.run([sys.executable, "-c", script], env={**os.environ, **VARIABLES},
+                          stdout=subprocess.PIPE, stderr=subprocess.STDOUT, text=True, timeout=120)
+    return done.returncode, done.stdout
+
+
+def opened():
+    """Returns a connection to a server of its own with an open context of client 7."""
+    connection = DirectConnection(Core(PATH, GREATEST, GREATEST))
+    connection.ask(Request("open", 7, wire.OPEN_CONTEXT), [wire.open_context(7)])
+    return connection
+
+
+@needs_core
+class TestChoice(unittest.TestCase):
+    def setUp(self):
+        variables = {name: value for name, value in os.environ.items()
+                     if name not in (core.VARIABLE, program.VARIABLE)}
+        for patch in (mock.patch.dict(os.environ, variables, clear=True),
+                      mock.patch.object(program, "INSIDE", "/no/such/package"),
+                      mock.patch.object(program, "CRATE", "/no/such/crate")):
+            patch.start()
+            self.addCleanup(patch.stop)
+
+    def is_here(self, *arguments, **options):
+        with vx.Server(*arguments, **options) as server, server.context() as context:
+            self.assertEqual(context.image_from([[1]]).read().tolist(), [[1]])
+            self.assertEqual("in this process" in repr(server), server._process is None)
+            return server._process is None
+
+    def test_the_library_is_used_where_it_is_found(self):
+        os.environ[core.VARIABLE] = PATH
+        self.assertTrue(self.is_here())
+        self.assertTrue(self.is_here(process=False))
+        del os.environ[core.VARIABLE]
+        with mock.patch.object(program, "cores", return_value=[PATH]):
+            self.assertTrue(self.is_here(quota=100, work=100))
+
+    @unittest.skipUnless(PROGRAM, "FEQYLDAN_PROGRAM isn't set")
+    def test_a_program_wins(self):
+        os.environ[core.VARIABLE] = PATH
+        self.assertFalse(self.is_here(PROGRAM))
+        self.assertFalse(self.is_here(PROGRAM, timeout=60))
+        os.environ[program.VARIABLE] = PROGRAM
+        self.assertFalse(self.is_here())
+        self.assertFalse(self.is_here(process=True))
+        self.assertFalse(self.is_here(timeout=60))
+        self.assertTrue(self.is_here(process=False))
+
+    def test_what_is_refused(self):
+        with self.assertRaisesRegex(vx.ProgramNotFound, "FEQYLDAN_CORE isn't set"):
+            vx.Server(process=False)
+        with self.assertRaisesRegex(ValueError, "a program can't run in this process"):
+            vx.Server("/usr/bin/vx_main", process=False)
+        os.environ[core.VARIABLE] = PATH
+        with self.assertRaisesRegex(ValueError, "timeout=5 can't be kept.*process=False"):
+            vx.Server(process=False, timeout=5)
+        os.environ[core.VARIABLE] = "/no/such/library"
+        with self.assertRaisesRegex(vx.ProgramNotFound, "FEQYLDAN_CORE is /no/such/library"):
+            vx.Server()
+        os.environ[core.VARIABLE] = __file__
+        with self.assertRaisesRegex(vx.ProgramNotFound, "isn't the server's library"):
+            vx.Server()
+
+    def test_the_kind_for_the_processor(self):
+        with tempfile.TemporaryDirectory() as folder:
+            for name in (program.FASTER_CORE, program.PLAIN_CORE):
+                with open(os.path.join(folder, name), "wb"):
+                    pass
+            with mock.patch.object(program, "INSIDE", folder):
+                plain, all_flags = program.PLAIN_FLAGS, program.PLAIN_FLAGS | program.FASTER_FLAGS
+                for flags, wanted in ((all_flags, program.FASTER_CORE), (plain, program.PLAIN_CORE),
+                                      (set(), None)):
+                    with mock.patch.object(program, "_flags", return_value=flags):
+                        found = core.find()
+                    self.assertEqual(found and os.path.basename(found), wanted)
+
+
+class CoreTest(unittest.TestCase):
+    limits = {}
+
+    def setUp(self):
+        with mock.patch.dict(os.environ, {core.VARIABLE: PATH}):
+            self.server = vx.Server(process=False, **self.limits)
+        self.addCleanup(self.server.close)
+        self.context = self.server.context()
+
+
+@needs_core
+class TestCalls(CoreTest):
+    def test_memory_of_all_kinds(self):
+        """Samples are read from where they are, and a result belongs to the caller."""
+        rows = [[1, 2, 3], [4, 5, 6]]
+        for given in (rows, bytes(range(1, 7)), bytearray(range(1, 7)),
+                      memoryview(bytes(range(1, 7)))):
+            image = self.context.image(vx.U8, 3, 2)
+            image.write(given)
+            self.assertEqual(image.read().tolist(), rows)
+        for fmt, least in ((vx.S16, -32768), (vx.U32, 2**32 - 1)):
+            image = self.context.image_from([[least, 1]], fmt)
+            self.assertEqual(image.read().tolist(), [[least, 1]])
+        if samples.numpy_module() is not None:
+            self.arrays(samples.numpy_module())
+
+    def arrays(self, numpy):
+        picture = numpy.arange(60000, dtype=numpy.uint8).reshape(200, 300)
+        fixed = picture.copy()
+        fixed.setflags(write=False)
+        for given in (picture, fixed, picture[::2, ::3]):
+            image = self.context.image_from(given)
+            self.assertTrue((image.read() == given).all())
+            place = numpy.zeros(given.shape, numpy.uint8)
+            self.assertIs(image.read(place), place)
+            self.assertTrue((place == given).all())
+        mine = image.read()
+        mine[:] = 0
+        self.assertTrue((image.read() == picture[::2, ::3]).all())
+
+    def test_refusals_and_the_end(self):
+        with self.assertRaises(vx.InvalidDimension):
+            self.context.image(vx.U8, 2, 2).write([[1]])
+        self.server.close()
+        self.server.close()
+        self.assertTrue(self.server.closed and self.context.closed)
+        self.assertRaises(vx.Closed, self.context.graph)
+        self.assertRaises(vx.Closed, self.server.context)
+
+    def test_threads(self):
+        """Each thread has a context of its own on one server."""
+        wrong = []
+
+        def loop(shade):
+            with self.server.context() as context:
+                one = Loop(context, 64, 64, shade % 2 == 0)
+                for _ in range(200):
+                    one.one(bytes([shade]) * 64 * 64)
+
+        def guarded(shade):
+            try:
+                loop(shade)
+            except BaseException as error:
+                wrong.append(error)
+
+        threads = [threading.Thread(target=guarded, args=(shade,)) for shade in range(8)]
+        for thread in threads:
+            thread.start()
+        for thread in threads:
+            thread.join()
+        self.assertEqual(wrong, [])
+
+    def test_a_reply_of_another_size(self):
+        """The server's state is unchanged, and nothing is written past the memory."""
+        connection = opened()
+        image = Request("image", 7, wire.CREATE_IMAGE)
+        connection.ask(image, [wire.create_image(7, vx.U8, 100, 100)])
+        with self.assertRaisesRegex(vx.UnexpectedReply, "10,013 bytes, more than 58"):
+            connection.ask(Request("read", 7, wire.READ_IMAGE, body=Body(50)),
+                           [wire.read_image(7, wire.name_of(image.reply))])
+        self.assertRaises(vx.UnexpectedReply, connection.wait)
+        connection.close()
+
+    def test_bytes_that_are_no_frame(self):
+        connection = opened()
+        with self.assertRaisesRegex(vx.FeqyldanError, "takes no frame of 3 and 0 bytes"):
+            connection.ask(Request("wrong", 7, 1), [b"abc"])
+        connection.close()
+
+    def test_servers_that_python_forgets(self):
+        """Their memory is given back."""
+        def megabytes():
+            with open("/proc/self/status", encoding="utf-8") as file:
+                return next(int(line.split()[1]) for line in file if line[:6] == "VmRSS:") / 1024
+
+        before = megabytes()
+        with mock.patch.dict(os.environ, {core.VARIABLE: PATH}):
+            for _ in range(40):
+                server = vx.Server(process=False)
+                server.context().image(vx.U8, 2000, 2000).fill(1)
+                del server
+                gc.collect()
+        self.assertLess(megabytes() - before, 60)
+
+
+@needs_core
+class TestInterruptions(CoreTest):
+    def test_at_each_line(self):
+        """No reply is lost: what was made is released, and the context goes on."""
+        def work():
+            image = self.context.image_from([[1, 2]])
+            other = self.context.image_like(image)
+            self.context.vxu.not_(image, other)
+            return other.read().tolist()
+
+        number, files = 1, ("direct.py", "connection.py")
+        while Everywhere(number, files).interrupts(work):
+            self.assertEqual(work(), [[254, 253]])
+            self.assertEqual(self.context.usage().objects, 0)
+            number += 1
+        self.assertGreater(number, 50)
+
+    def test_a_call_ends_first(self):
+        """Ctrl-C interrupts when the server has answered, and the result is there."""
+        image = self.context.image(vx.U8, 4096, 4096)
+        graph = self.context.graph()
+        images = [image, *(graph.virtual_image() for _ in range(15)),
+                  self.context.image_like(image)]
+        for one, other in zip(images, images[1:]):
+            graph.median3x3(one, other, border=vx.REPLICATE)
+        graph.verify()
+        with interrupting() as after:
+            after(0.001)
+            self.assertRaises(KeyboardInterrupt, graph.process)
+        self.assertEqual(images[-1].query().valid, (0, 0, 4096, 4096))
+
+    def test_the_start_of_the_thread(self):
+        """A stream's first frame starts it. An interruption is KeyboardInterrupt at every line of
+        Python's own code too, and the connection goes on."""
+        def send(connection):
+            request = Request("image", 7, wire.CREATE_IMAGE)
+            request.is_ahead = True
+            connection.send(request, [wire.create_image(7, vx.U8, 1, 1)])
+            return request
+
+        number, is_interrupted = 1, True
+        while is_interrupted:
+            with contextlib.closing(opened()) as connection:
+                is_interrupted = Everywhere(number, ("direct.py", "threading.py")).interrupts(
+                    send, connection)
+                request = send(connection)
+                self.assertTrue(connection.wait(request, 30))
+                self.assertIsNone(request.error)
+            number += 1
+        self.assertGreater(number, 8)
+
+    def test_a_stream_at_random(self):
+        loop = Loop(self.context, 300, 200, False)
+        with interrupting() as after:
+            for times in range(20):
+                frames = [loop.pictures[number % 3] for number in range(10_000)]
+                with contextlib.suppress(KeyboardInterrupt):
+                    after(0.001 + times / 2000)
+                    for frame, out in loop.graph.stream(frames if times % 2 else iter(frames),
+                                                        loop.part, loop.out):
+                        self.assertEqual(out[0, 0], 255 - frame[0])
+                loop.one(loop.pictures[times % 3])
+
+
+@needs_core
+class TestStreams(CoreTest):
+    def stations(self, count):
+        """Returns stations on servers of their own."""
+        for _ in range(count):
+            with mock.patch.dict(os.environ, {core.VARIABLE: PATH}):
+                server = vx.Server(process=False)
+            self.addCleanup(server.close)
+            context = server.context()
+            part, out = (context.image(vx.U8, 640, 480) for _ in range(2))
+            graph = context.graph()
+            graph.not_(part, out)
+            yield vx.Station(graph, part, out)
+
+    def test_the_order_of_several_servers(self):
+        stations = list(self.stations(3))
+        pictures = [bytes([shade]) * 640 * 480 for shade in range(50)]
+        for frames in (pictures, iter(pictures)):
+            got = [(frame[0], out[0, 0]) for frame, out in vx.stream(frames, stations)]
+            self.assertEqual(got, [(shade, 255 - shade) for shade in range(50)])
+
+    def test_calls_between_the_results(self):
+        """They are answered after what was sent before them."""
+        station, = self.stations(1)
+        pictures = [bytes([shade]) * 640 * 480 for shade in range(20)]
+        for frame, out in station.graph.stream(pictures, station.camera, station.out):
+            with station.graph.context.image_from([[frame[0]]]) as image:
+                self.assertEqual(image.read()[0, 0], frame[0])
+            self.assertLessEqual(station.out.read()[0, 0], out[0, 0])
+
+    def test_servers_work_at_the_same_time(self):
+        """The thread of each server makes its calls: the one that takes frames makes none."""
+        callers = set()
+        stations = list(self.stations(2))
+        for station in stations:
+            own = station.graph.context._connection._core
+            own.serve = noting(own.serve, callers)
+        pictures = [bytes([shade]) * 640 * 480 for shade in range(20)]
+        self.assertEqual(len(list(vx.stream(pictures, stations))), 20)
+        self.assertEqual(len(callers - {threading.get_ident()}), 2)
+        self.assertNotIn(threading.get_ident(), callers)
+
+    def test_the_thread_ends_with_the_server(self):
+        before = set(threading.enumerate())
+        for is_closed in (True, False):
+            with mock.patch.dict(os.environ, {core.VARIABLE: PATH}):
+                server = vx.Server(process=False)
+            context = server.context()
+            loop = Loop(context, 8, 8, False)
+            list(loop.graph.stream(loop.pictures, loop.part, loop.out))
+            own, = set(threading.enumerate()) - before
+            if is_closed:
+                server.close()
+            del server, context, loop
+            gc.collect()
+            own.join(30)
+            self.assertFalse(own.is_alive())
+
+    def test_a_server_that_is_closed_in_a_stream(self):
+        station, = self.stations(1)
+        frames = [bytes(640 * 480)] * 9
+        stream = station.graph.stream(frames, station.camera, station.out)
+        next(stream)
+        station.graph.context.server.close()
+        with self.assertRaises(vx.Closed):
+            list(stream)
+
+
+def noting(serve, callers):
+    """Returns a call that notes its thread."""
+    def call(*arguments):
+        callers.add(threading.get_ident())
+        return serve(*arguments)
+    return call
+
+
+FORK = """
+import os, sys
+import feqyldan as vx
+
+server = vx.Server(process=False)
+context = server.context()
+image = context.image_from([[1, 2]])
+child = os.fork()
+if child == 0:
+    for call in (image.read, context.graph, server.context):
+        try:
+            call()
+            print("called")
+        except vx.Closed as error:
+            print(error)
+    server.close()
+    with vx.Server(process=False) as own, own.context() as other:
+        print(other.image_from([[3]]).read().tolist())
+    # The handle's end in the child doesn't free the parent's server.
+    del server, context, image
+    sys.exit(7)
+print(os.waitpid(child, 0)[1] >> 8, image.read().tolist())
+"""
+LEFT = """
+import feqyldan as vx
+
+server = vx.Server(process=False)
+context = server.context()
+part, out = (context.image(vx.U8, 2000, 2000) for _ in range(2))
+graph = context.graph()
+graph.median3x3(part, out)
+next(graph.stream([bytes(4_000_000)] * 99, part, out))
+print("left")
+"""
+
+
+@needs_core
+class TestPrograms(unittest.TestCase):
+    def test_a_fork(self):
+        status, said = run(FORK)
+        lines = said.splitlines()
+        self.assertEqual(status, 0, said)
+        for line, words in zip(lines, ("read image", "create a graph", "open a context")):
+            self.assertRegex(line, f"^{words}.*before this process was forked")
+        self.assertEqual(lines[3:], ["[[3]]", "7 [[1, 2]]"])
+
+    def test_a_program_that_leaves_everything(self):
+        self.assertEqual(run(LEFT), (0, "left\n"))
+
+    def test_memory_that_the_system_refuses(self):
+        """The request is refused, and the context goes on."""
+        status, said = run("""
+import resource
+import feqyldan as vx
+
+with vx.Server(process=False, quota=2**40) as server, server.context() as context:
+    kept = context.image_from([[1, 2]])
+    with open("/proc/self/statm") as file:
+        limit = int(file.read().split()[0]) * resource.getpagesize() + 100_000_000
+    resource.setrlimit(resource.RLIMIT_AS, (limit, limit))
+    images = []
+    try:
+        while len(images) < 60:
+            images.append(context.image(vx.U8, 4096, 4096))
+    except vx.NoMemory as error:
+        print(error.code.name, 0 < len(images), kept.read().tolist())
+    images.pop()
+    context.image(vx.U8, 100, 100)
+""")
+        self.assertEqual((status, said), (0, "NO_MEMORY True [[1, 2]]\n"))
+
+    @unittest.skipUnless(shutil.which("strace"), "strace isn't there")
+    def test_the_first_example_starts_no_program(self):
+        with tempfile.TemporaryDirectory() as folder:
+            trace = os.path.join(folder, "trace")
+            done = subprocess.run(
+                ["strace", "-f", "-e", "trace=execve", "-o", trace, sys.executable,
+                 os.path.join(ROOT, "examples", "first.py")], cwd=folder, timeout=120,
+                env={**os.environ, **VARIABLES}, stderr=subprocess.PIPE, text=True)
+            self.assertEqual((done.returncode, done.stderr), (0, ""))
+            with open(trace, encoding="utf-8") as file:
+                started = [line for line in file if "execve(" in line]
+            self.assertEqual(len(started), 1, started)
+            self.assertTrue(os.path.exists(os.path.join(folder, "outlines.png")))
+
+
+@needs_core
+@needs_program
+class TestBothWays(unittest.TestCase):
+    @unittest.skipUnless(PROGRAM, "FEQYLDAN_PROGRAM isn't set")
+    def test_the_same_bytes(self):
+        """The first example writes the same picture in both ways."""
+        pictures = []
+        for variables in (VARIABLES, {**VARIABLES, "FEQYLDAN_PROGRAM": PROGRAM}):
+            with tempfile.TemporaryDirectory() as folder:
+                subprocess.run([sys.executable, os.path.join(ROOT, "examples", "first.py")],
+                               cwd=folder, check=True, timeout=120, env={**os.environ, **variables})
+                with open(os.path.join(folder, "outlines.png"), "rb") as file:
+                    pictures.append(file.read())
+        self.assertEqual(*pictures)
+
+
+if __name__ == "__main__":
+    unittest.main()

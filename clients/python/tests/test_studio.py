@@ -1,0 +1,447 @@
+"""The studio without a browser: runs of edited graphs, and the graph file."""
+
+import importlib.util
+import io
+import json
+import os
+import random
+import socket
+import stat
+import unittest
+from unittest import mock
+
+from program import PROGRAM, needs_program, of_a_process, vx
+from studio_edits import check_edits
+from test_graph_files import FolderTest
+from feqyldan.__main__ import main
+from feqyldan.functions import FUNCTIONS, parameters_of
+from feqyldan.graph_drafts import outputs_of
+from feqyldan.samples import numpy_module
+from feqyldan.studio.bench import Bench
+from feqyldan.studio.calls import Studio
+from feqyldan.studio.document import Document
+from feqyldan.studio.drafts import Blobs
+from feqyldan.studio.web import Refusal
+from feqyldan.verdicts import TAKEN
+
+WIDTH, HEIGHT = 12, 9
+
+
+def image(**fields):
+    return {"kind": "image", "format": "U8", "width": WIDTH, "height": HEIGHT, **fields}
+
+
+def contents(*nodes, **objects):
+    return {"feqyldan": 1, "objects": {"camera": image(input=True), **objects}, "nodes": [*nodes]}
+
+
+def unpacked(packed):
+    """Returns the head and the parts of a reply, as the page reads them."""
+    content = packed.content()
+    length = int.from_bytes(content[:4], "little")
+    head = json.loads(content[4 : 4 + length])
+    return head, [content[4 + length + at : 4 + length + at + size] for at, size in head["parts"]]
+
+
+class StudioTest(FolderTest):
+    """A folder with three pictures and a graph file."""
+
+    def setUp(self):
+        super().setUp()
+        chance = random.Random(2)
+        self.pictures = [self.path(f"part{number}.pgm") for number in range(3)]
+        self.rows = [[[chance.randrange(256) for _ in range(WIDTH)] for _ in range(HEIGHT)]
+                     for _ in self.pictures]
+        for path, rows in zip(self.pictures, self.rows):
+            vx.write_pgm(path, rows)
+        self.file = self.path("station.json")
+
+    def studio(self, told=None, pictures=None):
+        if told is not None:
+            self.put("station.json", vx.graph_text(told))
+        made = Studio(self.file, self.pictures if pictures is None else pictures)
+        self.addCleanup(made.close)
+        return made.calls
+
+    def bench(self, pictures=None):
+        made = Bench(self.file, self.pictures if pictures is None else pictures, Blobs())
+        self.addCleanup(made.close)
+        return made
+
+
+INVERTING = {"function": "not_", "input": "camera", "output": "out"}
+
+
+@needs_program
+class TestRuns(StudioTest):
+    def test_random_edits(self):
+        seen = check_edits(80)
+        for kind in ("graphs", "graphs with sums or delays", "virtual images", "runs with faults"):
+            self.assertGreater(seen[kind], 0, kind)
+
+    def test_only_nodes_below_a_change_run(self):
+        told = contents(INVERTING, {"function": "threshold", "input": "out", "threshold": "limit",
+                                    "output": "marks"},
+                        out={"kind": "virtual image"}, marks=image(),
+                        limit={"kind": "threshold", "format": "U8", "above": 9})
+        bench = self.bench()
+        bench.run(told, 0)
+        ran, run = [], vx.Vxu._run
+        with mock.patch.object(vx.Vxu, "_run", autospec=True, side_effect=lambda vxu, call: (
+                ran.append(call.name), run(vxu, call))):
+            bench.run(told, 0)
+            self.assertEqual(ran, [])
+            told["objects"]["limit"]["above"] = 99
+            outcome = bench.run(told, 0)
+            self.assertEqual(ran, ["threshold"])
+            bench.run(told, 1)
+            self.assertEqual(ran, ["threshold", "not_", "threshold"])
+        self.assertEqual(outcome.shown["marks"].samples.tolist(), [
+            [255 * (255 - sample > 99) for sample in row] for row in self.rows[0]])
+
+    def test_a_node_at_fault_and_the_rest(self):
+        told = contents(INVERTING, {"function": "not_", "input": "deep", "output": "bad"},
+                        {"function": "not_", "input": "bad", "output": "late"},
+                        out={"kind": "virtual image"}, bad=image(), late=image(),
+                        deep=image(format="S16"))
+        outcome = self.bench().run(told, 0)
+        self.assertEqual([(fault.node, fault.code) for fault in outcome.faults],
+                         [(2, "INVALID_FORMAT")])
+        self.assertEqual({at: str(place) for at, place in outcome.waiting.items()}, {3: "node 2"})
+        self.assertEqual(set(outcome.shown), {"camera", "out", "deep"})
+        self.assertEqual(outcome.shown["out"].samples.tolist(),
+                         [[255 - sample for sample in row] for row in self.rows[0]])
+
+    def test_a_picture_of_another_size(self):
+        other = self.path("other.pgm")
+        vx.write_pgm(other, [[1, 2], [3, 4]])
+        told = contents(INVERTING, out=image())
+        bench = self.bench([*self.pictures, other])
+        fault, = bench.run(told, 3).faults
+        self.assertEqual((fault.object, fault.code), ("camera", "INVALID_DIMENSION"))
+        self.assertIn("(2, 2)", fault.words)
+        self.assertEqual(bench.run(told, 1).faults, [])
+        # A graph with sums runs on all pictures before.
+        told = contents({"function": "accumulate", "input": "camera", "accum": "sums"},
+                        sums=image(format="S16"))
+        bench = self.bench([other, *self.pictures])
+        fault, = bench.run(told, 2).faults
+        self.assertIn("other.pgm", fault.words)
+
+    def test_sums_and_delays(self):
+        told = contents({"function": "accumulate", "input": "camera", "accum": "sums"},
+                        {"function": "max", "in1": "camera", "in2": "camera",
+                         "output": "old[0]"},
+                        {"function": "absdiff", "in1": "camera", "in2": "old[-1]",
+                         "output": "moved"},
+                        sums=image(format="S16"), moved={"kind": "virtual image"},
+                        old=image(kind="delay", slots=2, ages=True))
+        bench = self.bench()
+        for at in (2, 0, 1, 1):
+            shown = bench.run(told, at).shown
+            self.assertEqual(shown["sums"].samples.tolist(), [
+                [sum(rows[y][x] for rows in self.rows[: at + 1]) for x in range(WIDTH)]
+                for y in range(HEIGHT)])
+            before = self.rows[at - 1] if at else [[0] * WIDTH] * HEIGHT
+            self.assertEqual(shown["old[-1]"].samples.tolist(), before)
+            self.assertEqual(shown["old[0]"].samples.tolist(), self.rows[at])
+            self.assertEqual(shown["moved"].samples.tolist(), [
+                [abs(now - then) for now, then in zip(*rows)]
+                for rows in zip(self.rows[at], before)])
+
+    def test_objects_of_earlier_runs_make_room(self):
+        """Pictures that need more than half the quota, of ever other sizes."""
+        with mock.patch("feqyldan.studio.bench.QUOTA", 2**21):
+            bench = self.bench([])
+            for width in range(900, 1000, 9):
+                big = {"kind": "image", "format": "U8", "width": width, "height": 1000}
+                told = contents(INVERTING, camera=big, out={**big})
+                outcome = bench.run(told, 0)
+                self.assertEqual((outcome.faults, set(outcome.shown)), ([], {"camera", "out"}))
+            big["width"] = 3000
+            faults = bench.run(contents(INVERTING, camera=big, out={**big}), 0).faults
+            self.assertEqual([(fault.object, fault.code) for fault in faults],
+                             [("camera", "NO_RESOURCES"), ("out", "NO_RESOURCES")])
+
+    @unittest.skipUnless(importlib.util.find_spec("cv2") and numpy_module(), "no OpenCV")
+    def test_pictures_of_other_formats(self):
+        import cv2
+        numpy = numpy_module()
+        paths = [self.path(f"a.{kind}") for kind in ("png", "tif", "npy")]
+        wide = numpy.array(self.rows[0], numpy.uint16) * 100
+        for path in paths[:2]:
+            cv2.imwrite(path, wide)
+        numpy.save(paths[2], wide.astype(numpy.int16))
+        for path in paths:
+            told = Document(self.file, [path], Blobs()).contents
+            self.assertEqual(told["objects"]["camera"]["format"], "S16")
+            shown = self.bench([path]).run(told, 0).shown["camera"]
+            self.assertEqual(shown.samples.tolist(), wide.tolist())
+
+    def test_an_image_that_was_written_is_black_again(self):
+        bench, told = self.bench(), contents(INVERTING, out=image())
+        self.assertTrue(any(map(any, bench.run(told, 0).shown["out"].samples.tolist())))
+        told["nodes"] = []
+        self.assertEqual(bench.run(told, 0).shown["out"].samples.tolist(),
+                         [[0] * WIDTH] * HEIGHT)
+
+    @of_a_process
+    def test_a_server_that_ended(self):
+        calls, told = self.studio(), contents(INVERTING, out=image())
+        calls["run"]({"contents": told, "at": 0})
+        bench = calls["run"].__self__._chosen
+        bench._context.server._process.kill()
+        with self.assertRaisesRegex(Refusal, "The next change starts another server") as caught:
+            calls["run"]({"contents": told, "at": 1})
+        self.assertEqual(caught.exception.status, 503)
+        head, _ = unpacked(calls["run"]({"contents": told, "at": 1}))
+        self.assertEqual((head["faults"], set(head["shown"])), ([], {"camera", "out"}))
+
+    @unittest.skipUnless(numpy_module() and any(map(importlib.util.find_spec, ("cv2", "PIL"))),
+                         "NumPy, and OpenCV or PIL, aren't installed")
+    def test_each_function_by_run(self):
+        """A saved file gives the shown images byte for byte: every function, border and policy."""
+        for function in FUNCTIONS:
+            for told in variants(function):
+                with self.subTest(function, nodes=told["nodes"]):
+                    self.compare_with_run(told)
+
+    def compare_with_run(self, told):
+        calls = self.studio(told)
+        head, _ = unpacked(calls["run"]({"contents": told, "at": 2}))
+        self.assertEqual(head["faults"], [])
+        calls["save"]({"contents": told})
+        self.assertEqual(main(["run", self.file, "--in", *self.pictures, "--out",
+                               self.path("out"), "--csv", self.path("out.csv"), "--quiet"]), 0)
+        shown = calls["run"].__self__._chosen.shown
+        for name in {name for node in told["nodes"] for name in outputs_of(node).values()}:
+            self.assertEqual(self.result(name, told), self.numbers_of(shown[name]), name)
+        calls["run"].__self__.close()
+
+    def numbers_of(self, one):
+        if one.kind == "image":
+            return one.samples.tolist()
+        if one.kind == "distribution":
+            return one.about["counts"]
+        about = one.about
+        return [about["min"], about["max"], about["min_count"], about["max_count"],
+                *about["min_at"], *about["max_at"]]
+
+    def result(self, name, told):
+        """Returns what `run` has written of an object for the last picture."""
+        images = [key for node in told["nodes"] for key in outputs_of(node).values()
+                  if told["objects"][key]["kind"] == "image"]
+        if name not in images:
+            with open(self.path("out.csv"), encoding="utf-8") as file:
+                heads, *lines = [line.strip().split(",") for line in file]
+            return [int(value) for head, value in zip(heads, lines[-1])
+                    if head.startswith(f"{name}.")]
+        stem = self.path(os.path.join("out", f"part2.{name}" if len(images) > 1 else "part2"))
+        with vx.Server(PROGRAM) as server, server.context() as context:
+            path = next(stem + end for end in (".npy", ".png") if os.path.exists(stem + end))
+            rows = context.load(path).read().tolist()
+            for end in (".npy", ".png"):
+                if os.path.exists(stem + end):
+                    os.unlink(stem + end)
+        return rows
+
+
+# The arguments of a function's node, and the objects that they name.
+ARGUMENTS = {"input": "camera", "in1": "camera", "in2": "good", "threshold": "limit",
+             "lut": "table", "convolution": "kernel", "shift": 3, "distribution": "counts",
+             "extremes": "found", "accum": "sums", "output": "out", "output_x": "across",
+             "output_y": "down"}
+OBJECTS = {"good": {"kind": "image", "file": "part1.pgm"},
+           "limit": {"kind": "threshold", "format": "U8", "above": 99},
+           "table": {"kind": "lookup table", "format": "U8", "entries": [*range(255, -1, -1)]},
+           "kernel": {"kind": "convolution", "rows": [[0, 1, 0], [1, -5, 2], [0, 1, 0]]},
+           "counts": {"kind": "distribution", "bins": 5}, "found": {"kind": "extremes"},
+           "sums": image(format="S16"), "across": image(format="S16"), "down": image(format="S16")}
+
+
+def variants(function):
+    """Yields graph files with a node of a function, for each policy and border that it takes."""
+    parameters = parameters_of(function)
+    output = next(str(formats[2]) for formats in sorted(TAKEN[function], key=str)
+                  if formats[0] == vx.U8 and formats[1] in (None, vx.U8))
+    node = {"function": function, **{key: ARGUMENTS[key] for key in parameters
+                                     if key in ARGUMENTS}}
+    names = {"camera", *node.values()}
+    objects = {name: told for name, told in {**OBJECTS, "out": image(format=output)}.items()
+               if name in names}
+    for policy in ["WRAP", "SATURATE"] if "policy" in parameters else [None]:
+        for border in ["UNDEFINED", "REPLICATE", 9] if "border" in parameters else [None]:
+            values = {"policy": policy, "border": border}
+            yield contents({**node, **{key: value for key, value in values.items()
+                                       if value is not None}}, **objects)
+
+
+class TestCommand(StudioTest):
+    """What `python3 -m feqyldan studio` refuses before it serves the page."""
+
+    def refuses(self, words, *arguments):
+        with mock.patch("sys.stderr", new_callable=io.StringIO) as said:
+            try:
+                status = main(["studio", "--no-browser", *arguments])
+            except SystemExit as end:
+                status = end.code
+        self.assertNotEqual(status, 0)
+        self.assertRegex(said.getvalue(), words)
+
+    def test_arguments(self):
+        os.mkdir(self.path("empty"))
+        self.put("data.json", "{}")
+        for words, arguments in (
+                ("a port must be from 0 to 65535, not 70000", ["--port", "70000"]),
+                ("empty has no picture", [self.file, self.path("empty")]),
+                ("no file matches .*none.png", [self.file, self.path("none.png")]),
+                ("this isn't a graph file", [self.path("data.json")])):
+            self.refuses(words, *arguments)
+
+    def test_a_port_in_use(self):
+        with socket.create_server(("127.0.0.1", 0)) as other:
+            port = other.getsockname()[1]
+            self.refuses(f"port {port} at 127.0.0.1: .*: give another one by --port",
+                         "--port", str(port), self.file)
+
+    def test_the_default_file(self):
+        """The first word is the graph file only if it ends so."""
+        with mock.patch("feqyldan.studio.serve") as serve:
+            for arguments, wanted in (
+                    ([], ("station.json", [])), ([self.folder], ("station.json", self.pictures)),
+                    (["a.json", self.pictures[1]], ("a.json", self.pictures[1:2])),
+                    ([self.path("part?.pgm")], ("station.json", self.pictures))):
+                self.assertEqual(main(["studio", *arguments]), 0)
+                self.assertEqual(serve.call_args[0], (*wanted, 0, True))
+
+
+@needs_program
+class TestFile(StudioTest):
+    def text(self, name="station.json"):
+        with open(self.path(name), "rb") as file:
+            return file.read()
+
+    def refused(self, status, call, words, **told):
+        with self.assertRaisesRegex(Refusal, words) as caught:
+            call(told)
+        self.assertEqual(caught.exception.status, status)
+
+    def test_a_new_file(self):
+        calls = self.studio()
+        about = calls["about"]({})
+        self.assertEqual(about["contents"], contents())
+        self.assertEqual((about["name"], calls["graphs"]({})), ("station.json", []))
+        self.assertFalse(os.path.exists(self.file))
+        told = contents(INVERTING, out=image())
+        reply = calls["save"]({"contents": told})
+        self.assertEqual((reply["fault"], calls["graphs"]({})), ("", ["station.json"]))
+        self.assertEqual(self.text().decode(), vx.graph_text(told))
+        self.assertEqual(stat.S_IMODE(os.stat(self.file).st_mode), 0o644)
+
+    def test_what_run_refuses(self):
+        reply = self.studio()["save"]({"contents": contents()})
+        self.assertIn("it can't be an input: no node reads it", reply["fault"])
+
+    def test_the_same_contents_keep_the_bytes(self):
+        told = contents(INVERTING, out=image())
+        text = json.dumps(told, indent=4).encode() + b"\n\n"
+        with open(self.file, "wb") as file:
+            file.write(text)
+        os.chmod(self.file, 0o640)
+        calls = self.studio()
+        calls["save"]({"contents": told})
+        self.assertEqual(self.text(), text)
+        self.assertEqual(stat.S_IMODE(os.stat(self.file).st_mode), 0o640)
+        changed = contents(INVERTING, out=image(), more=image())
+        calls["save"]({"contents": changed})
+        self.assertEqual(self.text().decode(), vx.graph_text(changed))
+
+    def test_a_file_that_another_program_changed(self):
+        told = contents(INVERTING, out=image())
+        calls = self.studio(told)
+        for change in (lambda: self.put("station.json", "{}"), lambda: os.unlink(self.file)):
+            change()
+            self.refused(409, calls["save"], "changed by another program", contents=told)
+            calls["save"]({"contents": told, "sure": True})
+            self.assertEqual(self.text().decode(), vx.graph_text(told))
+
+    def test_another_name(self):
+        told, calls = contents(INVERTING, out=image()), self.studio()
+        self.put("other.json", vx.graph_text(contents()))
+        self.put("data.json", "{}")
+        for name in ("../a.json", "/tmp/a.json", "a.txt", ".a.json", "", "sub/a.json", "data.json"):
+            if name:
+                self.refused(403, calls["save"], "", contents=told, name=name)
+        self.refused(409, calls["save"], "other.json exists already", contents=told,
+                     name="other.json")
+        self.assertEqual(calls["save"]({"contents": told, "name": "new.json"})["name"], "new.json")
+        self.assertEqual(self.text("new.json").decode(), vx.graph_text(told))
+        self.assertEqual(self.text("data.json"), b"{}")
+        self.assertFalse(os.path.exists(self.file))
+
+    def test_open(self):
+        calls = self.studio(contents())
+        self.put("other.json", vx.graph_text(contents(INVERTING, out=image())))
+        self.put("data.json", "{}")
+        self.assertEqual(calls["graphs"]({}), ["other.json", "station.json"])
+        for name in ("data.json", "../other.json", "part0.pgm", os.path.abspath(self.file)):
+            self.refused(403, calls["open"], "none of the graph files", name=name)
+        reply = calls["open"]({"name": "other.json"})
+        self.assertEqual(reply["contents"]["nodes"], [INVERTING])
+        self.assertEqual(calls["about"]({})["name"], "other.json")
+
+    def test_a_file_that_the_page_cannot_show(self):
+        for told, words in (({"a": 7}, 'object "a": an object must be a JSON object'),
+                            ({}, "node 1: a node must be a JSON object")):
+            self.put("station.json", {"feqyldan": 1, "objects": told, "nodes": [None]})
+            with self.assertRaisesRegex(vx.GraphFileError, words):
+                self.studio()
+
+    def test_only_the_studios_pictures(self):
+        secret = self.path("secret.pgm")
+        vx.write_pgm(secret, [[1, 2]])
+        for file in ("secret.pgm", secret, "/etc/passwd", "../part0.pgm", "./part0.pgm"):
+            told = contents(stolen={"kind": "image", "file": file})
+            for name in ("run", "save", "strip"):
+                self.refused(403, self.studio()[name], "none of the studio's picture files",
+                             contents=told, at=0, name="stolen")
+        told = contents(mine={"kind": "image", "file": "part0.pgm"})
+        head, _ = unpacked(self.studio()["run"]({"contents": told, "at": 0}))
+        self.assertIn("mine", head["shown"])
+        # A picture that the file names is one of the studio's.
+        self.studio(contents(mine={"kind": "image", "file": "secret.pgm"}))["run"](
+            {"contents": contents(mine={"kind": "image", "file": "secret.pgm"}), "at": 0})
+
+    def test_long_fields_stay_in_python(self):
+        table = {"kind": "lookup table", "format": "S16", "entries": [7] * 65536}
+        told = contents({"function": "table_lookup", "input": "deep", "lut": "table",
+                         "output": "out"}, table=table, deep=image(format="S16"),
+                        out=image(format="S16"))
+        calls = self.studio(told)
+        light = calls["about"]({})["contents"]
+        self.assertLess(len(json.dumps(light)), 2000)
+        head, _ = unpacked(calls["run"]({"contents": light, "at": 0}))
+        self.assertEqual(head["faults"], [])
+        light["nodes"].append(INVERTING)
+        light["objects"]["out2"] = image()
+        calls["save"]({"contents": light})
+        self.assertEqual(json.loads(self.text())["objects"]["table"], table)
+
+    def test_a_full_disk_keeps_the_file(self):
+        told = contents(INVERTING, out=image())
+        calls = self.studio(told)
+        before = self.text()
+        with mock.patch("os.fsync", side_effect=OSError(28, "No space left on device")):
+            with self.assertRaises(OSError):
+                calls["save"]({"contents": contents()})
+        self.assertEqual(self.text(), before)
+        self.assertEqual([name for name in os.listdir(self.folder) if name.startswith(".")], [])
+
+    def test_pictures_of_another_folder(self):
+        os.mkdir(self.path("graphs"))
+        made = Document(self.path("graphs/a.json"), self.pictures, Blobs())
+        self.assertEqual(made.files, [f"../part{number}.pgm" for number in range(3)])
+
+
+if __name__ == "__main__":
+    unittest.main()

@@ -1,0 +1,649 @@
+"""The studio's page in headless Chromium: the whole loop by mouse and by keyboard, faults, files,
+accessibility, and pages that attack it."""
+
+import http.server
+import json
+import os
+import random
+import signal
+import subprocess
+import sys
+import threading
+import unittest
+
+from program import PROGRAM, TOOLS, of_a_process, vx
+from studio_browser import ABSENT, CONTROL, Page, StudioProcess, browser, set_theme
+from test_graph_files import FolderTest
+from feqyldan.storage import read_bytes
+
+WIDTH, HEIGHT = 160, 90
+PICTURES = "part0.pgm", "part1.pgm", "part2.pgm", "part3.pgm", "good.pgm"
+ENTER, ESCAPE, TAB, DELETE = "\ue007", "\ue00c", "\ue004", "\ue017"
+LEFT, UP, RIGHT, DOWN, PAGE_UP, PAGE_DOWN = (
+    "\ue012", "\ue013", "\ue014", "\ue015", "\ue00e", "\ue00f")
+HOME = "\ue011"
+
+
+def image(**fields):
+    return {"kind": "image", "format": "U8", "width": WIDTH, "height": HEIGHT, **fields}
+
+
+def part(seed, has_scratch):
+    """Returns rows of a grey part, with dust and maybe a scratch."""
+    chance = random.Random(seed)
+    rows = [[100 + (x * 7 + y * 3) % 9 for x in range(WIDTH)] for y in range(HEIGHT)]
+    for _ in range(12 if seed else 0):
+        rows[chance.randrange(HEIGHT)][chance.randrange(WIDTH)] += 40
+    for step in range(30 if has_scratch else 0):
+        for side in range(6):
+            rows[20 + step][50 + step // 2 + side] += 60
+    return rows
+
+
+def setUpModule():
+    if ABSENT:
+        words = f"the studio's page isn't tested: {', '.join(ABSENT)} isn't installed"
+        print(words, file=sys.stderr)
+        raise unittest.SkipTest(words)
+    PageTest.driver = browser()
+    unittest.addModuleCleanup(PageTest.driver.quit)
+
+
+class PageTest(FolderTest):
+    """A studio with four parts and a good one, in a browser that all tests share."""
+
+    driver = None
+
+    def setUp(self):
+        super().setUp()
+        for number in range(4):
+            vx.write_pgm(self.path(f"part{number}.pgm"), part(number + 1, number % 2 == 1))
+        vx.write_pgm(self.path("good.pgm"), part(0, False))
+
+    def start(self, told=None, pictures=PICTURES):
+        if told is not None:
+            self.put("station.json", vx.graph_text(told))
+        self.studio = StudioProcess(self.folder, "station.json", *pictures)
+        self.addCleanup(self.studio.end)
+        # A page with unsaved changes asks before it is left.
+        self.addCleanup(PageTest.driver.get, "about:blank")
+        self.addCleanup(PageTest.driver.execute_script, "window.studio?.model.markSaved()")
+        self.page = Page(PageTest.driver, self.studio.address)
+        return self.page
+
+    def tearDown(self):
+        if hasattr(self, "page"):
+            logs = self.page.logs()
+            self.assertEqual([line for line in logs if "Content Security" in line], [])
+
+    def saved(self, name="station.json"):
+        with open(self.path(name), encoding="utf-8") as file:
+            return json.load(file)
+
+    def has_fault(self, code, *positions):
+        """Checks that these nodes alone are at fault, with the code on their red cards."""
+        page = self.page
+        self.assertEqual({(fault["node"], fault["code"]) for fault in page.faults},
+                         {(position, code) for position in positions})
+        self.assertEqual(page.count(".card.fault"), len(positions))
+        self.assertIn(code, page.find(".card.fault").text)
+        self.assertIn(code, page.find("#problems").text)
+
+
+SCRATCHES = {"feqyldan": 1, "objects": {
+    "camera": image(input=True), "good": {"kind": "image", "file": "good.pgm"},
+    "difference": {"kind": "virtual image"}, "core": {"kind": "virtual image"},
+    "limit": {"kind": "threshold", "format": "U8", "above": 24},
+    "over": {"kind": "virtual image"}, "marks": image()},
+    "nodes": [
+        {"function": "absdiff", "in1": "camera", "in2": "good", "output": "difference"},
+        {"function": "threshold", "input": "difference", "threshold": "limit", "output": "over"},
+        {"function": "erode3x3", "input": "over", "output": "core", "border": "REPLICATE"},
+        {"function": "dilate3x3", "input": "core", "output": "marks", "border": "REPLICATE"}]}
+
+
+class TestPage(PageTest):
+    def test_the_loop_by_mouse(self):
+        page = self.start()
+        self.assertEqual(page.functions, [])
+        page.add("picture")
+        page.run("studio.edit(() => { studio.model.object(studio.chosen).file = 'good.pgm' })")
+        page.idle()
+        page.choose("camera")
+        for name in ("median3x3", "absdiff", "threshold", "erode3x3", "dilate3x3"):
+            page.add(name)
+        self.assertEqual(page.functions,
+                         ["median3x3", "absdiff", "threshold", "erode3x3", "dilate3x3"])
+        self.assertEqual([page.contents["objects"][name]["kind"]
+                          for name in ("median", "difference", "marks", "dilated")],
+                         ["virtual image"] * 3 + ["image"])
+        # Shift+click inserts a node between an image and its readers.
+        reference = page.contents["nodes"][1]["in2"]
+        page.choose(reference)
+        page.add("median3x3", shift=True)
+        self.assertEqual(page.contents["nodes"][1]["in2"], "median2")
+        self.drag_the_slider()
+        self.drag_a_wire()
+        page.click("#next")
+        page.click("#next")
+        self.assertEqual(page.run("return studio.at"), 2)
+        page.choose("dilated")
+        page.filled()
+        counts = page.run("return [...document.querySelectorAll('#strip button .figures')]"
+                          ".map(one => one.textContent)")
+        self.assertEqual([count == "0" for count in counts], [True, False, True, False, True])
+        page.click("#save")
+        page.until("return document.getElementById('status').textContent === 'Saved station.json'")
+        self.assertEqual(self.saved(), page.contents)
+        self.compare_with_run("dilated")
+
+    def drag_the_slider(self):
+        page = self.page
+        page.choose("marks")
+        undone = page.run("return studio.model.past.length")
+        slider = page.find("#p-limit")
+        page.actions().click_and_hold(slider).move_by_offset(-5, 0).move_by_offset(
+            -9, 0).release().perform()
+        page.idle()
+        self.assertEqual(page.run("return studio.model.past.length"), undone + 1,
+                         "a drag is undone in one step")
+        page.run("document.activeElement.blur()")
+        page.control("z")
+        self.assertEqual(page.contents["objects"]["limit"]["above"], 24)
+        page.control("z", shift=True)
+        self.assertNotEqual(page.contents["objects"]["limit"]["above"], 24)
+        field = page.find("#p-limit-n")
+        field.clear()
+        field.send_keys("30", TAB)
+        page.idle()
+        self.assertEqual(page.contents["objects"]["limit"]["above"], 30)
+
+    def drag_a_wire(self):
+        page = self.page
+        page.actions(40).click_and_hold(page.find('.port[data-from="dilated"]')).move_to_element(
+            page.find('.port[data-node="0"]')).release().perform()
+        page.idle()
+        self.assertEqual(page.contents["nodes"][0]["input"], "dilated")
+        self.assertEqual({fault["code"] for fault in page.faults}, {"INVALID_GRAPH"})
+        page.control("z")
+        self.assertEqual(page.faults, [])
+
+    def compare_with_run(self, name):
+        """The page's samples are those that the saved graph writes."""
+        page = self.page
+        with vx.Server() as server, server.context() as context:
+            file = context.load_graph(self.path("station.json"))
+            for at in range(4):
+                file.inputs["camera"].write(context.read_pgm(self.path(f"part{at}.pgm")).read())
+                file.graph.process()
+                page.run("studio.go(arguments[0])", at)
+                page.idle()
+                page.choose(name)
+                self.assertEqual(page.samples(name), file.outputs[name].read_bytes())
+
+    def test_the_loop_by_keyboard(self):
+        page = self.start()
+        # The filter finds functions and images; Enter adds the first one.
+        page.keys("/", "picture", ENTER)
+        page.find("#p-content").send_keys("good.pgm", ENTER)
+        page.idle()
+        self.assertEqual([told.get("file") for told in page.contents["objects"].values()],
+                         [None, "good.pgm"])
+        page.run("document.activeElement.blur()")
+        for _ in range(4):
+            page.keys(UP)
+        self.assertEqual(page.run("return studio.chosen"), "camera")
+        for wish in ("absd", "thresh", "ero"):
+            page.keys("/", wish, ENTER)
+        self.assertEqual(page.functions, ["absdiff", "threshold", "erode3x3"])
+        page.keys(LEFT)
+        self.assertEqual(page.run("return studio.chosen"), "marks")
+        before = page.contents["objects"]["limit"]["above"]
+        page.keys("]", "]", "}")
+        self.assertEqual(page.contents["objects"]["limit"]["above"], before + 12)
+        page.keys("[")
+        # An input's menu connects, a slider sets, and both are reached by Tab.
+        page.keys(RIGHT)
+        page.find("#p-input").send_keys("difference", ENTER)
+        page.idle()
+        self.assertEqual(page.contents["nodes"][2]["input"], "difference")
+        page.control("z")
+        page.run("document.activeElement.blur()")
+        page.keys(PAGE_DOWN, PAGE_DOWN, PAGE_UP)
+        self.assertEqual(page.run("return studio.at"), 1)
+        page.keys("r")
+        self.assertEqual(page.contents["objects"]["eroded"]["kind"], "virtual image")
+        page.control("z")
+        page.keys("o", "+", "-", "1", "0", "c")
+        self.assertTrue(page.find("#overlay").is_selected())
+        page.keys("/", "med", ENTER)
+        page.keys(DELETE)
+        self.assertEqual(page.functions, ["absdiff", "threshold", "erode3x3"])
+        page.control("s")
+        page.until("return document.getElementById('status').textContent === 'Saved station.json'")
+        self.assertEqual(self.saved(), page.contents)
+
+    def test_the_verdicts(self):
+        """Each code at its node's card, while the rest of the graph runs."""
+        page = self.start(SCRATCHES)
+        edits = (
+            ("INVALID_FORMAT", "studio.model.objects.limit.format = 'S16'", 2),
+            ("INVALID_DIMENSION", "Object.assign(studio.model.objects.marks, {width: 9})", 4),
+            ("INVALID_GRAPH", "studio.model.nodes[0].in2 = 'marks'", 1, 2, 3, 4),
+            ("INVALID_LINK", "studio.model.objects.lost = {kind: 'virtual image'};"
+             "studio.model.nodes[2].input = 'lost'", 3),
+            ("MULTIPLE_WRITERS", "studio.model.nodes[3].output = 'core'", 4))
+        for code, edit, *positions in edits:
+            with self.subTest(code):
+                page.run(f"studio.edit(() => {{ {edit} }})")
+                page.idle()
+                self.has_fault(code, *positions)
+                page.control("z")
+                self.assertEqual(page.faults, [])
+
+    def test_faults_without_a_verdict(self):
+        """A shift and an object that are refused, and several faults together."""
+        page = self.start(SCRATCHES)
+        page.run("""studio.edit(() => {
+            const { objects, nodes } = studio.model
+            objects.limit.above = 300
+            objects.kernel = { kind: 'convolution', rows: [[1, 2], [3, 4]] }
+            objects.shifted = { kind: 'virtual image' }
+            nodes.push({ function: 'convert_depth', input: 'camera', output: 'shifted',
+                         policy: 'WRAP', shift: 8 })
+            nodes.push({ function: 'noth', input: 'camera', output: 'marks' })
+        })""")
+        page.idle()
+        faults = {fault["object"] or fault["node"]: fault for fault in page.faults}
+        self.assertEqual(set(faults), {"limit", "kernel", 5, 6})
+        self.assertEqual([faults[place]["code"] for place in ("limit", "kernel", 5)],
+                         ["INVALID_VALUE", "INVALID_DIMENSION", "INVALID_VALUE"])
+        self.assertEqual(page.count(".card.waiting"), 3)
+        self.assertEqual(page.count("#problems button"), 4)
+        # What isn't at fault has its picture.
+        self.assertIn("difference", page.run("return Object.keys(studio.result.shown)"))
+        page.choose("shifted")
+        self.assertIn("shift", page.find("#panel .fault").text)
+
+    def test_a_graph_that_needs_too_many_bytes(self):
+        told = {"feqyldan": 1, "nodes": [
+            {"function": "not_", "input": "camera", "output": f"v{number}"}
+            for number in range(5)], "objects": {
+                "camera": {**image(input=True), "width": 8192, "height": 8192},
+                **{f"v{number}": {"kind": "virtual image"} for number in range(5)}}}
+        page = self.start(told, pictures=())
+        fault, = page.faults
+        self.assertEqual((fault["code"], fault["object"], fault["node"]), ("NO_RESOURCES", "", 0))
+        self.assertIn("NO_RESOURCES", page.find("#problems").text)
+        self.assertIn("335,544,320 bytes", page.find("#problems").text)
+
+    def test_undo_to_the_start_gives_the_bytes(self):
+        text = json.dumps(SCRATCHES, indent=3) + "\n\n"
+        self.put("station.json", text)
+        page = self.start()
+        page.choose("marks")
+        page.add("median3x3")
+        page.keys("]", "r")
+        page.control("s")
+        page.until("return !studio.model.isModified")
+        while page.run("return studio.model.past.length"):
+            page.control("z")
+        page.control("s")
+        page.until("return !studio.model.isModified")
+        with open(self.path("station.json"), encoding="utf-8") as file:
+            self.assertEqual(file.read(), text)
+
+    def test_files(self):
+        page = self.start(SCRATCHES)
+        self.put("other.json", vx.graph_text({"feqyldan": 1, "nodes": [], "objects": {
+            "camera": image(input=True)}}))
+        page.choose("marks")
+        page.add("median3x3")
+        # Save under another name, which is in use.
+        page.control("s", shift=True)
+        field = page.find("#question-field input")
+        field.clear()
+        field.send_keys("other", ENTER)
+        page.until("return document.getElementById('question-title').textContent === "
+                   "'Replace the file?'")
+        page.keys(ENTER)
+        page.until("return studio.about.name === 'other.json' && !studio.model.isModified")
+        self.assertEqual(self.saved("other.json"), page.contents)
+        self.assertEqual(self.saved(), SCRATCHES)
+        # Another program changes the file: nothing is replaced without a question.
+        self.put("other.json", "changed")
+        page.keys("r")
+        page.control("s")
+        page.until("return document.getElementById('question').open")
+        page.keys(ESCAPE)
+        page.until("return document.getElementById('status').textContent.startsWith('Not saved')")
+        with open(self.path("other.json"), encoding="utf-8") as file:
+            self.assertEqual(file.read(), "changed")
+        page.control("o")
+        page.until("return document.getElementById('question').open")
+        page.keys(ENTER)
+        page.until("return studio.about.name === 'station.json'")
+        page.idle()
+        self.assertEqual(page.contents, SCRATCHES)
+        self.assertFalse(page.run("return studio.model.isModified"))
+
+    def test_a_delay(self):
+        page = self.start()
+        page.choose("camera")
+        page.add("delay")
+        self.assertEqual(page.run("return studio.chosen"), "delay[-1]")
+        page.choose("camera")
+        page.add("absdiff")
+        page.find("#p-in2").send_keys("delay[-1]", ENTER)
+        page.idle()
+        self.assertEqual(page.faults, [])
+        page.run("studio.go(1)")
+        page.idle()
+        wanted = bytes(abs(now - then) for rows in zip(part(2, True), part(1, False))
+                       for now, then in zip(*rows))
+        self.assertEqual(page.samples("difference"), wanted)
+
+    def test_rename(self):
+        page = self.start(SCRATCHES)
+        page.choose("over")
+        for wish, name in (("bright", "bright"), ("camera", "bright"), ("a/b", "bright")):
+            page.find("#p-name").send_keys(CONTROL, "a", CONTROL, wish, TAB)
+            page.idle()
+            self.assertEqual(page.contents["nodes"][1]["output"], name)
+            self.assertEqual(page.contents["nodes"][2]["input"], name)
+        self.assertEqual(page.run("return studio.chosen"), "bright")
+
+    def test_the_sample_under_the_pointer(self):
+        page = self.start(SCRATCHES)
+        page.choose("difference")
+        x, y = page.run("""const { viewer } = studio, around = viewer.large.getBoundingClientRect()
+            return [around.left + (viewer.x + 60.5 * viewer.scale) / viewer.ratio,
+                    around.top + (viewer.y + 40.5 * viewer.scale) / viewer.ratio]""")
+        actions = page.actions()
+        actions.w3c_actions.pointer_action.move_to_location(int(x), int(y))
+        actions.perform()
+        page.until("return document.getElementById('under').textContent.startsWith('x 60  y 40')")
+        sample = part(1, False)[40][60]
+        page.until(f"return document.querySelector('[data-cell=camera] .value').textContent === "
+                   f"'{sample}'")
+
+    def test_the_limits_in_the_histogram(self):
+        page = self.start(SCRATCHES)
+        page.choose("over")
+        plot = page.find("#panel .plot.limits")
+        page.actions().move_to_element(plot).click_and_hold().move_by_offset(
+            10, 0).release().perform()
+        page.idle()
+        self.assertGreater(page.contents["objects"]["limit"]["above"], 120)
+
+    def test_a_picture_of_another_size(self):
+        vx.write_pgm(self.path("small.pgm"), [[1, 2], [3, 4]])
+        page = self.start(SCRATCHES, ("part0.pgm", "small.pgm"))
+        page.keys(PAGE_DOWN)
+        self.assertEqual([fault["object"] for fault in page.faults], ["camera"])
+        self.assertIn("(2, 2)", page.find("#problems").text)
+        page.keys(PAGE_UP)
+        self.assertEqual(page.faults, [])
+
+    @of_a_process
+    def test_a_server_that_ended(self):
+        page = self.start(SCRATCHES)
+        page.filled()
+        for server in children_of(self.studio.process.pid):
+            os.kill(server, signal.SIGKILL)
+        page.run("studio.edit(() => { studio.model.objects.limit.above = 3 })")
+        page.until("return document.getElementById('status').textContent.includes("
+                   "'The next change starts another server')")
+        page.run("studio.edit(() => { studio.model.objects.limit.above = 4 })")
+        page.idle()
+        self.assertEqual((page.status, page.faults), ("", []))
+
+    def test_a_large_picture(self):
+        """Only the part that is seen comes to the page."""
+        width, height = 3000, 1500
+        with open(self.path("large.pgm"), "wb") as file:
+            file.write(b"P5\n%d %d\n255\n" % (width, height))
+            file.write(bytes(range(250)) * (width * height // 250))
+        page = self.start(pictures=["large.pgm"])
+        part_of = ("const { columns, rows, step } = studio.result.fulls.get('camera');"
+                   "return [columns, rows, step]")
+        columns, rows, step = page.run(part_of)
+        self.assertGreater(step, 1)
+        self.assertLess(columns * rows, 2e6)
+        page.click("#one")
+        page.until("return studio.result.fulls.get('camera').step === 1")
+        columns, rows, step = page.run(part_of)
+        self.assertLess(columns, width)
+        sample = page.run("const full = studio.result.fulls.get('camera');"
+                          "return [full.at(full.x0 + 7, full.y0 + 2), full.x0 + 7]")
+        self.assertEqual(sample[0], sample[1] % 250)
+
+
+def children_of(process):
+    """Returns the processes that the threads of a process have started."""
+    found = []
+    for thread in os.listdir(f"/proc/{process}/task"):
+        with open(f"/proc/{process}/task/{thread}/children", encoding="utf-8") as file:
+            found += map(int, file.read().split())
+    return found
+
+
+# The text of the page whose contrast with its background is too low, in JavaScript.
+LOW_CONTRAST = """
+const channels = colour => {
+  const [r, g, b, a = 1] = colour.match(/[\\d.]+/g).map(Number)
+  return [r, g, b, a]
+}
+const light = ([r, g, b]) => [r, g, b].map(value => {
+  const share = value / 255
+  return share <= 0.03928 ? share / 12.92 : ((share + 0.055) / 1.055) ** 2.4
+}).reduce((sum, value, at) => sum + value * [0.2126, 0.7152, 0.0722][at], 0)
+const over = ([...above], below) => [0, 1, 2].map(
+  at => above[at] * above[3] + below[at] * (1 - above[3])).concat(1)
+const ground = element => {
+  const own = channels(getComputedStyle(element).backgroundColor)
+  if (own[3] === 1) return own
+  return over(own, element.parentElement ? ground(element.parentElement) : [255, 255, 255, 1])
+}
+const found = []
+for (const element of document.body.querySelectorAll('*')) {
+  const hasText = [...element.childNodes].some(
+    node => node.nodeType === 3 && node.textContent.trim())
+  if (!hasText && !element.matches('input, select')) continue
+  if (!element.checkVisibility() || element.matches(':disabled')) continue
+  const below = ground(element)
+  const colour = channels(getComputedStyle(element).color)
+  for (let one = element; one; one = one.parentElement) colour[3] *= getComputedStyle(one).opacity
+  const text = over(colour, below)
+  const [high, low] = [light(text), light(below)].sort((a, b) => b - a)
+  const ratio = (high + 0.05) / (low + 0.05)
+  const words = element.textContent.slice(0, 30)
+  if (ratio < 4.5) found.push(`${element.tagName} ${element.className} "${words}" ${ratio}`)
+}
+return found
+"""
+CONTROLS = {"button", "textbox", "searchbox", "combobox", "checkbox", "slider", "spinbutton",
+            "separator", "radio", "listbox", "option", "MenuListPopup"}
+
+
+class TestAccessibility(PageTest):
+    def states(self):
+        """Shows the page in many states, and yields the name of each."""
+        page = self.start(SCRATCHES)
+        page.filled()
+        for function in ("convolve", "table_lookup", "histogram", "min_max_loc", "sobel3x3",
+                         "multiply", "accumulate"):
+            page.choose("camera")
+            page.add(function)
+            page.filled()
+            yield function
+        page.add("delay")
+        yield "a delay"
+        page.run("studio.edit(() => { studio.model.objects.limit.format = 'S16' })")
+        page.choose("over")
+        yield "faults"
+        page.choose("camera")
+        yield "an input"
+        page.keys("?")
+        yield "the keys"
+        page.actions().send_keys(ESCAPE).perform()
+        page.control("s", shift=True)
+        yield "a question"
+        page.actions().send_keys(ESCAPE).perform()
+
+    def test_contrast(self):
+        page = None
+        for state in self.states():
+            page = self.page
+            for is_dark in (False, True):
+                set_theme(self.driver, is_dark)
+                page.until("return document.documentElement.dataset.theme === "
+                           f"'{'dark' if is_dark else 'light'}'")
+                page.idle()
+                with self.subTest(state, dark=is_dark):
+                    self.assertEqual(page.run(LOW_CONTRAST), [])
+        set_theme(self.driver, False)
+
+    def test_every_control_has_a_name(self):
+        for state in self.states():
+            tree = self.driver.execute_cdp_cmd("Accessibility.getFullAXTree", {})["nodes"]
+            unnamed = [node["role"]["value"] for node in tree if not node.get("ignored")
+                       and node["role"]["value"] in CONTROLS - {"option", "MenuListPopup"}
+                       and not node.get("name", {}).get("value", "").strip()]
+            with self.subTest(state):
+                self.assertEqual(unnamed, [])
+
+    def test_wires_as_text(self):
+        page = self.start(SCRATCHES)
+        words = page.run("return [...document.querySelectorAll('.card')].map(card => "
+                         "card.getAttribute('aria-label'))")
+        self.assertIn("Node 1, absdiff: in1 camera, in2 good; writes difference", words)
+        self.assertIn("Node 3, erode3x3: input over; writes core", words)
+
+    def test_everything_is_reached_by_tab(self):
+        page = self.start(SCRATCHES)
+        page.choose("over")
+        page.filled()
+        page.run("document.activeElement.blur()")
+        reached = set()
+        for _ in range(150):
+            page.actions().send_keys(TAB).perform()
+            reached.add(page.run("const one = document.activeElement;"
+                                 "return one.id || one.dataset.name || one.dataset.cell || ''"))
+        for wanted in ("undo", "open", "save", "save-as", "next", "theme", "help", "filter",
+                       "median3x3", "picture", "delay", "splitter", "fit", "one", "overlay",
+                       "contrast", "large", "p-input", "p-limit", "p-limit-n", "p-format",
+                       "p-true", "p-name", "p-result", "over", "marks"):
+            if not page.run("return document.getElementById(arguments[0])?.disabled ?? false",
+                            wanted):
+                self.assertIn(wanted, reached)
+
+
+FETCH = """
+const [url, options, done] = arguments
+fetch(url, options).then(reply => reply.text().then(text => done([reply.status, text])),
+                         error => done([-1, String(error)]))
+"""
+
+
+class TestPicture(PageTest):
+    def test_the_documents_picture(self):
+        """tools/studio_picture makes it."""
+        made = self.path("studio.png")
+        subprocess.run([sys.executable, os.path.join(TOOLS, "studio_picture"), made], check=True,
+                       env={**os.environ, "FEQYLDAN_PROGRAM": PROGRAM}, timeout=120)
+        stored = os.path.join(TOOLS, "..", "docs", "pictures", "studio.png")
+        self.assertEqual(read_bytes(made)[:24], read_bytes(stored)[:24], "the sides are the same")
+        self.assertLessEqual(os.path.getsize(stored), 300000)
+        for document in ("README.md", os.path.join("docs", "python.md")):
+            with open(os.path.join(TOOLS, "..", document), encoding="utf-8") as file:
+                self.assertIn("pictures/studio.png", file.read())
+
+
+class TestAttacks(PageTest):
+    """Pages of other origins, in the browser of a user who has the studio open."""
+
+    def setUp(self):
+        super().setUp()
+
+        class Other(http.server.BaseHTTPRequestHandler):
+            def do_GET(self):
+                self.send_response(200)
+                self.send_header("Content-Type", "text/html")
+                self.end_headers()
+                self.wfile.write(b"<!doctype html><title>other</title><body>")
+
+            def log_message(self, *words):
+                pass
+
+        self.other = http.server.HTTPServer(("127.0.0.1", 0), Other)
+        self.addCleanup(self.other.server_close)
+        threading.Thread(target=self.other.serve_forever, daemon=True).start()
+        self.addCleanup(self.other.shutdown)
+        self.start(SCRATCHES)
+
+    def visit_the_other(self):
+        PageTest.driver.execute_script("window.studio.model.markSaved()")
+        PageTest.driver.get(f"http://127.0.0.1:{self.other.server_address[1]}/")
+
+    def fetch(self, path, **options):
+        return PageTest.driver.execute_async_script(
+            FETCH, f"http://127.0.0.1:{self.studio.port}{path}", options)
+
+    def test_another_port(self):
+        self.visit_the_other()
+        headers = {"X-Studio-Token": self.studio.token, "Content-Type": "application/json"}
+        for path, options in (
+                ("/api/about", {"method": "POST", "body": "{}", "headers": headers}),
+                ("/api/about", {"method": "POST", "body": "{}", "mode": "no-cors"}),
+                ("/", {}), ("/main.js", {"mode": "no-cors"})):
+            status, text = self.fetch(path, **options)
+            self.assertIn(status, (-1, 0), (path, options))
+            self.assertNotIn("contents", text)
+
+    def test_a_frame(self):
+        self.visit_the_other()
+        driver = PageTest.driver
+        driver.execute_async_script(
+            "const [address, done] = arguments, frame = document.createElement('iframe');"
+            "frame.onload = () => done(); frame.src = address; document.body.append(frame)",
+            self.studio.address)
+        driver.switch_to.frame(0)
+        self.assertFalse(driver.execute_script("return !!window.studio"))
+        driver.switch_to.default_content()
+        self.assertIn("frame-ancestors 'none'", " ".join(self.page.logs()))
+
+    def test_a_rebound_name(self):
+        driver = PageTest.driver
+        driver.get(f"http://rebound.example:{self.studio.port}/#{self.studio.token}")
+        self.assertIn("the Host isn't this server's", driver.execute_script(
+            "return document.body.innerText"))
+        self.assertFalse(driver.execute_script("return !!window.studio"))
+
+    def test_no_token(self):
+        self.page.run("sessionStorage.clear(); window.studio.model.markSaved()")
+        PageTest.driver.get(f"http://127.0.0.1:{self.studio.port}/")
+        self.page.until("return document.getElementById('status').textContent.includes("
+                        "'the token is wrong')")
+
+    def test_the_token_leaves_the_address(self):
+        self.assertEqual(PageTest.driver.current_url, f"http://127.0.0.1:{self.studio.port}/")
+        PageTest.driver.refresh()
+        self.page.idle()
+
+    def test_no_code_of_others(self):
+        """The policy stops inline code and addresses elsewhere, also if the page had some."""
+        page = self.page
+        page.run("const made = document.createElement('script');"
+                 "made.textContent = 'window.stolen = true'; document.body.append(made)")
+        self.assertFalse(page.run("return !!window.stolen"))
+        status, _ = PageTest.driver.execute_async_script(
+            FETCH, f"http://127.0.0.1:{self.other.server_address[1]}/", {})
+        self.assertEqual(status, -1)
+        logs = " ".join(line for line in page.logs() if "Content Security" in line)
+        self.assertIn("script-src 'self'", logs)
+        self.assertIn("connect-src 'self'", logs)
+
+
+if __name__ == "__main__":
+    unittest.main()

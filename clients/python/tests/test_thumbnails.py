@@ -1,0 +1,114 @@
+"""Thumbnails, with and without NumPy; ranges of parameters."""
+
+import array
+import unittest
+from unittest import mock
+
+from program import ProgramTest, vx
+from feqyldan import samples, thumbnails
+from feqyldan.ranges import SHIFTS, SIDES_OF_CONVOLUTIONS
+from feqyldan.samples import samples_of
+
+numpy = samples.numpy_module()
+
+
+def without_numpy():
+    return mock.patch.object(thumbnails, "numpy_module", return_value=None)
+
+
+def view(rows, letter):
+    flat = [sample for row in rows for sample in row]
+    packed = memoryview(bytearray(len(flat) * {"B": 1, "h": 2, "I": 4}[letter])).cast(letter)
+    packed[:] = memoryview(array.array(letter, flat))
+    return packed.cast("B").cast(letter, (len(rows), len(rows[0])))
+
+
+class TestThumbnails(unittest.TestCase):
+    @unittest.skipUnless(numpy, "NumPy isn't installed")
+    def test_means_and_marks(self):
+        pixels = numpy.zeros((50, 70), numpy.uint8)
+        pixels[49, 69] = pixels[11, 11] = 255
+        marks = vx.thumbnail(pixels, 7, keeps_marks=True)
+        self.assertEqual(marks.shape, (5, 7))
+        self.assertEqual([tuple(map(int, at)) for at in zip(*marks.nonzero())], [(1, 1), (4, 6)])
+        self.assertEqual(int(vx.thumbnail(pixels, 7)[1, 1]), 2)
+        # Sides that aren't multiples of the step: nothing at the edge is lost.
+        pixels = numpy.zeros((11, 13), numpy.uint8)
+        pixels[10, 12] = 9
+        self.assertEqual(vx.thumbnail(pixels, 4, keeps_marks=True).tolist(),
+                         [[0, 0, 0, 0], [0, 0, 0, 0], [0, 0, 0, 9]])
+
+    def test_small_pictures_stay(self):
+        for rows in ([[1, 2], [3, 4]], [[0]]):
+            self.assertEqual(vx.thumbnail(view(rows, "B")).tolist(), rows)
+            with without_numpy():
+                self.assertEqual(vx.thumbnail(view(rows, "B")).tolist(), rows)
+
+    def test_wide_formats_are_scaled(self):
+        for letter, rows in (("h", [[-100, 0], [100, 410]]), ("I", [[0, 100], [200, 510]])):
+            wanted = [[0, 50], [100, 255]]
+            self.assertEqual(vx.thumbnail(view(rows, letter)).tolist(), wanted)
+            with without_numpy():
+                self.assertEqual(vx.thumbnail(view(rows, letter)).tolist(), wanted)
+
+    def test_the_first_sample_without_numpy(self):
+        rows = [[x + 10 * y for x in range(6)] for y in range(4)]
+        with without_numpy():
+            self.assertEqual(vx.thumbnail(view(rows, "B"), 2).tolist(), [[0, 3], [30, 33]])
+
+    def test_both_ways_scale_alike(self):
+        rows = [[-9, 4, 70], [3, 300, -500]]
+        for valid in ((0, 0, 3, 2), (1, 0, 3, 1), (0, 0, 0, 0)):
+            given = samples_of(view(rows, "h"))
+            by_array = thumbnails.greys(given, valid)
+            with without_numpy():
+                self.assertEqual(thumbnails.greys(given, valid), by_array)
+
+
+class TestRanges(ProgramTest):
+    """The server accepts the ends of each range, and nothing outside it."""
+
+    def accepts(self, is_accepted, call):
+        try:
+            call()
+            done = True
+        except (vx.Refused, ValueError):
+            done = False
+        self.assertEqual(done, is_accepted)
+
+    def test_ranges(self):
+        one = self.context.image(vx.U8, 1, 1)
+        deep = self.context.image(vx.S16, 1, 1)
+        vxu, context = self.context.vxu, self.context
+        calls = {
+            "image.width": lambda n: context.image(vx.U8, n, 1).close(),
+            "image.height": lambda n: context.image(vx.U8, 1, n).close(),
+            "delay.slots": lambda n: context.delay(one, n).close(),
+            "threshold.U8": lambda n: context.threshold(vx.U8, above=n).close(),
+            "threshold.S16": lambda n: context.threshold(vx.S16, above=n).close(),
+            "threshold.true_value": lambda n: context.threshold(vx.U8, 1, true_value=n).close(),
+            "threshold.false_value": lambda n: context.threshold(vx.U8, 1, false_value=n).close(),
+            "convolution.coefficient": lambda n: context.convolution([[n] * 3] * 3).close(),
+            "distribution.bins": lambda n: context.distribution(n).close(),
+            "distribution.offset": lambda n: context.distribution(1, n, 1).close(),
+            "distribution.range": lambda n: context.distribution(1, 0, n).close(),
+            "border": lambda n: vxu.box3x3(one, one_like(one), vx.constant(n)),
+            "multiply.shift": lambda n: vxu.multiply(one, one, n, vx.WRAP, deep),
+            "convert_depth.shift": lambda n: vxu.convert_depth(one, deep, vx.WRAP, n),
+            "accumulate_square.shift": lambda n: vxu.accumulate_square(one, n, deep)}
+        self.assertEqual(set(calls), set(vx.PARAMETER_RANGES))
+        self.assertEqual(set(SHIFTS), {key.partition(".")[0] for key in calls if "shift" in key})
+        for name, (least, greatest) in vx.PARAMETER_RANGES.items():
+            for number in (least - 1, least, greatest, greatest + 1):
+                with self.subTest(name, number=number):
+                    self.accepts(least <= number <= greatest, lambda: calls[name](number))
+
+    def test_sides_of_convolutions(self):
+        for side in range(1, 12):
+            with self.subTest(side):
+                self.accepts(side in SIDES_OF_CONVOLUTIONS,
+                             lambda: self.context.convolution([[1] * side] * 3).close())
+
+
+def one_like(image):
+    return image.context.image_like(image)
