@@ -85,3 +85,13 @@ def opencv_times(python, program, *words):
     environment = dict(os.environ, NUMPY_MADVISE_HUGEPAGE="0")
     run = subprocess.run(command, capture_output=True, text=True, check=True, env=environment)
     return json.loads(run.stdout)
+
+
+def built_client(folder):
+    """Builds c_client.c with the C library, and returns its path."""
+    library, path = os.path.join(HERE, "..", "clients", "c"), os.path.join(folder, "c_client")
+    subprocess.run(["make", "-s", "-C", library, "out/libfeqyldan.a"], check=True)
+    subprocess.run(["cc", "-O2", "-pthread", "-I" + os.path.join(library, "include"),
+                    os.path.join(HERE, "c_client.c"),
+                    os.path.join(library, "out", "libfeqyldan.a"), "-ldl", "-o", path], check=True)
+    return path
