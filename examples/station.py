@@ -16,22 +16,22 @@ from __future__ import annotations
 import os
 import sys
 import time
-from typing import Any, List, Tuple
+from typing import List, Tuple
 
 import feqyldan as vx
+from comparison import build
 from folder import folder_told
 
 try:
     import cv2
     import numpy
     import numpy.typing
+    from parts import HEIGHT, WIDTH, Picture, bytes_of, part_of, smaller
 except ImportError:
     print("examples/station.py: OpenCV and NumPy aren't installed, so this example is skipped "
           "(Debian's python3-opencv)")
     sys.exit(0)
 
-Picture = numpy.typing.NDArray[numpy.uint8]
-WIDTH, HEIGHT = 2448, 2048
 # Tolerated shift in pixels, tolerated difference of a sample beyond that, and the smallest defect
 # in pixels.
 TOLERANCE, ABOVE, LEAST = 2, 40, 40
@@ -40,27 +40,7 @@ QUARTER = 4
 RED = (30, 30, 230)
 
 
-def bytes_of(pixels: Any) -> Picture:
-    """Returns an OpenCV result as U8 samples, with a type."""
-    picture: Picture = numpy.asarray(pixels, numpy.uint8)
-    return picture
-
-
 # ---- the pictures, as a camera would take them
-
-def part_of(kind: str) -> Picture:
-    """Draws a clean picture of a part of some kind: a plate with holes, or a ring."""
-    picture = numpy.full((HEIGHT, WIDTH), 60, numpy.uint8)
-    middle = WIDTH // 2, HEIGHT // 2
-    if kind == "plate":
-        cv2.rectangle(picture, (500, 400), (1950, 1650), 160, -1)
-        for column in range(700, 1900, 350):
-            cv2.circle(picture, (column, 1000), 90, 60, -1)
-    else:
-        cv2.circle(picture, middle, 800, 170, -1)
-        cv2.circle(picture, middle, 350, 60, -1)
-    return bytes_of(cv2.GaussianBlur(picture, (0, 0), 2))
-
 
 def photograph(kind: str, seed: int, defects: int) -> Picture:
     """Returns the part shifted by up to 30 pixels, with noise and scratches."""
@@ -80,23 +60,12 @@ def photograph(kind: str, seed: int, defects: int) -> Picture:
 class Recipe:
     """Compares pictures with the reference of one type of part."""
 
-    def __init__(self, context: vx.Context, name: str, reference: Picture) -> None:
-        self._small = smaller(reference)
-        self._part = context.image(vx.U8, WIDTH, HEIGHT, name=f"{name}: part")
-        self._marks = context.image_like(self._part, name=f"{name}: marks")
-        self._extremes = context.min_max(name=f"{name}: extremes")
-        self._graph = graph = context.graph(name=name)
-        low, high = envelope(context, reference)
-        smooth, over, under, worst, mask, opened = (graph.virtual_image(vx.U8) for _ in range(6))
-        graph.median3x3(self._part, smooth, border=vx.REPLICATE)
-        graph.subtract(smooth, high, vx.SATURATE, over)
-        graph.subtract(low, smooth, vx.SATURATE, under)
-        graph.max(over, under, worst)
-        graph.threshold(worst, context.threshold(vx.U8, above=ABOVE), mask)
-        graph.erode3x3(mask, opened, border=vx.REPLICATE)
-        graph.dilate3x3(opened, self._marks, border=vx.REPLICATE)
-        graph.min_max_loc(self._marks, self._extremes)
-        graph.verify()
+    def __init__(self, context: vx.Context, reference: Picture) -> None:
+        self._small = quarter_of(reference)
+        self._graph, self._part, self._marks = build(context, reference, TOLERANCE, ABOVE)
+        self._extremes = context.min_max()
+        self._graph.min_max_loc(self._marks, self._extremes)
+        self._graph.verify()
 
     def inspect(self, picture: Picture) -> Tuple[Picture, List[vx.Region]]:
         """Returns the picture aligned with the reference, and the regions that differ. Raises
@@ -112,30 +81,17 @@ class Recipe:
     def _align(self, picture: Picture) -> Picture:
         if picture.shape != (HEIGHT, WIDTH):
             return picture
-        (across, down), _ = cv2.phaseCorrelate(self._small, smaller(picture))
+        (across, down), _ = cv2.phaseCorrelate(self._small, quarter_of(picture))
         move = numpy.array([[1, 0, -round(QUARTER * across)], [0, 1, -round(QUARTER * down)]],
                            numpy.float32)
         return bytes_of(cv2.warpAffine(picture, move, (WIDTH, HEIGHT),
                                        borderMode=cv2.BORDER_REPLICATE))
 
 
-def smaller(picture: Picture) -> numpy.typing.NDArray[numpy.float32]:
+def quarter_of(picture: Picture) -> numpy.typing.NDArray[numpy.float32]:
     """Returns the picture at a quarter of its width and height, as phaseCorrelate needs it."""
-    small = cv2.resize(picture, None, fx=1 / QUARTER, fy=1 / QUARTER,
-                       interpolation=cv2.INTER_AREA)
-    floats: numpy.typing.NDArray[numpy.float32] = numpy.asarray(small, numpy.float32)
+    floats: numpy.typing.NDArray[numpy.float32] = smaller(picture, QUARTER).astype(numpy.float32)
     return floats
-
-
-def envelope(context: vx.Context, reference: Picture) -> Tuple[vx.Image, vx.Image]:
-    """Returns the minimum and the maximum of the reference within TOLERANCE pixels of each
-    pixel."""
-    low, high = context.image_from(reference), context.image_from(reference)
-    for _ in range(TOLERANCE):
-        for function, image in ((context.vxu.erode3x3, low), (context.vxu.dilate3x3, high)):
-            with image.copy() as before:
-                function(before, image, border=vx.REPLICATE)
-    return low, high
 
 
 def drawn(picture: Picture, found: List[vx.Region]) -> Picture:
@@ -144,16 +100,14 @@ def drawn(picture: Picture, found: List[vx.Region]) -> Picture:
     for region in found:
         x0, y0, x1, y1 = region.around
         cv2.rectangle(coloured, (x0 - 20, y0 - 20), (x1 + 20, y1 + 20), RED, 8)
-    small = cv2.resize(coloured, None, fx=1 / QUARTER, fy=1 / QUARTER,
-                       interpolation=cv2.INTER_AREA)
-    return bytes_of(cv2.cvtColor(small, cv2.COLOR_BGR2RGB))
+    return bytes_of(cv2.cvtColor(smaller(bytes_of(coloured), QUARTER), cv2.COLOR_BGR2RGB))
 
 
 def main() -> None:
     folder = folder_told()
     orders = [("plate", 1, 0), ("ring", 2, 3), ("plate", 3, 2), ("ring", 4, 0)]
     with vx.Server() as server, server.context() as context:
-        recipes = {kind: Recipe(context, kind, part_of(kind)) for kind in ("plate", "ring")}
+        recipes = {kind: Recipe(context, part_of(kind)) for kind in ("plate", "ring")}
         for kind, seed, defects in orders:
             picture = photograph(kind, seed, defects)
             start = time.perf_counter()
