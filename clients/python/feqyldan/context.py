@@ -4,6 +4,7 @@ its own."""
 from __future__ import annotations
 
 import asyncio
+import contextlib
 import struct
 import sys
 import threading
@@ -12,8 +13,8 @@ from collections import deque
 from functools import partial
 from types import TracebackType
 from typing import (
-    TYPE_CHECKING, Any, Callable, Deque, Dict, List, Optional, Sequence, Set, Tuple, Type,
-    TypeVar, Union)
+    TYPE_CHECKING, Any, Callable, Deque, Dict, Iterator, List, Optional, Sequence, Set, Tuple,
+    Type, TypeVar, Union)
 
 from . import wire
 from .connection import GREATEST_REQUEST, Body, Connection, Explain, Part, Request
@@ -182,11 +183,8 @@ class Context(Uncopied):
         for one up to 32767. Raises BadPicture for anything else."""
         header = header_of(text)
         image = self.image(header.fmt, header.width, header.height, name=name)
-        try:
+        with closed_if_refused(image):
             image.write_pgm(text)
-        except FeqyldanError:
-            image.close()
-            raise
         return image
 
     def read_pgm(self, path: Path, *, name: str = "") -> Image:
@@ -329,8 +327,9 @@ class Context(Uncopied):
 
     def _image_of(self, samples: Samples, name: str) -> Image:
         image = self.image(samples.fmt, samples.width, samples.height, name=name)
-        self._tell(f"write samples to {image}", wire.write_image_head, image._reference,
-                   *samples[:3], content=samples.content)
+        with closed_if_refused(image):
+            self._tell(f"write samples to {image}", wire.write_image_head, image._reference,
+                       *samples[:3], content=samples.content)
         return image
 
     # ---- requests
@@ -604,6 +603,17 @@ class Context(Uncopied):
 
     def __repr__(self) -> str:
         return f"<context of client {self._number}{', closed' if self.closed else ''}>"
+
+
+@contextlib.contextmanager
+def closed_if_refused(image: Image) -> Iterator[None]:
+    """Closes an image that couldn't be written. Python frees it only later, since the error refers
+    to it."""
+    try:
+        yield
+    except FeqyldanError:
+        image.close()
+        raise
 
 
 def may_send(server: Server) -> bool:
