@@ -89,11 +89,14 @@ enum { NO_MEMORY = 1 };
 /* The server in this process. */
 struct core {
     uint32_t (*open)(uint64_t quota, uint64_t work, struct feqyldan_handle *handle);
-    uint32_t (*serve)(struct feqyldan_handle *handle, const uint8_t *front, size_t front_length,
-                      const uint8_t *back, size_t back_length, uint8_t *reply,
-                      size_t reply_length, size_t *length);
+    uint32_t (*connect)(struct feqyldan_handle *handle, uint32_t *connection);
+    uint32_t (*serve)(struct feqyldan_handle *handle, uint32_t connection, const uint8_t *front,
+                      size_t front_length, const uint8_t *back, size_t back_length,
+                      uint8_t *reply, size_t reply_length, size_t *length);
     void (*close)(struct feqyldan_handle *handle);
     struct feqyldan_handle handle;
+    /* The number of the only connection of the handle. */
+    uint32_t number;
     /* The head of a frame, and the beginning of its body where samples come after that. */
     uint8_t front[HEAD + WRITE_HEAD];
     size_t front_length;

@@ -11,6 +11,7 @@
 
 /* NULL unless the program has libfeqyldan-core.a or links the shared library. */
 #pragma weak feqyldan_open
+#pragma weak feqyldan_connect
 #pragma weak feqyldan_serve
 #pragma weak feqyldan_close
 
@@ -49,6 +50,7 @@ static bool load_core(struct core *core, const char *path, char *why, size_t siz
         return false;
     }
     bool is_core = find_call(library, "feqyldan_open", &core->open) &&
+                   find_call(library, "feqyldan_connect", &core->connect) &&
                    find_call(library, "feqyldan_serve", &core->serve) &&
                    find_call(library, "feqyldan_close", &core->close);
     dlclose(library);
@@ -66,6 +68,7 @@ bool find_core(struct core *core, char *why, size_t size) {
     if (path != NULL || feqyldan_open == NULL)
         return load_core(core, path != NULL ? path : SHARED, why, size);
     core->open = feqyldan_open;
+    core->connect = feqyldan_connect;
     core->serve = feqyldan_serve;
     core->close = feqyldan_close;
     return true;
@@ -85,12 +88,16 @@ bool open_core(struct connection *connection, char *why, size_t size) {
     struct core *core = &connection->core;
     const char *quota = setting("FEQYLDAN_QUOTA");
     uint32_t status = core->open(quota_of(quota), DEFAULT_BYTES, &core->handle);
+    if (status == FEQYLDAN_OK)
+        status = core->connect(&core->handle, &core->number);
     if (status == FEQYLDAN_BAD_LIMITS)
         snprintf(why, size, "FEQYLDAN_QUOTA is %s, and has to be 1 to 1099511627776 bytes", quota);
     else if (status != FEQYLDAN_OK)
         snprintf(why, size, "there is no memory for a server");
-    if (status != FEQYLDAN_OK)
+    if (status != FEQYLDAN_OK) {
+        core->close(&core->handle);
         return false;
+    }
     connection->transport = &core_transport;
     return true;
 }
@@ -155,7 +162,7 @@ static bool serve(struct connection *connection, struct request *request, size_t
         return true;
     }
     size_t capacity = reply == core->short_reply ? sizeof core->short_reply : wanted;
-    uint32_t status = core->serve(&core->handle, core->front, front_length,
+    uint32_t status = core->serve(&core->handle, core->number, core->front, front_length,
                                   back_length > 0 ? back : core->front, back_length, reply,
                                   capacity, &length);
     if (status != FEQYLDAN_OK || !is_reply_to(request, reply)) {

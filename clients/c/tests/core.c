@@ -4,14 +4,17 @@
 #include "testing.h"
 
 enum { WIDTH = 40, HEIGHT = 30, SAMPLES = WIDTH * HEIGHT, QUOTA = 1 << 20, REPLY = 13 + SAMPLES };
+enum { INVALID_REFERENCE = 3, MANY = 100 };
 
 static struct feqyldan_handle handle;
+static uint32_t connection;
 static uint8_t reply[REPLY];
 static size_t length;
 
 static uint32_t serve(const uint8_t *front, size_t front_length, const uint8_t *back,
                       size_t back_length, size_t room) {
-    return feqyldan_serve(&handle, front, front_length, back, back_length, reply, room, &length);
+    return feqyldan_serve(&handle, connection, front, front_length, back, back_length, reply, room,
+                          &length);
 }
 
 /* Sends a whole frame, and checks that the reply has this code and this many bytes. */
@@ -27,12 +30,22 @@ static const uint8_t RELEASE[] = {0, 0, 0, 3, 0, 7, 2};
 static const uint8_t NOT[] = {0, 0, 0, 28, 0, 7, 24, 4,   0, 0, 0, 0, 0, 0, 0, 1,
                               255, 0, 0, 0, 0, 255, 0, 0, 0, 2, 255, 0, 0, 0, 0, 255};
 
+static void open_connection(void) {
+    CHECK(feqyldan_connect(&handle, &connection) == FEQYLDAN_OK);
+}
+
 static void limits(void) {
     CHECK(serve(OPEN, sizeof OPEN, OPEN, 0, REPLY) == FEQYLDAN_NOT_OPEN && length == 0);
+    connection = 5;
+    CHECK(feqyldan_connect(&handle, &connection) == FEQYLDAN_NOT_OPEN && connection == 0);
+    CHECK(feqyldan_disconnect(&handle, connection) == FEQYLDAN_NOT_OPEN);
     CHECK(feqyldan_open(0, QUOTA, &handle) == FEQYLDAN_BAD_LIMITS && !handle.held);
     CHECK(feqyldan_open(QUOTA, (1ull << 40) + 1, &handle) == FEQYLDAN_BAD_LIMITS);
     CHECK(feqyldan_open(QUOTA, QUOTA, &handle) == FEQYLDAN_OK && handle.held);
     CHECK(feqyldan_open(QUOTA, QUOTA, &handle) == FEQYLDAN_ALREADY_OPEN);
+    CHECK(serve(OPEN, sizeof OPEN, OPEN, 0, REPLY) == FEQYLDAN_NOT_CONNECTED && length == 0);
+    CHECK(feqyldan_disconnect(&handle, connection) == FEQYLDAN_NOT_CONNECTED);
+    open_connection();
 }
 
 /* Bytes that aren't exactly one frame, whose length has to be in the first part. */
@@ -57,36 +70,95 @@ static void short_buffer(void) {
     expect(OPEN, sizeof OPEN, 7, 8);
 }
 
-/* A picture in, Not, and a picture out. */
-static void pictures(void) {
-    uint8_t *head = malloc(17), *samples = malloc(SAMPLES);
-    CHECK(head != NULL && samples != NULL);
+static uint8_t sample(int place, int factor) { return (uint8_t)(place * factor); }
+
+/* Writes a picture to image 1. Its parts are in memory of their exact lengths. */
+static void write_picture(int factor) {
     const uint8_t before[] = {0, 0, (SAMPLES + 13) >> 8, (SAMPLES + 13) & 255, 0, 7, 5, 0, 0, 0, 1,
                               255, 1, 0, WIDTH, 0, HEIGHT};
+    uint8_t *head = malloc(sizeof before), *samples = malloc(SAMPLES);
+    CHECK(head != NULL && samples != NULL);
     memcpy(head, before, sizeof before);
     for (int i = 0; i < SAMPLES; i++)
-        samples[i] = (uint8_t)(i * 7);
-    expect(CREATE, sizeof CREATE, 0, 12);
-    expect(CREATE, sizeof CREATE, 0, 12);
+        samples[i] = sample(i, factor);
     CHECK(serve(head, sizeof before, samples, SAMPLES, REPLY) == FEQYLDAN_OK);
     CHECK(length == 8 && reply[7] == 0);
+    free(head);
+    free(samples);
+}
+
+/* A picture in, Not, and a picture out. */
+static void pictures(void) {
+    expect(CREATE, sizeof CREATE, 0, 12);
+    expect(CREATE, sizeof CREATE, 0, 12);
+    write_picture(7);
     expect(NOT, sizeof NOT, 0, 8);
     for (size_t room = FEQYLDAN_LEAST_BUFFER; room < REPLY; room += 97)
         CHECK(serve(READ, sizeof READ, READ, 0, room) == FEQYLDAN_TOO_SHORT && length == REPLY);
     CHECK(serve(READ, sizeof READ, READ, 0, REPLY - 1) == FEQYLDAN_TOO_SHORT && length == REPLY);
     expect(READ, sizeof READ, 0, REPLY);
     for (int i = 0; i < SAMPLES; i++)
-        CHECK(reply[13 + i] == 255 - samples[i]);
-    free(head);
-    free(samples);
+        CHECK(reply[13 + i] == 255 - sample(i, 7));
+}
+
+/* Another connection has a client 7 of its own, with an image 2 of its own. Its number is free when
+   it has been closed. */
+static void other_connections(void) {
+    const uint32_t first = connection;
+    open_connection();
+    const uint32_t second = connection;
+    CHECK(second != first);
+    expect(READ, sizeof READ, INVALID_REFERENCE, 8);
+    expect(OPEN, sizeof OPEN, 0, 8);
+    expect(READ, sizeof READ, INVALID_REFERENCE, 8);
+    expect(CREATE, sizeof CREATE, 0, 12);
+    expect(CREATE, sizeof CREATE, 0, 12);
+    write_picture(11);
+    expect(NOT, sizeof NOT, 0, 8);
+    for (int at = 0; at < 2; at++) {
+        connection = at == 0 ? first : second;
+        expect(READ, sizeof READ, 0, REPLY);
+        for (int i = 0; i < SAMPLES; i++)
+            CHECK(reply[13 + i] == 255 - sample(i, at == 0 ? 7 : 11));
+    }
+    CHECK(feqyldan_disconnect(&handle, second) == FEQYLDAN_OK);
+    CHECK(feqyldan_disconnect(&handle, second) == FEQYLDAN_NOT_CONNECTED);
+    CHECK(serve(READ, sizeof READ, READ, 0, REPLY) == FEQYLDAN_NOT_CONNECTED && length == 0);
+    open_connection();
+    expect(READ, sizeof READ, INVALID_REFERENCE, 8);
+    connection = first;
+    expect(READ, sizeof READ, 0, REPLY);
+}
+
+/* A connection that was closed with contexts of any number leaves none. */
+static void many_connections(void) {
+    uint32_t numbers[MANY];
+    const uint32_t first = connection;
+    for (int round = 0; round < 3; round++) {
+        for (int i = 0; i < MANY; i++) {
+            open_connection();
+            numbers[i] = connection;
+            for (int before = 0; before < i; before++)
+                CHECK(numbers[before] != numbers[i]);
+            expect(OPEN, sizeof OPEN, 0, 8);
+            expect(CREATE, sizeof CREATE, 0, 12);
+        }
+        for (int i = 0; i < MANY; i++)
+            CHECK(feqyldan_disconnect(&handle, numbers[i]) == FEQYLDAN_OK);
+    }
+    connection = first;
+    expect(READ, sizeof READ, 0, REPLY);
 }
 
 /* Another handle has a server of its own. */
-static void others(void) {
+static void other_handles(void) {
     struct feqyldan_handle other = {0};
+    uint32_t number;
     CHECK(feqyldan_open(QUOTA, QUOTA, &other) == FEQYLDAN_OK);
-    CHECK(feqyldan_serve(&other, READ, sizeof READ, READ, 0, reply, REPLY, &length) == FEQYLDAN_OK);
-    CHECK(length == 8 && reply[7] != 0);
+    CHECK(feqyldan_connect(&other, &number) == FEQYLDAN_OK);
+    CHECK(feqyldan_serve(&other, number, READ, sizeof READ, READ, 0, reply, REPLY, &length) ==
+          FEQYLDAN_OK);
+    CHECK(length == 8 && reply[7] == INVALID_REFERENCE);
     feqyldan_close(&other);
     expect(READ, sizeof READ, 0, REPLY);
 }
@@ -97,7 +169,9 @@ int main(void) {
     frames();
     short_buffer();
     pictures();
-    others();
+    other_connections();
+    many_connections();
+    other_handles();
     expect(RELEASE, sizeof RELEASE, 0, 8);
     expect(OPEN, sizeof OPEN, 0, 8);
     expect(CREATE, sizeof CREATE, 0, 12);
@@ -105,7 +179,8 @@ int main(void) {
     feqyldan_close(&handle);
     CHECK(serve(OPEN, sizeof OPEN, OPEN, 0, REPLY) == FEQYLDAN_NOT_OPEN && length == 0);
     CHECK(feqyldan_open(QUOTA, QUOTA, &handle) == FEQYLDAN_OK);
-    expect(CREATE, sizeof CREATE, 3, 8);
+    open_connection();
+    expect(CREATE, sizeof CREATE, INVALID_REFERENCE, 8);
     feqyldan_close(&handle);
     return 0;
 }

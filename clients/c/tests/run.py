@@ -412,9 +412,10 @@ class Library(unittest.TestCase):
         self.assertIn("LOAD", sections)
         self.assertNotIn("TLS", sections)
 
-    def test_the_server_as_a_library_exports_its_three_calls(self):
+    def test_the_server_as_a_library_exports_its_calls(self):
         self.need_core()
-        wanted = ["feqyldan_close", "feqyldan_open", "feqyldan_serve"]
+        wanted = ["feqyldan_close", "feqyldan_connect", "feqyldan_disconnect", "feqyldan_open",
+                  "feqyldan_serve"]
         for words in (["-g", "--defined-only", core("a")],
                       ["-D", "--defined-only", core("so")]):
             said = subprocess.run(["nm", *words], capture_output=True, text=True, check=True)

@@ -7,6 +7,7 @@
 enum { HEAD = 4, LEAST = 3, GREATEST = 1 << 29 };
 
 static struct feqyldan_handle handle;
+static uint32_t connection;
 static uint8_t *reply;
 static size_t room = FEQYLDAN_LEAST_BUFFER;
 
@@ -18,8 +19,8 @@ static int end(const char *line) {
 /* Answers a frame, whose first part ends at `cut`. Returns the length of the reply. */
 static size_t answer(const uint8_t *frame, size_t length, size_t cut) {
     size_t count;
-    uint32_t status = feqyldan_serve(&handle, frame, cut, frame + cut, length - cut, reply, room,
-                                     &count);
+    uint32_t status = feqyldan_serve(&handle, connection, frame, cut, frame + cut, length - cut,
+                                     reply, room, &count);
     if (status == FEQYLDAN_TOO_SHORT) {
         CHECK(count > room);
         room = count;
@@ -62,6 +63,7 @@ int main(int count, char **words) {
         *(strcmp(words[i], "--quota") == 0 ? &quota : &work) = strtoull(words[i + 1], NULL, 10);
     reply = malloc(room);
     CHECK(reply != NULL && feqyldan_open(quota, work, &handle) == FEQYLDAN_OK);
+    CHECK(feqyldan_connect(&handle, &connection) == FEQYLDAN_OK);
     const int status = serve();
     feqyldan_close(&handle);
     free(reply);

@@ -12,6 +12,7 @@ from . import program
 from .errors import FeqyldanError, ProgramNotFound
 
 VARIABLE = "FEQYLDAN_CORE"
+# A result of the calls: FEQYLDAN_NO_MEMORY.
 NO_MEMORY = 6
 
 
@@ -40,9 +41,11 @@ def load(path: str) -> Any:
     try:
         library = ctypes.CDLL(os.path.abspath(path))
         library.feqyldan_open.argtypes = ctypes.c_uint64, ctypes.c_uint64, ctypes.c_void_p
+        library.feqyldan_connect.argtypes = ctypes.c_void_p, ctypes.c_void_p
         library.feqyldan_serve.argtypes = (
-            ctypes.c_void_p, ctypes.c_void_p, ctypes.c_size_t, ctypes.c_void_p, ctypes.c_size_t,
-            ctypes.c_void_p, ctypes.c_size_t, ctypes.c_void_p)
+            ctypes.c_void_p, ctypes.c_uint32, ctypes.c_void_p, ctypes.c_size_t, ctypes.c_void_p,
+            ctypes.c_size_t, ctypes.c_void_p, ctypes.c_size_t, ctypes.c_void_p)
+        library.feqyldan_disconnect.argtypes = ctypes.c_void_p, ctypes.c_uint32
         library.feqyldan_close.argtypes = ctypes.c_void_p,
         library.feqyldan_close.restype = None
     except (OSError, AttributeError) as error:
@@ -53,19 +56,33 @@ def load(path: str) -> Any:
 
 
 class Core:
-    """A server in this process. The caller makes one call at a time."""
+    """A server in this process. The caller makes one call at a time. `serve` is the library's
+    feqyldan_serve, whose first two arguments are `address` and the number of a connection."""
 
     def __init__(self, path: str, quota: int, work: int) -> None:
         self._handle, self._is_lost = Handle(), False
         library = load(path)
+        self._connect, self._disconnect = library.feqyldan_connect, library.feqyldan_disconnect
         self._close = library.feqyldan_close
         self.serve = library.feqyldan_serve
         self.address = ctypes.addressof(self._handle)
         if library.feqyldan_open(quota, work, self.address) == NO_MEMORY:
             raise FeqyldanError("start a server in this process: the system refuses the memory")
 
+    def connect(self) -> int:
+        """Opens a connection, whose clients no other connection sees, and returns its number."""
+        number = ctypes.c_uint32()
+        if self._connect(self.address, ctypes.addressof(number)) == NO_MEMORY:
+            raise FeqyldanError("connect to the server in this process: the system refuses the "
+                                "memory")
+        return number.value
+
+    def disconnect(self, number: int) -> None:
+        """Closes a connection with all of its contexts. Does nothing if it isn't open."""
+        self._disconnect(self.address, number)
+
     def close(self) -> None:
-        """Frees the server with all of its contexts. Does nothing if that was done."""
+        """Frees the server with all of its connections. Does nothing if that was done."""
         if not self._is_lost:
             self._close(self.address)
 

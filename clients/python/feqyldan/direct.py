@@ -72,6 +72,7 @@ class DirectConnection:
 
     def __init__(self, core: Core) -> None:
         self._core = core
+        self._number = core.connect()
         self._lock = threading.RLock()
         self._fault: Optional[FeqyldanError] = None
         self._buffers = Buffers()
@@ -190,8 +191,8 @@ class DirectConnection:
         samples = address_of(back)
         self._last = request, frame
         try:
-            self._core.serve(self._core.address, front, len(front), samples, len(back), place,
-                             len(frame), self._addresses[1])
+            self._core.serve(self._core.address, self._number, front, len(front), samples,
+                             len(back), place, len(frame), self._addresses[1])
         finally:
             self._settle()
         if request.answer is None:

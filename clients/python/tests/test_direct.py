@@ -4,6 +4,7 @@ library is the one that FEQYLDAN_CORE names, or the one built in this checkout.
 """
 
 import contextlib
+import ctypes
 import gc
 import os
 import shutil
@@ -11,6 +12,7 @@ import subprocess
 import sys
 import tempfile
 import threading
+import time
 import unittest
 from unittest import mock
 
@@ -119,6 +121,110 @@ class CoreTest(unittest.TestCase):
             self.server = vx.Server(process=False, **self.limits)
         self.addCleanup(self.server.close)
         self.context = self.server.context()
+
+
+OK, NOT_CONNECTED = 0, 7
+
+
+@needs_core
+class TestConnections(unittest.TestCase):
+    """Several connections on one handle."""
+
+    def setUp(self):
+        self.core = Core(PATH, GREATEST, GREATEST)
+        self.addCleanup(self.core.close)
+
+    def serve(self, number, frame):
+        """Returns the status and the reply to a frame of a connection."""
+        reply, length = ctypes.create_string_buffer(2000), ctypes.c_size_t()
+        status = self.core.serve(self.core.address, number, frame, len(frame), b"", 0, reply,
+                                 len(reply), ctypes.addressof(length))
+        return status, reply.raw[:length.value]
+
+    def ask(self, number, frame, code=wire.SUCCESS):
+        status, reply = self.serve(number, frame)
+        self.assertEqual((status, wire.code_of(reply)), (OK, code))
+        return reply
+
+    def test_the_same_client_and_the_same_names(self):
+        """No connection sees the pixels of another one."""
+        numbers = [self.core.connect() for _ in range(3)]
+        self.assertEqual(len({*numbers}), 3)
+        for shade, number in enumerate(numbers):
+            self.ask(number, wire.create_image(7, vx.U8, 9, 5), wire.INVALID_REFERENCE)
+            self.ask(number, wire.open_context(7))
+            for _ in range(shade + 1):
+                made = self.ask(number, wire.create_image(7, vx.U8, 9, 5))
+            self.assertEqual(wire.name_of(made), shade + 1)
+            self.ask(number, wire.write_image(7, 1, vx.U8, 9, 5, bytes([shade]) * 45))
+        for shade, number in enumerate(numbers):
+            rows = wire.rows_of(self.ask(number, wire.read_image(7, 1)))
+            self.assertEqual(rows, [(shade,) * 9] * 5)
+            self.ask(number, wire.read_image(7, shade + 2), wire.INVALID_REFERENCE)
+
+    def test_a_closed_connection(self):
+        """Its number is refused. The next connection has no context and none of its pixels."""
+        first, second = self.core.connect(), self.core.connect()
+        for number in (first, second):
+            self.ask(number, wire.open_context(7))
+            self.ask(number, wire.create_image(7, vx.U8, 9, 5))
+            self.ask(number, wire.write_image(7, 1, vx.U8, 9, 5, b"\xc8" * 45))
+        self.core.disconnect(first)
+        self.core.disconnect(first)
+        self.assertEqual(self.serve(first, wire.read_image(7, 1)), (NOT_CONNECTED, b""))
+        third = self.core.connect()
+        self.assertNotIn(third, (first, second))
+        self.ask(third, wire.read_image(7, 1), wire.INVALID_REFERENCE)
+        self.ask(third, wire.open_context(7))
+        self.ask(third, wire.create_image(7, vx.U8, 9, 5))
+        for number, sample in ((third, 0), (second, 200)):
+            rows = wire.rows_of(self.ask(number, wire.read_image(7, 1)))
+            self.assertEqual(rows, [(sample,) * 9] * 5)
+
+    def test_the_most_contexts(self):
+        """All connections together have 65,535; then OpenContext finds no memory."""
+        first, second = self.core.connect(), self.core.connect()
+        for client in range(65535):
+            self.ask((first, second)[client % 2], wire.open_context(client))
+        for number in (first, second):
+            self.ask(number, wire.open_context(65535), wire.Code.NO_MEMORY)
+        self.core.disconnect(first)
+        self.ask(second, wire.open_context(65535))
+
+    def test_memory_of_a_closed_connection(self):
+        """The process holds it no longer, but for what the server keeps for later images."""
+        status, output = run(HOLDING)
+        self.assertEqual(status, 0, output)
+        before, during, after = map(int, output.split())
+        self.assertGreater(during - before, 250)
+        self.assertLess(after - before, 100)
+
+
+# Prints the megabytes that the process holds before a connection with four large pictures, with it
+# and after it. The server keeps at most 64 megabytes of them.
+HOLDING = """
+import ctypes, os
+from feqyldan import core, wire
+def held():
+    with open("/proc/self/statm") as numbers:
+        return int(numbers.read().split()[1]) * os.sysconf("SC_PAGESIZE") >> 20
+def ask(number, frame):
+    reply, length = ctypes.create_string_buffer(28), ctypes.c_size_t()
+    status = server.serve(server.address, number, frame, len(frame), b"", 0, reply, 28,
+                          ctypes.addressof(length))
+    assert (status, reply.raw[7]) == (0, 0), (status, reply.raw)
+server = core.Core(core.find(), 2**40, 2**40)
+other, number = server.connect(), server.connect()
+print(held())
+ask(number, wire.open_context(7))
+for _ in range(4):
+    ask(number, wire.create_image(7, wire.U8, 8192, 8192))
+for name in range(1, 5):
+    ask(number, wire.bitwise_not(7, name, name % 4 + 1))
+print(held())
+server.disconnect(number)
+print(held())
+"""
 
 
 @needs_core
@@ -323,20 +429,22 @@ class TestStreams(CoreTest):
         self.assertNotIn(threading.get_ident(), callers)
 
     def test_the_thread_ends_with_the_server(self):
-        before = set(threading.enumerate())
+        before = set(sys._current_frames())
         for is_closed in (True, False):
             with mock.patch.dict(os.environ, {core.VARIABLE: PATH}):
                 server = vx.Server(process=False)
             context = server.context()
             loop = Loop(context, 8, 8, False)
             list(loop.graph.stream(loop.pictures, loop.part, loop.out))
-            own, = set(threading.enumerate()) - before
+            own, = set(sys._current_frames()) - before
             if is_closed:
                 server.close()
             del server, context, loop
             gc.collect()
-            own.join(30)
-            self.assertFalse(own.is_alive())
+            until = time.monotonic() + 30
+            while own in sys._current_frames() and time.monotonic() < until:
+                time.sleep(0.01)
+            self.assertNotIn(own, sys._current_frames())
 
     def test_a_server_that_is_closed_in_a_stream(self):
         station, = self.stations(1)

@@ -5,6 +5,7 @@ ghost use Rattle.vx_requests.specs.Frame.Frames.{ReplyFrame, IsFrame, frame_byte
 ghost use Rattle.vx_requests.specs.Serving.Answer.{answer};
 ghost use Rattle.vx_requests.specs.Serving.Clients.{ReceivedFrame, served, states_after};
 ghost use Rattle.vx_requests.specs.Serving.Lost.{MayBeLost};
+ghost use Rattle.vx_requests.specs.Serving.OneFrame.{ServesOneFrame};
 ghost use Rattle.vx_requests.specs.Serving.Turn.{Turn};
 ghost use Rattle.connections.specs.Connections.{ConnectionsValue, Connects, StaysOpen, Answers};
 ghost use Rattle.connections.specs.Connections.{states_in};
@@ -42,5 +43,15 @@ pub fn served_turns()
         (m : ReceivedFrame) × (reply : ReplyFrame) × IsFrame m.frame
         × Consumes left_old left_new (frame_bytes m.frame)
         × Appends taken_old taken_new (reply_bytes reply)
+        × Answers connection m reply old new }
+{}
+
+/// A frame of an open connection that is served alone is an event of a history.
+pub fn served_frames()
+    ensures { (connection : ℕ) (old new : ConnectionsValue) (read written : List ℕ) →
+        StaysOpen connection old new →
+        ServesOneFrame old.limits read written (states_in old connection) (states_in new connection)
+        → (m : ReceivedFrame) × (reply : ReplyFrame) × IsFrame m.frame
+        × (read ≡ frame_bytes m.frame) × (written ≡ reply_bytes reply)
         × Answers connection m reply old new }
 {}

@@ -64,7 +64,8 @@ impl Connections {
         self.numbers.has(connection)
     }
 
-    /// Opens a connection, and returns its number, which no open connection has.
+    /// Opens a connection, and returns its number, which no open connection has. Numbers are given
+    /// in turn, so the number of a closed connection isn't given to another one soon.
     pub fn connect(&mut self) -> Result<u32, NoMemory>
         ensures opened { IfOk result (λ connection. Connects connection self.old self.new) }
         ensures err { OnErr result (self.new ≡ self.old) }
@@ -82,7 +83,7 @@ impl Connections {
         ensures { IfSome result (λ connection. is_open self.now connection ≡ false) }
     {
         for step in 0..u32::MAX {
-            let connection = self.newest.wrapping_add(step);
+            let connection = self.newest.wrapping_add(step).wrapping_add(1);
             if !self.is_open(connection) {
                 return Some(connection);
             }

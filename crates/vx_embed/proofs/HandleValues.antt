@@ -3,11 +3,11 @@ use Rattle.vx_embed.proofs.Steps.{Bool, List, [], ◌∷◌, refl, Val, vbool, �
 use Rattle.loose.proofs.Values.{Al, al}
 pub use Rattle.loose.proofs.Values.{handle_tells}
 use seplogic.Ra.Ura.{Ura}
-use Rattle.client_contexts.specs.World.{World}
+use Rattle.connections.specs.Connections.{ConnectionsValue}
 use Rattle.vx_embed.specs.Ownership.{handle_owns}
 
 module _ {M : Type 1} {𝓤 : Ura M} {𝓛 : Logic 𝓤} {K : Type 0} {Γ : List (Item 𝓤)} {G : Goal 𝓤 𝓛.H} where
-  pub handle_in : K → (p : Ptr) (h : Bool) (w : World)
+  pub handle_in : K → (p : Ptr) (h : Bool) (w : ConnectionsValue)
       → Step K 𝓛 (‵ (H.own_val (record { at = p; held = h; world = w }) (word (record { at = p; held = h; world = w }) ∷ [])) ∷ Γ) G (‵ (handle_owns h p w) ∷ Γ) G
   handle_in t p h w = step (λ k. let v : Val = word (record { at = p; held = h; world = w }) in
       nothing t $ feq_i t (List Val) (vbool h ∷ []) (vbool h ∷ []) refl $ fjoin t $ feq_i t (List Val) (ptr_val p ∷ []) (ptr_val p ∷ []) refl $ fjoin t $

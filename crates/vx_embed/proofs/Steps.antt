@@ -32,7 +32,7 @@ pub use Rattle.vx_embed.specs.contracts.handle.Handle.{the_row as H, the_type as
 pub use Rattle.vx_embed.proofs.handle.Handle.TheLaws.{lowers, lowered as word, the_field_loose}
 pub use denote.RawPtr.{rawptr_Lawful}
 pub use denote.Signature.{types_at}
-pub use Rattle.client_contexts.specs.contracts.runtime.Runtime.{the_row as S}
+pub use Rattle.connections.specs.contracts.table.Connections.{the_row as S}
 pub use Rattle.std.specs.contracts.alloc.Global.{the_row as Heap}
 pub use Rattle.std.proofs.alloc.Global.TheLaws.{the_row_laws as Heap-laws}
 pub use Rattle.std.specs.contracts.impls.GlobalAllocator.TheImpl.{ghosts as Heap-ghosts}

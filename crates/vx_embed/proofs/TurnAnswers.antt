@@ -1,18 +1,17 @@
 -- From the server's turn to the answer that C gets.
 use Rattle.std.proofs.Common.{◌≡◌, ◌≢◌, ℕ, ◌+◌, ◌<◌, ◌≤◌, List, [], ◌∷◌, ◌++◌, Option, Some, Result, Ok, Err, is_ok, false, inr, arith, length, take, sym, ap, ◌∙◌, subst, length-append}
 use Rattle.std.proofs.lemmas.List.{take_all}
-use Rattle.client_contexts.specs.World.{World}
 use Rattle.vx_requests.specs.declared.serving.summary.Summary.{Summary}
 use Rattle.vx_requests.specs.declared.stream.fault.StreamFault.{StreamFault}
 use Rattle.vx_requests.specs.declared.stream.fault.StreamFault.TheVariants.{ReadFailed, WriteFailed, ReaderWouldNotEnd}
 use Rattle.vx_requests.specs.Stream.Transfer.{read_failures, write_failures}
 use Rattle.vx_requests.specs.Frame.Frames.{said_length}
-use Rattle.vx_requests.specs.Serving.Clients.{states_of}
 use Rattle.vx_requests.specs.Serving.OneFrame.{ServesOneFrame}
 use Rattle.vx_requests.specs.Serving.Session.{Session}
 use Rattle.client_model.specs.Limits.{LimitsValue}
 use Rattle.client_model.specs.Context.{State}
 use Rattle.vx_requests.specs.Serving.Turn.{Turn}
+use Rattle.connections.specs.Connections.{ConnectionsValue, StaysOpen, states_in}
 use Rattle.vx_requests.proofs.LongReplies.{long_leaves}
 use Rattle.vx_requests.proofs.OneFrame.{turn_stops, one_session}
 use Rattle.vx_requests.proofs.WholeFrames.{said_of_front}
@@ -52,20 +51,22 @@ module _ (limits : LimitsValue) (old new : ℕ → State) (front back : List ℕ
       (rest, subst (λ l. ServesOneFrame limits (front ++ back) (l ++ rest) old new) whole (subst (λ bytes. ServesOneFrame limits bytes (part ++ rest) old new) (sym e) one))
 
 -- a reply that begins with the whole buffer is long, so the states are as before
-pub too_short : (old new : World) (front back buffer bytes rest : List ℕ) (needed : ℕ) → buffer ≡ bytes → 28 ≤ length buffer → needed ≡ said_length buffer + 4
-    → ServesOneFrame old.limits (front ++ back) (bytes ++ rest) (states_of old) (states_of new) → Answers old new front back buffer needed status.TooShort
-too_short old new front back buffer bytes rest needed same long says served =
-    let one = subst (λ l. ServesOneFrame old.limits (front ++ back) (l ++ rest) (states_of old) (states_of new)) (sym same) served in
+pub too_short : (connection : ℕ) (old new : ConnectionsValue) (front back buffer bytes rest : List ℕ) (needed : ℕ) → buffer ≡ bytes → 28 ≤ length buffer → needed ≡ said_length buffer + 4
+    → StaysOpen connection old new → ServesOneFrame old.limits (front ++ back) (bytes ++ rest) (states_in old connection) (states_in new connection)
+    → Answers connection old new front back buffer needed status.TooShort
+too_short connection old new front back buffer bytes rest needed same long says stays served =
+    let one = subst (λ l. ServesOneFrame old.limits (front ++ back) (l ++ rest) (states_in old connection) (states_in new connection)) (sym same) served in
     let size = length-append buffer rest in
     let said : said_length (buffer ++ rest) ≡ said_length buffer = said_of_front buffer rest (omega (arith, long)) in
     let reply_long : 28 ≤ length (buffer ++ rest) = omega (arith, size, long) in (
-      long_leaves old.limits one.frame (states_of old) (states_of new) one.reply one.replied (subst (λ l. 28 ≤ length l) one.written_is reply_long),
-      inr (buffer ++ rest, one, omega (arith, size), says ∙ ap (λ n. n + 4) (sym said)),
+      long_leaves old.limits one.frame (states_in old connection) (states_in new connection) one.reply one.replied (subst (λ l. 28 ≤ length l) one.written_is reply_long),
+      inr (stays, (buffer ++ rest, one, omega (arith, size), says ∙ ap (λ n. n + 4) (sym said))),
     )
 
 -- a call that ends with Ok is a session of one frame
-pub session_of : (old new : Handle) (front back buffer : List ℕ) (count : ℕ) (result : Status) → Serves old new front back buffer count result → status_number result ≡ 0
-    → (summary : Summary) × Session old.world.limits (Some (front ++ back)) (Some []) (Some []) (Some (take count buffer)) (states_of old.world) (states_of new.world) (Ok summary)
-session_of old new front back buffer count status.Ok serves zero =
-    one_session old.world.limits (front ++ back) (take count buffer) (states_of old.world) (states_of new.world) serves.3.1
-session_of old new front back buffer count other serves zero = absurd (omega (arith, zero))
+pub session_of : (connection : ℕ) (old new : Handle) (front back buffer : List ℕ) (count : ℕ) (result : Status) → Serves connection old new front back buffer count result
+    → status_number result ≡ 0
+    → (summary : Summary) × Session old.world.limits (Some (front ++ back)) (Some []) (Some []) (Some (take count buffer)) (states_in old.world connection) (states_in new.world connection) (Ok summary)
+session_of connection old new front back buffer count status.Ok serves zero =
+    one_session old.world.limits (front ++ back) (take count buffer) (states_in old.world connection) (states_in new.world connection) serves.1.1.2
+session_of connection old new front back buffer count other serves zero = absurd (omega (arith, zero))

@@ -5,14 +5,14 @@ use denote.RawPtr.{Ptr}
 use Rattle.std.specs.declared.alloc.Global.{Global}
 use Rattle.std.specs.contracts.impls.GlobalAllocator.TheImpl.{ghosts}
 use Rattle.std.specs.Box.Ownership.{box_owns}
-use Rattle.client_contexts.specs.World.{World}
-use Rattle.client_contexts.specs.contracts.runtime.Runtime.{the_row}
+use Rattle.connections.specs.Connections.{ConnectionsValue}
+use Rattle.connections.specs.contracts.table.Connections.{the_row}
 
 -- the heap. There is one
 abbrev pub heap : Global
 heap = record { memory = record { seal = tt } }
 
 -- a handle with a server owns the server in its block, and the right to free the block
-abbrev pub handle_owns : Bool → Ptr → World → Fml
+abbrev pub handle_owns : Bool → Ptr → ConnectionsValue → Fml
 handle_owns true at world = box_owns (ghosts.dealloc_token heap) the_row at world
 handle_owns false at world = ftrue

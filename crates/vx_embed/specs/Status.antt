@@ -12,3 +12,4 @@ status_number status.NotOpen = 3
 status_number status.AlreadyOpen = 4
 status_number status.BadLimits = 5
 status_number status.NoMemory = 6
+status_number status.NotConnected = 7

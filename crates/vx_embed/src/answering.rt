@@ -1,14 +1,14 @@
 //! Answers a frame of the caller's bytes, into the caller's buffer.
 ghost use Rattle.std.specs.Prelude.{◌≡◌, ◌++◌, true, false, List, ℕ, take};
-ghost use Rattle.vx_requests.specs.Serving.Clients.{states_of};
 ghost use Rattle.vx_requests.specs.Serving.OneFrame.{ServesOneFrame};
-ghost use Rattle.vx_embed.specs.Serves.{Answers, IsOneFrame};
+ghost use Rattle.connections.specs.Connections.{StaysOpen, is_open, states_in};
+ghost use Rattle.vx_embed.specs.Serves.{Answers, AnswersOpen, IsOneFrame};
 
 use crate::slices::{ReplyBuffer, Slices};
 use crate::status::Status;
-use client_contexts::Runtime;
+use connections::Connections;
 use std::alloc::Global;
-use vx_requests::{is_one_frame, said_length, serve_frame};
+use vx_requests::{is_one_frame, said_length};
 
 /// The least number of bytes of a reply buffer. Every reply fits, except those of ReadImage,
 /// ReadImagePgm and ReadDistribution, which change no state.
@@ -16,19 +16,38 @@ const LEAST_BUFFER: usize = 28;
 
 /// Answers a frame, as `feqyldan_serve` does. Returns the status, and the length of the reply or of
 /// the buffer that it needs.
-///
-/// A reply that doesn't fit is discarded after the frame was answered. No state has then changed,
-/// since the reply has at least 28 bytes.
 pub fn answer(
     alloc: Global,
-    runtime: &mut Runtime,
+    server: &mut Connections,
+    connection: u32,
     front: &[u8],
     back: &[u8],
     reply: &mut [u8],
 ) -> (Status, usize)
-    ensures answers { Answers runtime.old runtime.new front.now back.now reply.new
+    ensures { AnswersOpen connection server.old server.new front.now back.now reply.new
         result.1 result.0 }
-    ensures limits { runtime.new.limits ≡ runtime.old.limits }
+{
+    if !server.is_open(connection) {
+        return (Status::NotConnected, 0);
+    }
+    answer_open(alloc, server, connection, front, back, reply)
+}
+
+/// Answers a frame of an open connection, as `answer` does.
+///
+/// A reply that doesn't fit is discarded after the frame was answered. No state has then changed,
+/// since the reply has at least 28 bytes.
+fn answer_open(
+    alloc: Global,
+    server: &mut Connections,
+    connection: u32,
+    front: &[u8],
+    back: &[u8],
+    reply: &mut [u8],
+) -> (Status, usize)
+    requires { is_open server.old connection ≡ true }
+    ensures { Answers connection server.old server.new front.now back.now reply.new
+        result.1 result.0 }
 {
     if !is_one_frame(front, back) {
         return (Status::NotAFrame, 0);
@@ -41,7 +60,7 @@ pub fn answer(
         count: 0,
         failures: 0,
     };
-    if serve_into(alloc, runtime, front, back, &mut sink) {
+    if serve_into(alloc, server, connection, front, back, &mut sink) {
         return (Status::Ok, sink.count);
     }
     (Status::TooShort, said_length(reply) as usize + 4)
@@ -51,20 +70,23 @@ pub fn answer(
 /// short because the buffer was full.
 fn serve_into(
     alloc: Global,
-    runtime: &mut Runtime,
+    server: &mut Connections,
+    connection: u32,
     front: &[u8],
     back: &[u8],
     sink: &mut ReplyBuffer,
 ) -> bool
+    requires is_open { is_open server.old connection ≡ true }
     requires frame { IsOneFrame (front.now ++ back.now) }
     requires empty { (sink.old.count ≡ 0) × (sink.old.failures ≡ 0) }
     ensures whole { result ≡ true →
-        ServesOneFrame runtime.old.limits (front.now ++ back.now)
-        (take sink.new.count sink.new.bytes.now) (states_of runtime.old) (states_of runtime.new) }
+        ServesOneFrame server.old.limits (front.now ++ back.now)
+        (take sink.new.count sink.new.bytes.now)
+        (states_in server.old connection) (states_in server.new connection) }
     ensures cut { result ≡ false → (rest : List ℕ) ×
-        ServesOneFrame runtime.old.limits (front.now ++ back.now)
-        (sink.new.bytes.now ++ rest) (states_of runtime.old) (states_of runtime.new) }
-    ensures limits { runtime.new.limits ≡ runtime.old.limits }
+        ServesOneFrame server.old.limits (front.now ++ back.now) (sink.new.bytes.now ++ rest)
+        (states_in server.old connection) (states_in server.new connection) }
+    ensures stays_open { StaysOpen connection server.old server.new }
     ensures same_reference { sink.new.bytes.ghost_name ≡ sink.old.bytes.ghost_name }
 {
     let mut source = Slices {
@@ -72,5 +94,5 @@ fn serve_into(
         back,
         reads: 0,
     };
-    serve_frame(alloc, &mut source, sink, runtime).is_ok()
+    server.answer(alloc, connection, &mut source, sink).is_ok()
 }

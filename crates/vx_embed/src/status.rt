@@ -9,7 +9,7 @@ pub enum Status {
     Ok,
     /// The reply doesn't fit the buffer. No state has changed.
     TooShort,
-    /// The bytes aren't exactly one request frame. No state has changed.
+    /// The bytes aren't exactly one request frame. Nothing has changed.
     NotAFrame,
     /// The handle holds no server.
     NotOpen,
@@ -19,6 +19,8 @@ pub enum Status {
     BadLimits,
     /// An allocation failed.
     NoMemory,
+    /// No connection with this number is open. Nothing has changed.
+    NotConnected,
 }
 
 impl Status {
@@ -34,6 +36,7 @@ impl Status {
             Status::AlreadyOpen => 4,
             Status::BadLimits => 5,
             Status::NoMemory => 6,
+            Status::NotConnected => 7,
         }
     }
 }

@@ -1,9 +1,0 @@
-use Rattle.std.proofs.Common.{rules, ap, ◌+◌}
-use Rattle.vx_embed.proofs.TurnAnswers.{too_short}
-use Rattle.vx_embed.proofs.answering.answer.Goals as goal
-
-pub returns-clause-answers : goal.returns-clause-answers
-returns-clause-answers c =
-    let cut = c.serve_into.ensures.cut c.if-serve_into.false in
-    too_short c.args.runtime.now c.serve_into.new.runtime c.args.front.now c.args.back.now _ c.serve_into.new.sink.bytes.now cut.0 _
-    (search rules) (search rules) (ap (λ n. n + 4) c.said_length.ensures) cut.1
