@@ -32,6 +32,8 @@ typedef struct {
     /* Jobs under way, the oldest first. */
     GQueue jobs;
     guint64 frames;
+    /* Of the frames under way. Other threads ask for it, so the object's lock guards it. */
+    GstClockTime latency;
     /* Guard the jobs' ends. */
     GMutex lock;
     GCond end;
@@ -384,6 +386,16 @@ static gboolean build(Feqyldan *self, gint width, gint height) {
     return TRUE;
 }
 
+static void set_latency(Feqyldan *self, const GstVideoInfo *info) {
+    const gint numerator = GST_VIDEO_INFO_FPS_N(info), denominator = GST_VIDEO_INFO_FPS_D(info);
+    GST_OBJECT_LOCK(self);
+    self->latency = numerator == 0 ? 0
+                                   : gst_util_uint64_scale_int((self->servers - 1) * GST_SECOND,
+                                                               denominator, numerator);
+    GST_OBJECT_UNLOCK(self);
+    gst_element_post_message(GST_ELEMENT(self), gst_message_new_latency(GST_OBJECT(self)));
+}
+
 static gboolean set_info(GstVideoFilter *filter, GstCaps *in_caps, GstVideoInfo *in_info,
                          GstCaps *out_caps, GstVideoInfo *out_info) {
     Feqyldan *self = (Feqyldan *)filter;
@@ -395,7 +407,7 @@ static gboolean set_info(GstVideoFilter *filter, GstCaps *in_caps, GstVideoInfo 
         return TRUE;
     add_stations(self);
     if (build(self, GST_VIDEO_INFO_WIDTH(in_info), GST_VIDEO_INFO_HEIGHT(in_info))) {
-        gst_element_post_message(GST_ELEMENT(self), gst_message_new_latency(GST_OBJECT(self)));
+        set_latency(self, in_info);
         return TRUE;
     }
     stop_stations(self);
@@ -432,17 +444,15 @@ static gboolean sink_event(GstBaseTransform *transform, GstEvent *event) {
 
 static gboolean query(GstBaseTransform *transform, GstPadDirection direction, GstQuery *asked) {
     Feqyldan *self = (Feqyldan *)transform;
-    const GstVideoInfo *info = &GST_VIDEO_FILTER(self)->in_info;
     gboolean is_live;
     GstClockTime least, most;
     if (!GST_BASE_TRANSFORM_CLASS(feqyldan_parent_class)->query(transform, direction, asked))
         return FALSE;
-    if (direction != GST_PAD_SRC || GST_QUERY_TYPE(asked) != GST_QUERY_LATENCY ||
-        self->servers == 1 || GST_VIDEO_INFO_FPS_N(info) == 0)
+    if (direction != GST_PAD_SRC || GST_QUERY_TYPE(asked) != GST_QUERY_LATENCY)
         return TRUE;
-    const GstClockTime own =
-        gst_util_uint64_scale_int((self->servers - 1) * GST_SECOND, GST_VIDEO_INFO_FPS_D(info),
-                                  GST_VIDEO_INFO_FPS_N(info));
+    GST_OBJECT_LOCK(self);
+    const GstClockTime own = self->latency;
+    GST_OBJECT_UNLOCK(self);
     gst_query_parse_latency(asked, &is_live, &least, &most);
     gst_query_set_latency(asked, is_live, least + own,
                           GST_CLOCK_TIME_IS_VALID(most) ? most + own : most);
@@ -612,5 +622,5 @@ static gboolean plugin_init(GstPlugin *plugin) {
 
 #define PACKAGE "feqyldan"
 GST_PLUGIN_DEFINE(GST_VERSION_MAJOR, GST_VERSION_MINOR, feqyldan,
-                  "Graphs of OpenVX functions, by the vision server Feqyldan", plugin_init, VERSION,
-                  "Apache 2.0", PACKAGE, "https://www.khronos.org/openvx/")
+                  "Graphs of OpenVX functions, by the vision server Feqyldan", plugin_init,
+                  PLUGIN_VERSION, "Apache 2.0", PACKAGE, "https://www.khronos.org/openvx/")

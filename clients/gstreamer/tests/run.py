@@ -4,7 +4,10 @@ Python package computes what the element's frames have to be. Needs GStreamer's 
 headers, GStreamer's Python package and NumPy (CONTRIBUTING.md names Debian's packages).
 """
 
+import contextlib
+import glob
 import os
+import re
 import shutil
 import signal
 import subprocess
@@ -153,9 +156,9 @@ class ElementTest(test_graph_files.FolderTest, ProgramTest):
         self.others = []
         self.others = self.servers()
 
-    def servers(self):
-        """The numbers of the servers that this process started for elements."""
-        run = subprocess.run(["ps", "--ppid", str(os.getpid()), "-o", "pid=,args="], check=True,
+    def servers(self, starter=os.getpid()):
+        """The numbers of the servers that a process started for elements."""
+        run = subprocess.run(["ps", "--ppid", str(starter), "-o", "pid=,args="], check=False,
                              stdout=subprocess.PIPE, text=True)
         return [int(line.split()[0]) for line in run.stdout.splitlines()
                 if "serve" in line and int(line.split()[0]) not in self.others]
@@ -538,19 +541,24 @@ class Streams(ElementTest):
             self.assertGreaterEqual(times[0], Gst.SECOND // 3 - 10)
 
     def test_the_latency_of_several_servers(self):
-        path = self.save("a.json", six, 64, 48)
+        """It is known when the element's message says that it has changed."""
+        path, query = self.save("a.json", six, 64, 48), Gst.Query.new_latency()
+
+        def note(_, message, pads, latencies):
+            if message.type == Gst.MessageType.LATENCY and message.src.name == "t":
+                for ask in (pads[0].query, pads[1].peer_query):
+                    self.assertTrue(ask(query))
+                    latencies.append(query.parse_latency()[1])
+            return Gst.BusSyncReply.PASS
         for servers, frames in ((1, 0), (4, 3)):
             line = Gst.parse_launch(
                 f"videotestsrc is-live=true ! {caps('GRAY8', 64, 48)} ! feqyldan name=t "
                 f"graph={path} servers={servers} ! fakesink")
-            line.set_state(Gst.State.PLAYING)
-            line.get_state(PATIENCE * Gst.SECOND)
-            query = Gst.Query.new_latency()
             pads = [line.get_by_name("t").get_static_pad(name) for name in ("src", "sink")]
             latencies = []
-            for ask in (pads[0].query, pads[1].peer_query):
-                self.assertTrue(ask(query))
-                latencies.append(query.parse_latency()[1])
+            line.get_bus().set_sync_handler(note, pads, latencies)
+            line.set_state(Gst.State.PLAYING)
+            line.get_state(PATIENCE * Gst.SECOND)
             line.set_state(Gst.State.NULL)
             self.assertEqual(latencies[0] - latencies[1], frames * Gst.SECOND // 30)
 
@@ -586,13 +594,76 @@ class Plugin(ElementTest):
         if shutil.which("valgrind") is None:
             self.skipTest("valgrind isn't installed")
         path = self.save("a.json", motion, 32, 24)
+        # GLib drops its table of names when it makes a larger one, and the names of all plugins of
+        # a machine may need that. So there is only this plugin.
+        environment = {
+            **os.environ, "G_SLICE": "always-malloc", "ORC_CODE": "backup",
+            "GST_PLUGIN_SYSTEM_PATH_1_0": self.folder, "GST_REGISTRY": self.path("registry")}
         run = subprocess.run(
             ["valgrind", "-q", "--error-exitcode=9", "--leak-check=full",
              "--errors-for-leak-kinds=definite", "--child-silent-after-fork=yes",
              self.harness(), f"feqyldan graph={path}"],
-            env={**os.environ, "G_SLICE": "always-malloc", "ORC_CODE": "backup"}, check=False,
-            stdout=subprocess.DEVNULL, stderr=subprocess.PIPE, text=True, timeout=5 * PATIENCE)
+            env=environment, check=False, stdout=subprocess.DEVNULL, stderr=subprocess.PIPE,
+            text=True, timeout=5 * PATIENCE)
         self.assertEqual(run.returncode, 0, run.stderr[-3000:])
+
+
+class Threads(ElementTest):
+    """The sanitizer of threads, on pipelines that one thread runs, one seeks and stops, and one
+    queries."""
+
+    program = ""
+
+    @classmethod
+    def setUpClass(cls):
+        super().setUpClass()
+        with open(os.path.join(HERE, "threads.c"), encoding="utf-8") as file:
+            wrapped = sorted(set(re.findall(r"__real_(\w+)", file.read())))
+        sources = [path for name in ("gstreamer/src", "c/src", "c/graph_files")
+                   for path in glob.glob(f"{ROOT}/clients/{name}/*.c")]
+        cls.program = os.path.join(folder, "threads")
+        run = subprocess.run(
+            ["cc", "-g", "-O1", "-fsanitize=thread", "-std=gnu11", "-D_POSIX_C_SOURCE=200809L",
+             '-DPLUGIN_VERSION="0"', f"-I{ROOT}/clients/c/include", os.path.join(HERE, "threads.c"),
+             *sources, "-o", cls.program, *(f"-Wl,--wrap={name}" for name in wrapped),
+             *c_tests.flags_of("gstreamer-video-1.0"), *c_tests.flags_of("json-glib-1.0"),
+             "-pthread", "-ldl"], stderr=subprocess.PIPE, text=True, check=False)
+        if "ltsan" in run.stderr:
+            raise unittest.SkipTest("cc has no sanitizer of threads")
+        assert run.returncode == 0, run.stderr
+
+    def start(self, *elements):
+        """Starts the program on a pipeline for each element."""
+        environment = {
+            **os.environ, "GST_PLUGIN_PATH": "", "GST_REGISTRY": self.path("registry"),
+            "TSAN_OPTIONS": "halt_on_error=1 ignore_noninstrumented_modules=1"}
+        return subprocess.Popen(
+            [self.program, *(f"videotestsrc num-buffers=60 ! {caps('GRAY8', 320, 240)} ! "
+                             f"feqyldan name=t {element} ! fakesink" for element in elements)],
+            stdout=subprocess.PIPE, stderr=subprocess.PIPE, text=True, env=environment)
+
+    def elements(self):
+        paths = [self.save(f"{make.__name__}.json", make, 320, 240)
+                 for make in (six, motion, measured)]
+        return [f"graph={path} servers={servers}" for path, servers in zip(paths, (3, 1, 2))]
+
+    def test_streams(self):
+        elements, library = self.elements(), c_tests.run.core("so")
+        if os.path.exists(library):
+            elements.append(f"{elements[0]} server=core")
+        with mock.patch.dict(os.environ, FEQYLDAN_CORE=library), self.start(*elements) as run:
+            self.assertEqual(run.communicate(timeout=5 * PATIENCE), ("", ""))
+        self.assertEqual(run.returncode, 0)
+
+    def test_killed_servers(self):
+        """A graph may fail to be built, if its new server is killed too: then there is an error."""
+        with self.start(*self.elements()) as run:
+            while run.poll() is None:
+                for server in self.servers(run.pid)[:1]:
+                    with contextlib.suppress(ProcessLookupError):
+                        os.kill(server, signal.SIGKILL)
+                time.sleep(0.05)
+            self.assertEqual((run.communicate()[1], run.returncode), ("", 0))
 
 
 if __name__ == "__main__":
