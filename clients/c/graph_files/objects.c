@@ -263,8 +263,8 @@ static gboolean make_from_file(feqyldan_graph_t *graph, const char *name, JsonOb
     guint format = greatest > G_MAXUINT8 ? 1 : 0;
     gsize bytes = BY_FORMAT[format].bytes, size = (gsize)(*width * *height) * bytes;
     if (start == 0 || length - (gsize)start < size)
-        return refuse(error, "%s isn't a whole PGM file (P5) with samples up to %d: convert it, or "
-                      "save the graph from Python, which stores samples in the graph file",
+        return refuse(error, "%s isn't a whole PGM file (P5) with samples up to %d: convert it to "
+                      "PGM, or save the graph from Python, which stores the samples in its file",
                       picture, G_MAXINT16);
     if (!check_size(graph, "\"file\"", *width, *height, error))
         return FALSE;

@@ -209,7 +209,10 @@ class EachFunction(test_graph_files.FolderTest, ProgramTest):
         image = {"kind": "image", "file": "a.png"}
         path = self.put("a.json", {"feqyldan": 1, "objects": {"a": image}, "nodes": []})
         vx.write_png(self.path("a.png"), [[9, 8]])
-        self.assertIn('object "a": a.png isn\'t a whole PGM file', lines_in_c(path)[0])
+        self.assertEqual(lines_in_c(path), [
+            f'{path}: object "a": a.png isn\'t a whole PGM file (P5) with samples up to 32767: '
+            "convert it to PGM, or save the graph from Python, which stores the samples in its "
+            "file"])
         for text in (b"P5 3 1 255\n12", b"P5 3 1", b"", b"P5 9000 1 255\n", b"P5 1 1 40000\n00"):
             with open(self.path("a.png"), "wb") as file:
                 file.write(text)
