@@ -104,7 +104,8 @@ def pixels_of(text: bytes, scale: bool) -> memoryview:
     if fault:
         raise WrongPicture(fault)
     numbers = _numbers_in(text, header)
-    greatest = _greatest(numbers)
+    # No sample of 8 bits is above 255, and to look at each takes seconds without NumPy.
+    greatest = 255 if header.maxval == 255 else _greatest(numbers)
     if greatest > header.maxval:
         raise WrongPicture(f"it has a sample of {greatest}, above its maxval {header.maxval}")
     if scale:

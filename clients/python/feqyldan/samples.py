@@ -393,6 +393,12 @@ def picture_of(reply: memoryview) -> Picture:
     return _array_of(reply[13:], Format(fmt), (height, width))
 
 
+def picture_from(samples: Samples) -> Picture:
+    """Returns a copy of samples as an array, in this machine's byte order."""
+    return _array_of(memoryview(bytearray(samples.content)), samples.fmt,
+                     (samples.height, samples.width))
+
+
 def place_in(out: Any, described: Size) -> Optional[memoryview]:
     """Returns the memory of an array that samples are read into; None if there are gaps between its
     rows. Raises BadPicture unless the array has the samples' shape and dtype, and can be written

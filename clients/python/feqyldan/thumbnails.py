@@ -2,9 +2,12 @@
 
 from __future__ import annotations
 
-from typing import Any, Sequence, Tuple
+import array
+from typing import Any, List, Sequence, Tuple
 
-from .samples import Format, Picture, Samples, numbers_of, numpy_module, samples_of
+from .samples import (Format, Picture, Readable, Samples, numbers_of, numpy_module, of_two_sides,
+                      picture_from, samples_of)
+from .whole import whole
 
 # Pixels of a thumbnail's longer side.
 SIDE = 168
@@ -13,12 +16,14 @@ SIDE = 168
 def thumbnail(picture: Any, side: int = SIDE, keeps_marks: bool = False) -> Picture:
     """
     Returns a small grey picture, of samples from 0 to 255, whose longer side has at most `side`
-    pixels. With NumPy each pixel is the mean of a square of samples, or with `keeps_marks` its
-    greatest sample, so that a single mark is still seen; without NumPy it is the square's first
-    sample. S16 and U32 samples are scaled: the least becomes 0, and the greatest 255.
+    pixels. Each pixel is the mean of a square of samples, or without NumPy its first sample. With
+    `keeps_marks` it is the greatest one, so that a single mark is still seen. S16 and U32 samples
+    are scaled: the least becomes 0, and the greatest 255. Raises BadPicture for what is no picture.
     """
-    height, width = picture.shape
-    step = max(1, -(-max(height, width) // side))
+    if whole(side, "the side of a thumbnail") < 1:
+        raise ValueError(f"the side of a thumbnail must be at least 1, not {side}")
+    picture = _in_two_sides(picture)
+    step = max(1, -(-max(picture.shape) // side))
     small = reduced(picture, step, keeps_marks)
     samples = samples_of(small)
     if samples.fmt == Format.U8:
@@ -32,12 +37,24 @@ def thumbnail(picture: Any, side: int = SIDE, keeps_marks: bool = False) -> Pict
     return grey
 
 
+def _in_two_sides(picture: Any) -> Any:
+    """Returns an image's samples, or a picture, as reduced() takes them."""
+    if isinstance(picture, Readable):
+        return picture.read()
+    numpy = numpy_module()
+    if numpy is not None and type(picture) is numpy.ndarray:
+        return of_two_sides(picture)
+    if isinstance(picture, memoryview) and picture.ndim == 2 and picture.c_contiguous:
+        return picture
+    return picture_from(samples_of(picture))
+
+
 def reduced(picture: Any, step: int, keeps_marks: bool = False) -> Picture:
     """Returns a picture of the same format with one sample for each square of `step` by `step`
-    samples: the mean, the greatest, or without NumPy the first."""
+    samples: the greatest, or the mean, which is the first without NumPy."""
     numpy = numpy_module()
     if numpy is None:
-        return _first_of_squares(picture, step)
+        return _of_squares(picture, step, keeps_marks)
     pixels = numpy.asarray(picture)
     if step == 1:
         return pixels  # type: ignore[no-any-return]
@@ -55,13 +72,29 @@ def reduced(picture: Any, step: int, keeps_marks: bool = False) -> Picture:
     return mean
 
 
-def _first_of_squares(picture: Any, step: int) -> Picture:
+def _of_squares(picture: Any, step: int, keeps_marks: bool) -> Picture:
     height, width = picture.shape
     flat = picture.cast("B").cast(picture.format)
-    rows = [flat[y * width : (y + 1) * width : step] for y in range(0, height, step)]
-    content = b"".join(row.tobytes() for row in rows)
-    view: Any = memoryview(content).cast(picture.format, (len(rows), len(rows[0])))
+    row_of = _greatest_of_squares if keeps_marks else _first_of_squares
+    rows = [row_of(flat[y * width : (y + step) * width], width, step)
+            for y in range(0, height, step)]
+    view: Any = memoryview(b"".join(rows)).cast(picture.format, (len(rows), -(-width // step)))
     return view  # type: ignore[no-any-return]
+
+
+def _first_of_squares(rows: memoryview, width: int, step: int) -> bytes:
+    return rows[:width:step].tobytes()
+
+
+def _greatest_of_squares(rows: memoryview, width: int, step: int) -> bytes:
+    content = rows.tobytes()
+    # Few squares of a picture have marks, and a comparison of bytes is fast.
+    if content == content[: rows.itemsize] * len(rows):
+        return _first_of_squares(rows, width, step)
+    lines = [rows[at : at + width] for at in range(0, len(rows), width)]
+    columns = [max(column) for column in zip(*lines)]
+    greatest: List[int] = [max(columns[x : x + step]) for x in range(0, width, step)]
+    return array.array(rows.format, greatest).tobytes()
 
 
 def greys(samples: Samples, valid: Tuple[int, int, int, int]) -> bytes:

@@ -13,7 +13,7 @@ import zlib
 from unittest import mock
 
 from program import ProgramTest, vx
-from feqyldan import files, samples
+from feqyldan import files, pgm, samples
 
 numpy = samples.numpy_module()
 ROWS = [[0, 10, 20], [30, 40, 255]]
@@ -161,6 +161,12 @@ class TestFiles(ProgramTest):
             self.write(text)
             with self.subTest(words), self.assertRaisesRegex(kind, f"picture.pgm: .*{words}"):
                 self.context.read_pgm(self.path)
+
+    def test_samples_of_8_bits_that_can_not_be_too_great(self):
+        """To look at each of them takes seconds for a large picture without NumPy."""
+        with mock.patch.object(pgm, "_greatest", side_effect=AssertionError):
+            pixels = pgm.pixels_of(b"P5 2 1 255 \x00\xff", scale=False)
+        self.assertEqual(pixels.tolist(), [[0, 255]])
 
     def test_maxvals(self):
         """Samples are as in the file, or scaled so that the maxval becomes 255."""

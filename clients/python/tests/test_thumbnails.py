@@ -1,6 +1,7 @@
 """Thumbnails, with and without NumPy; ranges of parameters."""
 
 import array
+import contextlib
 import unittest
 from unittest import mock
 
@@ -14,6 +15,12 @@ numpy = samples.numpy_module()
 
 def without_numpy():
     return mock.patch.object(thumbnails, "numpy_module", return_value=None)
+
+
+@contextlib.contextmanager
+def without_numpy_everywhere():
+    with without_numpy(), mock.patch.object(samples, "numpy_module", return_value=None):
+        yield
 
 
 def view(rows, letter):
@@ -37,6 +44,42 @@ class TestThumbnails(unittest.TestCase):
         pixels[10, 12] = 9
         self.assertEqual(vx.thumbnail(pixels, 4, keeps_marks=True).tolist(),
                          [[0, 0, 0, 0], [0, 0, 0, 0], [0, 0, 0, 9]])
+
+    def test_a_single_mark_stays(self):
+        for letter, mark in (("B", 255), ("h", 32767), ("I", 2**32 - 1)):
+            for width, height, x, y in ((7, 5, 6, 4), (7, 5, 1, 1), (6, 4, 3, 0), (1, 9, 0, 8)):
+                rows = [[0] * width for _ in range(height)]
+                rows[y][x] = mark
+                for way in (contextlib.nullcontext, without_numpy):
+                    with self.subTest(letter, at=(x, y), way=way), way():
+                        step = 3
+                        small = thumbnails.reduced(view(rows, letter), step, keeps_marks=True)
+                        self.assertEqual(small.tolist(), [
+                            [mark * ((column, row) == (x // step, y // step))
+                             for column in range(-(-width // step))]
+                            for row in range(-(-height // step))])
+
+    def test_what_is_no_picture(self):
+        for picture, words in ((None, "None is no picture"), ([[1, 2], [3]], "same length"),
+                               (7, "must be an array"), ("a.png", "a path is no picture"),
+                               (memoryview(bytes(24)).cast("B", (2, 3, 4)), "24 bytes")):
+            for way in (contextlib.nullcontext, without_numpy):
+                with self.subTest(picture), way(), self.assertRaisesRegex(vx.BadPicture, words):
+                    vx.thumbnail(picture)
+        for side, error in ((0, ValueError), (-1, ValueError), (1.5, TypeError)):
+            with self.assertRaisesRegex(error, "the side of a thumbnail must be "):
+                vx.thumbnail([[1]], side)
+
+    @unittest.skipUnless(numpy, "NumPy isn't installed")
+    def test_an_array_of_another_shape(self):
+        with self.assertRaisesRegex(vx.WrongPicture, "must have the shape"):
+            vx.thumbnail(numpy.zeros((3, 3, 3), numpy.uint8))
+
+    def test_rows_of_numbers(self):
+        for way in (contextlib.nullcontext, without_numpy_everywhere):
+            with way():
+                self.assertEqual(vx.thumbnail([[0, 1], [2, 9]], 1, keeps_marks=True).tolist(),
+                                 [[9]])
 
     def test_small_pictures_stay(self):
         for rows in ([[1, 2], [3, 4]], [[0]]):
@@ -63,6 +106,17 @@ class TestThumbnails(unittest.TestCase):
             by_array = thumbnails.greys(given, valid)
             with without_numpy():
                 self.assertEqual(thumbnails.greys(given, valid), by_array)
+
+
+class TestThumbnailsOfImages(ProgramTest):
+    def test_an_image(self):
+        for fmt in (vx.U8, vx.S16):
+            image = self.context.image(fmt, 4, 2)
+            image.write([[0, 0, 0, 0], [0, 0, 0, 255]])
+            # An image is read as a memoryview without NumPy.
+            for way in (contextlib.nullcontext, without_numpy_everywhere):
+                with self.subTest(fmt, way=way), way():
+                    self.assertEqual(vx.thumbnail(image, 2, keeps_marks=True).tolist(), [[0, 255]])
 
 
 class TestRanges(ProgramTest):

@@ -65,8 +65,10 @@ def marked(samples: Any) -> int:
     numpy = numpy_module()
     if numpy is not None:
         return int(numpy.count_nonzero(samples))
-    flat = samples.cast("B").cast(samples.format)
-    return sum(map(bool, flat))
+    content: memoryview = samples.cast("B")
+    if samples.itemsize == 1:
+        return len(content) - content.tobytes().count(0)
+    return sum(map(bool, content.cast(samples.format)))
 
 
 def part_of(samples: Any, part: Dict[str, Any], is_mask: bool) -> Tuple[List[int], bytes]:
