@@ -327,6 +327,34 @@ class TestPage(PageTest):
         self.assertEqual(page.contents, SCRATCHES)
         self.assertFalse(page.run("return studio.model.isModified"))
 
+    def test_the_buttons_stay_when_the_file_is_saved(self):
+        """A second click on Save isn't one on Save as."""
+        page = self.start(SCRATCHES)
+        place = "return document.getElementById('save').getBoundingClientRect().left"
+        saved = page.run(place)
+        self.assertFalse(page.find("#modified").is_displayed())
+        page.choose("marks")
+        page.keys("]")
+        page.until("return studio.model.isModified")
+        self.assertTrue(page.find("#modified").is_displayed())
+        self.assertEqual(page.run(place), saved)
+
+    def test_the_time_of_a_change_counts_from_its_beginning(self):
+        """The image of a new node is asked for after a first run. Both runs count."""
+        page = self.start(SCRATCHES)
+        page.choose("camera")
+        before = page.run("return studio.runs.latencies.length")
+        page.add("median3x3")
+        first, second = page.run("return studio.runs.latencies.slice(arguments[0])", before)
+        self.assertGreaterEqual(second["took"], first["took"] + second["call"])
+
+    def test_the_titles_of_a_picture(self):
+        page = self.start(SCRATCHES)
+        page.choose("good")
+        titles = page.run("return [...document.querySelectorAll('#panel h2')]"
+                          ".map(one => one.firstChild.textContent)")
+        self.assertEqual(titles, ["Picture", "Image"])
+
     def test_a_delay(self):
         page = self.start()
         page.choose("camera")

@@ -81,7 +81,7 @@ export class Panel {
     const told = studio.model.object(name)
     const base = studio.model.base(name)
     const remove = el('button', { textContent: 'Remove', title: 'Remove it (Delete)', onclick: () => studio.removeObject(base) })
-    const title = told.input ? 'Input' : told.kind === 'delay' ? 'Delay' : 'Image'
+    const title = told.input ? 'Input' : told.kind === 'delay' ? 'Delay' : told.file ? 'Picture' : 'Image'
     const part = section('', el('h2', {}, title, el('span', { className: 'spring' }), remove), ...studio.result.faultsOfObject(base).map(faultBox))
     if (told.kind === 'delay') {
       part.append(

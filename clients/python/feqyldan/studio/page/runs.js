@@ -40,8 +40,11 @@ export class Runs {
     const reply = await call('run', { contents: model.contents, at, has: result.has(), want: wanted.map(name => this.want(name)) })
     const came = performance.now()
     result.take(reply, wanted)
-    // What is shown may have changed with the graph.
-    if (studio.needed().some(name => !wanted.includes(name) && result.shown[name]?.kind === 'image')) this.isDue = true
+    // What is shown may have changed with the graph. The change isn't shown before the next run.
+    if (studio.needed().some(name => !wanted.includes(name) && result.shown[name]?.kind === 'image')) {
+      this.isDue = true
+      this.stamp ??= stamp
+    }
     studio.show()
     const drawn = performance.now()
     await painted()
