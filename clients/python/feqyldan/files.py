@@ -63,8 +63,7 @@ def _decoded(content: bytes) -> Any:
     """Returns the grey picture that OpenCV or PIL finds in the bytes of a file."""
     cv2, pil = _module("cv2"), _module("PIL.Image")
     if cv2 is None and pil is None:
-        raise ImportError("reading this needs OpenCV or PIL, and neither is installed: install "
-                          "one, or convert the file to PGM or .npy")
+        raise _absent("reading this", "convert the file to PGM")
     for begin, kind, is_whole in ((PNG, "PNG", is_whole_png), (JPEG, "JPEG", is_whole_jpeg)):
         if content.startswith(begin) and not is_whole(content):
             # OpenCV takes a JPEG file that is cut off, and PIL some PNG files.
@@ -111,6 +110,15 @@ def _module(name: str) -> Any:
         return importlib.import_module(name) if numpy_module() is not None else None
     except ImportError:
         return None
+
+
+def _absent(what: str, instead: str) -> ImportError:
+    """Returns the error for what takes NumPy and a package that reads and writes pictures."""
+    if numpy_module() is None:
+        return ImportError(f"{what} needs NumPy, and OpenCV or PIL, and NumPy isn't installed: "
+                           f"install both, or {instead}")
+    return ImportError(f"{what} needs OpenCV or PIL, and neither is installed: install one, or "
+                       f"{instead}")
 
 
 def _by_cv2(cv2: Any, content: bytes) -> Any:
@@ -177,8 +185,8 @@ def _encoded(ending: str, pixels: Any) -> bytes:
     can't hold the samples."""
     cv2, pil = _module("cv2"), _module("PIL.Image")
     if cv2 is None and pil is None:
-        raise ImportError(f"writing {ending or 'a file without an ending'} needs OpenCV or PIL, "
-                          "and neither is installed: install one, or write .pgm, .png or .npy")
+        raise _absent(f"writing {ending or 'a file without an ending'}",
+                      "write .pgm, .png or .npy")
     try:
         content = _cv2_file(cv2, ending, pixels) if cv2 is not None else (
             _pil_file(pil, ending, pixels))

@@ -617,6 +617,11 @@ class TestHelpers(FolderTest, ProgramTest):
                 self.context.load(self.path("wide.png"))
             with self.assertRaisesRegex(ImportError, "needs OpenCV or PIL"):
                 grey.save(self.path("a.jpg"))
+        # Without NumPy, to install PIL alone wouldn't help.
+        with mock.patch.object(files, "numpy_module", return_value=None):
+            for call in (lambda: self.context.load(self.path("wide.png")),
+                         lambda: grey.save(self.path("a.jpg"))):
+                self.assertRaisesRegex(ImportError, "NumPy isn't installed: install both", call)
 
     @unittest.skipUnless(numpy and (importlib.util.find_spec("cv2")
                                     or importlib.util.find_spec("scipy")), "no OpenCV, no SciPy")

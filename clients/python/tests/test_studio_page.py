@@ -202,8 +202,9 @@ class TestPage(PageTest):
         page.keys("]", "]", "}")
         self.assertEqual(page.contents["objects"]["limit"]["above"], before + 12)
         page.keys("[")
-        # An input's menu connects, a slider sets, and both are reached by Tab.
-        page.keys(RIGHT)
+        # An input's menu connects, a slider sets, and both are reached by P and Tab.
+        page.keys(RIGHT, "p")
+        self.assertEqual(page.run("return document.activeElement.id"), "p-input")
         page.find("#p-input").send_keys("difference", ENTER)
         page.idle()
         self.assertEqual(page.contents["nodes"][2]["input"], "difference")

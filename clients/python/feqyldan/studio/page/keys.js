@@ -9,6 +9,7 @@ const WORDS = {
   O: 'overlay on the input',
   C: 'show dark pictures brighter',
   R: 'make the image a result, or virtual',
+  P: 'go to the properties of what is chosen',
   Delete: 'remove the node',
   'Ctrl+Z, Ctrl+Shift+Z': 'undo, redo',
   'Ctrl+O, Ctrl+S, Ctrl+Shift+S': 'open, save, save as',
@@ -95,6 +96,7 @@ export class Keys {
       o: () => viewer.overlay.click(),
       c: () => viewer.contrast.click(),
       r: () => studio.toggleResult(),
+      p: () => byId('panel').querySelector('select, input')?.focus(),
       '?': () => byId('help').click()
     }
   }
