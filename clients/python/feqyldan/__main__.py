@@ -90,10 +90,9 @@ def arguments(words: Optional[Sequence[str]]) -> argparse.Namespace:
 
 def port_from(text: str) -> int:
     """Returns a port, for argparse."""
-    port = int(text)
-    if not 0 <= port <= 65535:
-        raise argparse.ArgumentTypeError(f"a port must be from 0 to 65535, not {port}")
-    return port
+    if not text.isdecimal() or int(text) > 65535:
+        raise argparse.ArgumentTypeError(f"a port must be from 0 to 65535, not {text}")
+    return int(text)
 
 
 def main(words: Optional[Sequence[str]] = None) -> int:

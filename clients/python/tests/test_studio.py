@@ -280,7 +280,8 @@ class TestCommand(StudioTest):
     """What `python3 -m feqyldan studio` refuses before it serves the page."""
 
     def refuses(self, words, *arguments):
-        with mock.patch("sys.stderr", new_callable=io.StringIO) as said:
+        with mock.patch("sys.stderr", new_callable=io.StringIO) as said, mock.patch(
+                "feqyldan.studio.web.Site.serve_forever", side_effect=AssertionError("it serves")):
             try:
                 status = main(["studio", "--no-browser", *arguments])
             except SystemExit as end:
@@ -293,10 +294,20 @@ class TestCommand(StudioTest):
         self.put("data.json", "{}")
         for words, arguments in (
                 ("a port must be from 0 to 65535, not 70000", ["--port", "70000"]),
+                ("a port must be from 0 to 65535, not http", ["--port", "http"]),
+                ("there is no folder .*/new: create it", [self.path("new/station.json")]),
                 ("empty has no picture", [self.file, self.path("empty")]),
                 ("no file matches .*none.png", [self.file, self.path("none.png")]),
                 ("this isn't a graph file", [self.path("data.json")])):
             self.refuses(words, *arguments)
+
+    @unittest.skipUnless(numpy_module(), "NumPy isn't installed")
+    def test_a_first_picture_of_no_grey_samples(self):
+        numpy, path = numpy_module(), self.path("part.npy")
+        for shape, kind, words in (((4, 5, 3), "uint8", r"not \(4, 5, 3\): make a grey one"),
+                                   ((4, 5), "float32", "must be uint8, int16 or uint32")):
+            numpy.save(path, numpy.zeros(shape, kind))
+            self.refuses(f"part.npy: .*{words}", self.file, path)
 
     def test_a_port_in_use(self):
         with socket.create_server(("127.0.0.1", 0)) as other:

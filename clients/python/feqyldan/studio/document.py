@@ -9,7 +9,8 @@ from ..files import load
 from ..graph_files import (
     VERSION, GraphFileError, Place, at_place, checked, files_in, graph_text, told_by)
 from ..json_files import GREATEST_FILE
-from ..storage import read_bytes, write_bytes
+from ..samples import Format, samples_of
+from ..storage import naming, read_bytes, write_bytes
 from .drafts import Blobs
 from .web import Refusal
 
@@ -23,6 +24,8 @@ class Document:
 
     def __init__(self, path: str, pictures: Sequence[str], blobs: Blobs) -> None:
         self.folder = os.path.dirname(os.path.abspath(path))
+        if not os.path.isdir(self.folder):
+            raise FileNotFoundError(f"{path}: there is no folder {self.folder}: create it first")
         self._blobs = blobs
         self._pictures = [os.path.relpath(os.path.abspath(picture), self.folder)
                           for picture in pictures]
@@ -115,14 +118,13 @@ def check_objects(path: str, contents: Dict[str, Any]) -> None:
 
 def new_contents(pictures: Sequence[str]) -> Dict[str, Any]:
     """Returns the contents of a new graph file, whose input has the size of the first picture."""
-    width, height = NEW_SIZE
-    fmt = "U8"
+    (width, height), fmt = NEW_SIZE, Format.U8
     if pictures:
         picture = load(pictures[0])
-        height, width = picture.shape
-        fmt = "U8" if picture.itemsize == 1 else "S16"
+        with naming(pictures[0]):
+            fmt, width, height, _ = samples_of(picture)
     return {"feqyldan": VERSION, "nodes": [], "objects": {"camera": {
-        "kind": "image", "format": fmt, "width": width, "height": height, "input": True}}}
+        "kind": "image", "format": str(fmt), "width": width, "height": height, "input": True}}}
 
 
 def content_of(path: str) -> Optional[bytes]:
