@@ -3,6 +3,7 @@
 from __future__ import annotations
 
 import logging
+import signal
 import socket
 import subprocess
 import tempfile
@@ -95,7 +96,9 @@ class Process:
         self._said.seek(0)
         said = self._said.read()[-SAID_BYTES:].decode(errors="replace").strip()
         where = " in the middle of a reply" if is_within_frame else ""
-        words = f"ended{where} with status {status}{': ' if said else ''}{said}"
+        # For example a machine without memory kills programs.
+        by = f" ({signal.strsignal(-status)})" if status < 0 else ""
+        words = f"ended{where} with status {status}{by}{': ' if said else ''}{said}"
         if not self._is_end_logged:
             self._is_end_logged = True
             LOG.log(logging.INFO if self._is_ending else logging.WARNING,

@@ -232,6 +232,8 @@ def _bytes_of(pixels: Any, numpy: Any) -> memoryview:
 
 def _hint_at(shape: Tuple[int, ...]) -> str:
     """Returns a hint for an array whose shape isn't that of a picture."""
+    if 0 in shape:
+        return ": it is empty, as a slice outside of an array is"
     if len(shape) == 3 and shape[0] == 1:
         return ": that is a batch of one picture, which is array[0]"
     if shape[2:] in ((3,), (4,)):

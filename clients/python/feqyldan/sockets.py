@@ -172,6 +172,10 @@ class SocketServer(Server):
             if isinstance(error, ConnectionRefusedError) and not is_socket(self._path):
                 raise OSError(errno.ENOTSOCK, "this isn't a socket: give the path of a door's or a "
                                               "broker's --socket", self._path) from None
+            if isinstance(error, (FileNotFoundError, ConnectionRefusedError)):
+                raise type(error)(error.errno, "no server listens at this path: start a door or a "
+                                               "broker, or give the path of its --socket",
+                                  self._path) from None
             if isinstance(error, OSError):
                 raise with_path(error, self._path) from None
             raise

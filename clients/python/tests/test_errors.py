@@ -283,7 +283,9 @@ class TestEnds(unittest.TestCase):
             vx.Server("/no/such/program")
         self.assertEqual((no.exception.errno, no.exception.filename),
                          (errno.ENOENT, "/no/such/program"))
-        self.assertRaisesRegex(FileNotFoundError, "/no/such/socket", vx.connect, "/no/such/socket")
+        nobody = "no server listens at this path: start a door or a broker, .*: '"
+        self.assertRaisesRegex(FileNotFoundError, f"{nobody}/no/such/socket", vx.connect,
+                               "/no/such/socket")
         # It isn't tried again.
         self.assertRaisesRegex(OSError, f"this isn't a socket: .*{__file__}", vx.connect, __file__,
                                retry=1e6)
@@ -300,7 +302,8 @@ class TestEnds(unittest.TestCase):
                 with listener.accept()[0]:
                     pass
             self.assertRaises(vx.ServerEnded, server.context)
-            self.assertRaisesRegex(ConnectionRefusedError, path, server.context)
+            self.assertRaisesRegex(ConnectionRefusedError, f"no server listens.*{path}",
+                                   server.context)
             os.unlink(path)
             self.assertRaisesRegex(FileNotFoundError, path, server.context)
 

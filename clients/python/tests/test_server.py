@@ -72,7 +72,7 @@ class TestServers(ProgramTest):
                 "INFO", "WARNING", "INFO", "INFO", "WARNING"), (
                 f"server started: {number}, {PROGRAM}", "refused: write 2 by 1 U8 samples to image",
                 f"server of {number} ended with status 0", f"server started: {number}",
-                f"server of {number} ended with status -9")):
+                rf"server of {number} ended with status -9 \(Killed\)")):
             self.assertEqual(record.levelname, level, record)
             self.assertRegex(record.getMessage(), words)
         self.assertEqual(len(log.records), 5)
