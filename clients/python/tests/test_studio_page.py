@@ -439,8 +439,17 @@ class TestPage(PageTest):
         columns, rows, step = page.run(part_of)
         self.assertGreater(step, 1)
         self.assertLess(columns * rows, 2e6)
+        page.add("threshold")
+        page.filled()
+        notes = ("return [...document.querySelectorAll('#panel p:not([hidden])')]"
+                 ".map(one => one.textContent).filter(words => words.startsWith('Of the part'))")
+        # Both histograms, of the threshold's input and of its output, are of squares.
+        words = f"Of the part that is shown, a value for each {step} × {step} samples."
+        self.assertEqual(page.run(notes), [words, words])
+        page.choose("camera")
         page.click("#one")
         page.until("return studio.result.fulls.get('camera').step === 1")
+        self.assertEqual(page.run(notes), ["Of the part that is shown."])
         columns, rows, step = page.run(part_of)
         self.assertLess(columns, width)
         sample = page.run("const full = studio.result.fulls.get('camera');"

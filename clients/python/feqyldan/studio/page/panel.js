@@ -171,16 +171,22 @@ export class Panel {
     if (!full) return
     if (full.fmt !== 'U8') limits.range = this.parameters.usedRange(limits.name)
     plotHistogram(limits.plot, full, limits.limit, limits.range)
+    setNote(limits.note, full)
   }
 
   refreshPlot (full) {
     const { canvas, ends, note } = this.plot
     plotHistogram(canvas, full, null, full.bounds)
     full.bounds.forEach((value, k) => { ends.children[k].textContent = value })
-    note.textContent = full.isWhole ? '' : `Of the part that is shown, every ${full.step === 1 ? '' : `${full.step}th `}sample.`
-    note.hidden = full.isWhole
+    setNote(note, full)
     setFacts(this.facts, factsOfImage(full))
   }
+}
+
+// Says what a histogram is of, if that isn't the whole image.
+function setNote (note, { isWhole, step }) {
+  note.hidden = isWhole
+  note.textContent = `Of the part that is shown${step === 1 ? '' : `, a value for each ${step} × ${step} samples`}.`
 }
 
 function factsOfImage ({ fmt, width, height, valid, histogram }) {

@@ -41,11 +41,12 @@ export class Parameters {
     const users = this.studio.model.nodes.filter(other => other.threshold === node.threshold).length
     const plot = el('canvas', { className: 'plot limits', ariaLabel: 'Histogram of the input with the limits' })
     plot.setAttribute('role', 'img')
-    this.limits = { plot, name: node.input, limit, range }
+    const note = el('p', { hidden: true })
+    this.limits = { plot, note, name: node.input, limit, range }
     this.dragLimits(plot, limit)
     const rows = [
       row('passes', controls.segments('passes', ['above', 'between'], limit.between ? 'between' : 'above', value => setKind(limit, value, range))),
-      plot, ticks(range), ...this.limitRows(limit, range),
+      plot, ticks(range), note, ...this.limitRows(limit, range),
       row('format', controls.menu('p-format', ['U8', 'S16'], limit.format, value => { limit.format = value })),
       row('writes', this.outputs(limit))]
     if (users > 1) rows.push(el('p', { textContent: `“${node.threshold}” is the threshold of ${users} nodes.` }))

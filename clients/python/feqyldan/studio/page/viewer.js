@@ -162,6 +162,8 @@ export class Viewer {
       try {
         this.studio.result.takePart(name, await call('part', { name, mask: this.studio.result.shown[name]?.mask, ...part }))
         this.draw()
+        // The histogram is of the part that is shown.
+        this.studio.panel.refresh()
       } catch (error) { this.studio.say(error.message, true) }
     }, PATIENCE)
   }
