@@ -19,7 +19,8 @@ class Closed(FeqyldanError, ValueError):
 class ServerEnded(FeqyldanError):
     """
     The server has ended, or has closed its connection, and won't answer any more. `status` is its
-    exit status, or None if it isn't known; `said` is the text that it wrote to standard error.
+    exit status, the negative number of the signal that killed it, or None if it isn't known; `said`
+    is the text that it wrote to standard error.
     """
 
     def __init__(self, words: str, status: Optional[int] = None, said: str = "") -> None:
