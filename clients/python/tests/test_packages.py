@@ -318,20 +318,36 @@ class TestPackages(unittest.TestCase):
 
     def test_the_removal_s_script_fails_nowhere(self):
         """It succeeds even if the folder is gone, or systemd refuses."""
-        for number, package in enumerate(self.debian[:3]):
-            self.runs_removal(package, os.path.join(self.folder, f"control{number}"))
+        for package in self.debian[:3]:
+            self.run_script(package, "exit 1", "prerm", "remove")
 
-    def runs_removal(self, package, folder):
-        self.run_there("dpkg-deb", "--control", package, folder)
+    def test_an_upgrade_reaches_the_new_connections_of_running_services(self):
+        """The door and the broker look up the server's program again."""
+        said = self.run_script(self.debian[0], 'echo "$*"', "postinst", "configure", "0.0.1")
+        for name in ("feqyldan-door", "feqyldan-broker"):
+            self.assertIn(f"reload {name}\n", said)
+        # Nothing is started.
+        said = self.run_script(self.debian[0], 'echo "$*"; [ "$1" = daemon-reload ]', "postinst",
+                               "configure", "0.0.1")
+        self.assertEqual(said, "daemon-reload\n--quiet is-active feqyldan-door\n"
+                               "--quiet is-active feqyldan-broker\n")
+
+    def run_script(self, package, systemctl, name, *words):
+        """Runs a maintainer's script of a package with a script in place of systemctl. Returns what
+        both say."""
+        folder = tempfile.mkdtemp(dir=self.folder)
+        self.run_there("dpkg-deb", "--control", package, os.path.join(folder, "control"))
         os.mkdir(os.path.join(folder, "bin"))
-        with open(os.path.join(folder, "bin", "systemctl"), "w", encoding="utf-8") as file:
-            file.write("#!/bin/sh\nexit 1\n")
-        os.chmod(os.path.join(folder, "bin", "systemctl"), 0o755)
-        with open(os.path.join(folder, "prerm"), encoding="utf-8") as file:
+        for command, text in (("systemctl", systemctl), ("systemd-sysusers", "exit 0")):
+            path = os.path.join(folder, "bin", command)
+            with open(path, "w", encoding="utf-8") as file:
+                file.write(f"#!/bin/sh\n{text}\n")
+            os.chmod(path, 0o755)
+        with open(os.path.join(folder, "control", name), encoding="utf-8") as file:
             script = file.read().replace("/run/systemd/system", "/").replace(
                 "/usr/lib/python3", "/no/such/folder")
-        self.environment["PATH"] = f"{folder}/bin:{self.environment['PATH']}"
-        self.run_there("/bin/sh", "-c", f"DPKG_ROOT=; {script}", "prerm", "remove")
+        return self.run_there("/bin/sh", "-c",
+                              f"PATH={folder}/bin:$PATH; DPKG_ROOT=; {script}", name, *words)
 
     @unittest.skipIf(os.geteuid(), "dpkg installs for root alone")
     def test_an_install_and_a_purge(self):
