@@ -14,7 +14,8 @@ import sys
 import tempfile
 import time
 import unittest
-from typing import Dict
+import unittest.mock
+from typing import Dict, List
 
 from broker_tools import (
     CLIENT, LATE, PACKAGE, PLAIN, PROGRAM, Broker, BrokerTest, Door, Program, all_of, children_of,
@@ -25,7 +26,8 @@ from feqyldan.door.program import TRIAL_SECONDS, chosen
 from feqyldan.service.descriptors import Descriptors
 from feqyldan.service.events import Events
 from feqyldan.service.lines import Unusable
-from feqyldan.service.visitors import Visitors
+from feqyldan.service.listener import listen_at
+from feqyldan.service.visitors import StatusSocket, Visitors
 from plain_server import EXIT, HOLD, MANY_BYTES, MISTAKE, WHO_ASKED
 
 needs_program = unittest.skipUnless(PROGRAM, "FEQYLDAN_PROGRAM doesn't name the server's program")
@@ -480,6 +482,26 @@ class Telling(DoorTest):
                 for handler, mask in watched.ready(LATE):
                     handler(mask)
             self.assertEqual(got.result(LATE), state)
+
+    def test_both_formats_are_of_one_report(self) -> None:
+        """A report takes time, and so is given to all for nine times as long."""
+        made: List[None] = []
+
+        def state() -> Dict[str, int]:
+            made.append(None)
+            return {"made": len(made)}
+
+        events, descriptors = Events(), Descriptors(True)
+        self.addCleanup(events.close)
+        with tempfile.TemporaryDirectory() as folder:
+            status = StatusSocket(listen_at(os.path.join(folder, "status"), 0o600), events,
+                                  descriptors, state, lambda state: str(state["made"]))
+            with unittest.mock.patch("time.process_time", side_effect=(0.0, LATE)):
+                self.assertEqual(status.answer(b"\n", False), b'{"made": 1}\n')
+            page = status.answer(b"GET /metrics HTTP/1.0\r\n", False)
+            status.close()
+        assert page is not None
+        self.assertEqual(page.partition(b"\r\n\r\n")[2], b"1")
 
     def test_prometheus_is_told_all_of_the_state(self) -> None:
         door = self.begin(tells_state=True)

@@ -6,7 +6,7 @@ import socket
 import struct
 import time
 from collections import Counter
-from typing import Any, Callable, Dict, List, Optional
+from typing import Any, Callable, Dict, List, NamedTuple, Optional
 
 from .. import wire
 from .descriptors import Descriptors
@@ -25,11 +25,11 @@ ACCEPT_PAUSE = 1.0
 # Connections to the status socket that wait to be accepted, and that are accepted before other
 # events have their turn. Few wait, so that those of a flood are soon gone, and an operator's turn
 # comes.
-WAITING, ACCEPTED_AT_ONCE = 64, 4
+WAITING, ACCEPTED_AT_ONCE = 64, 2
 # The longest first line of a question for the state, in bytes.
 LINE_BYTES = 4096
-# How much longer than the processor time for a text of the state the text is given to others too.
-# So all questions together take a tenth of the loop's time for it, at most.
+# How much longer than the processor time for a report of the state the report is given to others
+# too. So all questions together take a tenth of the loop's time for it, at most.
 REUSE = 9
 PAGE = "HTTP/1.0 {}\r\nContent-Type: {}\r\nContent-Length: {}\r\nConnection: close\r\n\r\n"
 
@@ -121,18 +121,28 @@ def turned_away(events: Events, descriptors: Descriptors) -> Visitors:
     return Visitors(events, descriptors, LEAST_FRAME, answer)
 
 
-class RecentText:
-    """A text of the state that is made again when it is too old (REUSE)."""
+class Report(NamedTuple):
+    """The state as JSON, and in Prometheus' text format."""
 
-    def __init__(self, make: Callable[[], str]) -> None:
-        self.make, self.text, self.until = make, "", 0.0
+    json: str
+    metrics: str
 
-    def get(self) -> str:
+
+class RecentReport:
+    """A report of the state that is made again when it is too old (REUSE)."""
+
+    def __init__(self, state: Callable[[], Dict[str, Any]],
+                 metrics: Callable[[Dict[str, Any]], str]) -> None:
+        self.state, self.metrics = state, metrics
+        self.report, self.until = Report("", ""), 0.0
+
+    def get(self) -> Report:
         if time.monotonic() >= self.until:
             began = time.process_time()
-            self.text = self.make()
+            state = self.state()
+            self.report = Report(json.dumps(state) + "\n", self.metrics(state))
             self.until = time.monotonic() + REUSE * (time.process_time() - began)
-        return self.text
+        return self.report
 
 
 class StatusSocket:
@@ -143,8 +153,7 @@ class StatusSocket:
                  state: Callable[[], Dict[str, Any]],
                  metrics: Callable[[Dict[str, Any]], str]) -> None:
         self.listener, self.events, self.descriptors = listener, events, descriptors
-        self.json = RecentText(lambda: json.dumps(state()) + "\n")
-        self.metrics = RecentText(lambda: metrics(state()))
+        self.recent = RecentReport(state, metrics)
         self.visitors = Visitors(events, descriptors, LINE_BYTES, self.answer)
         # When the next accept is tried, after the system had no resources for a connection.
         self.accepts_from: Optional[float] = None
@@ -177,16 +186,16 @@ class StatusSocket:
             return None
         words: List[bytes] = line.split()
         if words[:1] != [b"GET"]:
-            return self.json.get().encode()
+            return self.recent.get().json.encode()
         return self.page(words[1] if len(words) > 1 else b"/")
 
     def page(self, path: bytes) -> bytes:
         """Returns the HTTP answer to GET."""
         status, kind, body = "404 Not Found", "text/plain", "There are /status and /metrics.\n"
         if path == b"/metrics":
-            status, kind, body = "200 OK", "text/plain; version=0.0.4", self.metrics.get()
+            status, kind, body = "200 OK", "text/plain; version=0.0.4", self.recent.get().metrics
         elif path in (b"/", b"/status"):
-            status, kind, body = "200 OK", "application/json", self.json.get()
+            status, kind, body = "200 OK", "application/json", self.recent.get().json
         return PAGE.format(status, kind, len(body)).encode() + body.encode()
 
     def close(self) -> None:
