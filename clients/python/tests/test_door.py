@@ -22,7 +22,9 @@ from broker_tools import (
     files_of, plain, runs, success)
 import feqyldan as vx
 from feqyldan import program, wire
-from feqyldan.door.program import TRIAL_SECONDS, chosen
+from feqyldan.door.program import NICE, TRIAL_SECONDS, chosen
+from feqyldan.door.waiting import USERS, Waiting
+from feqyldan.service.admission import Owner
 from feqyldan.service.descriptors import Descriptors
 from feqyldan.service.events import Events
 from feqyldan.service.lines import Unusable
@@ -30,6 +32,20 @@ from feqyldan.service.listener import listen_at
 from feqyldan.service.visitors import StatusSocket, Visitors
 from plain_server import EXIT, HOLD, MANY_BYTES, MISTAKE, WHO_ASKED
 
+# A door that looks for no events while the file `pause` of a folder exists. It makes the file
+# `pauses` there.
+WITH_PAUSE = """
+import os, time
+from feqyldan.service.events import Events
+os.chdir({!r})
+ready = Events.ready
+def ready_after_pause(*words):
+    while os.path.exists("pause"):
+        open("pauses", "w").close()
+        time.sleep(0.01)
+    return ready(*words)
+Events.ready = ready_after_pause
+"""
 needs_program = unittest.skipUnless(PROGRAM, "FEQYLDAN_PROGRAM doesn't name the server's program")
 
 
@@ -134,22 +150,53 @@ class Ends(DoorTest):
         self.assertEqual(state["servers_ended"], 100)
 
     def test_one_that_has_ended_before_it_is_accepted_gets_no_server(self) -> None:
-        door = self.begin(tells_state=True)
+        """Nor is it turned away, although there is no free connection."""
+        door = self.begin("--connections", "1", tells_state=True)
+        asker = self.connect(door)
+        self.assertEqual(asker.ask(plain(1)), success(1))
         door.process.send_signal(signal.SIGSTOP)
         for _ in range(50):
             self.connect(door).sock.close()
         door.process.send_signal(signal.SIGCONT)
-        self.assertTrue(door.wait_for(lambda: door.state()["connections"]["accepted"] == 50))
-        self.assertEqual(door.state()["servers_ended"], 0)
+        self.assertTrue(door.wait_for(lambda: door.state()["connections"]["accepted"] == 51))
+        state = door.state()
+        self.assertEqual((state["connections"]["turned_away"], state["servers_ended"]), (0, 0))
 
-    def test_a_request_that_nobody_waits_for_is_ended_after_the_grace(self) -> None:
-        door = self.begin("--grace", "1", tells_state=True)
+    def test_a_request_that_nobody_waits_for_ends_with_its_connection(self) -> None:
+        door = self.begin("--grace", "1000", tells_state=True)
         gate, asker = self.gate(door), self.connect(door)
         asker.send(gate.frame)
         self.assertTrue(door.wait_for(gate.is_reached))
         asker.sock.close()
-        self.assertTrue(door.says("has gone, and its request takes longer than 1 s (--grace)"))
         self.assertTrue(self.has_nothing(door))
+        self.assertEqual((door.state()["servers_failed"], door.state()["servers_ended"]), (0, 1))
+
+    def test_both_may_end_at_the_same_time(self) -> None:
+        """The door finds out about the ends of a server and of its connection together."""
+        with tempfile.TemporaryDirectory() as folder:
+            door = self.begin(tells_state=True, prelude=WITH_PAUSE.format(folder))
+            asker = self.connect(door)
+            self.assertEqual(asker.ask(plain(1)), success(1))
+            server, pause = self.server_of(door), os.path.join(folder, "pause")
+            with open(pause, "w"):
+                # Wakes it up.
+                self.connect(door).sock.close()
+            self.assertTrue(door.wait_for(lambda: os.path.exists(f"{pause}s")))
+            os.kill(server, signal.SIGKILL)
+            self.assertTrue(door.wait_for(lambda: not runs(server)))
+            asker.sock.close()
+            os.unlink(pause)
+            self.assertTrue(self.has_nothing(door))
+            self.assertEqual(self.connect(door).ask(plain(1)), success(1))
+
+    def test_a_stopped_server_ends_with_its_connection(self) -> None:
+        door = self.begin("--grace", "1000", "--connections", "1", tells_state=True)
+        asker = self.connect(door)
+        self.assertEqual(asker.ask(plain(1)), success(1))
+        os.kill(self.server_of(door), signal.SIGSTOP)
+        asker.sock.close()
+        self.assertTrue(self.has_nothing(door))
+        self.assertEqual(self.connect(door).ask(plain(1)), success(1))
 
     def test_one_that_writes_no_more_but_reads_is_not_gone(self) -> None:
         door = self.begin("--grace", "1")
@@ -228,6 +275,48 @@ class Ends(DoorTest):
         self.assertTrue(again.wait_for(lambda: not runs(server)))
 
 
+class Turns(unittest.TestCase):
+    """The order in which servers are started."""
+
+    def setUp(self) -> None:
+        self.waiting = Waiting()
+        self.sock = socket.socket(socket.AF_UNIX)
+        self.addCleanup(self.sock.close)
+
+    def add(self, process: int, user: int) -> None:
+        # Users of a range count as its owner.
+        self.waiting.add(self.sock, Owner(process, 100_000 + process, user))
+
+    def take(self, count: int) -> List[int]:
+        return [self.waiting.take()[1].process for _ in range(count)]
+
+    def test_users_take_turns(self) -> None:
+        for process, user in enumerate((1, 1, 1, 1, 2, 3, 3)):
+            self.add(process, user)
+        self.assertEqual(self.take(3), [0, 4, 5])
+        # A user without a start goes first.
+        self.add(7, 4)
+        self.assertEqual(self.take(5), [7, 1, 6, 2, 3])
+        self.assertEqual(len(self.waiting), 0)
+
+    def test_the_last_start_longest_ago_goes_first(self) -> None:
+        for process in range(3):
+            self.add(process, process)
+            self.take(1)
+        for process in (2, 0, 1):
+            self.add(process, process)
+        self.assertEqual(self.take(3), [0, 1, 2])
+
+    def test_old_starts_are_forgotten(self) -> None:
+        for process in range(2 * USERS):
+            self.add(process, process)
+            self.take(1)
+        self.assertEqual(len(self.waiting.last), USERS)
+        for process in (2 * USERS - 1, 0):
+            self.add(process, process)
+        self.assertEqual(self.take(2), [0, 2 * USERS - 1])
+
+
 class Limits(DoorTest):
     """Connections and memory."""
 
@@ -285,9 +374,18 @@ class Limits(DoorTest):
             self.assertLessEqual(server["peak_memory_bytes"], 100_000_000)
 
     def test_servers_that_are_nice(self) -> None:
-        door = self.begin("--nice", "7", tells_state=True)
+        for words, nice in ((("--nice", "7"), 7), ((), 0)):
+            door = self.begin(*words, tells_state=True)
+            self.assertEqual(self.connect(door).ask(plain(1)), success(1))
+            self.assertEqual(os.getpriority(os.PRIO_PROCESS, self.server_of(door)), nice)
+
+    @unittest.skipIf(os.geteuid(), "root alone raises a priority")
+    def test_the_door_goes_before_its_servers(self) -> None:
+        door = self.begin()
         self.assertEqual(self.connect(door).ask(plain(1)), success(1))
-        self.assertEqual(os.getpriority(os.PRIO_PROCESS, self.server_of(door)), 7)
+        self.assertEqual(os.getpriority(os.PRIO_PROCESS, door.process.pid), NICE)
+        with open(f"/proc/{door.process.pid}/autogroup") as file:
+            self.assertEqual(file.read().split()[1:], ["nice", str(NICE)])
 
     @unittest.skipIf(os.geteuid(), "root alone starts servers as other users")
     def test_each_server_runs_as_its_connection_s_user(self) -> None:

@@ -88,6 +88,12 @@ while True:
     if len(held) > 500:
         del held[:250]
 """
+# Connects often, and keeps the connections.
+CONNECTS_OFTEN = """
+held = [connect() for _ in range(20)]
+print("done", flush=True)
+sys.stdin.read()
+"""
 # Connects once, and sends nothing.
 WAITS = """
 sock = connect()
@@ -146,6 +152,19 @@ class Users(Hostile):
             self.assertNotIn("ends because", door.words())
             door.process.terminate()
             self.assertEqual(door.process.wait(SOON), 0)
+
+    def test_another_user_s_connections_delay_nobody(self) -> None:
+        """The first server of a user is started after one of each other user, whoever connected
+        first."""
+        door = self.begin_for_all("--per-process", "64")
+        door.process.send_signal(signal.SIGSTOP)
+        self.assertEqual(self.line_of(self.as_user(USER, CONNECTS_OFTEN, door.path)), "done")
+        honest = self.connect(door)
+        door.process.send_signal(signal.SIGCONT)
+        self.assertEqual(honest.ask(plain(1)), success(1))
+        self.assertTrue(door.wait_for(lambda: len(door.state()["servers"]) == 21))
+        processes = [server["of_process"] for server in door.state()["servers"]]
+        self.assertEqual(processes.index(os.getpid()), 1)
 
     def test_a_traced_server_doesnt_hold_up_the_end(self) -> None:
         door = self.begin_for_all("--user-of-peer", command=["/bin/cat"])

@@ -18,6 +18,7 @@ from program import PROGRAM, needs_program, skip_module_in_process, vx
 from feqyldan.broker import command_line as broker
 from feqyldan.broker.loop import END_SECONDS
 from feqyldan.door import command_line as door
+from feqyldan.door.program import NICE
 from feqyldan.service.listener import STATUS_NAME
 
 skip_module_in_process("it is about the processes of systemd")
@@ -151,9 +152,15 @@ class Units(unittest.TestCase):
         *allowed, excluded = unit("feqyldan@.service")["SystemCallFilter"]
         names = {name for line in allowed for name in line.split()}
         for group in [name for name in names if name.startswith("@")]:
-            lines = self.analyze("syscall-filter", group).splitlines()
-            names.update(line.strip() for line in lines[1:])
+            names |= self.calls_of(group)
         return names - set(excluded[1:].split())
+
+    def calls_of(self, group: str) -> Set[str]:
+        """Returns the system calls of a group, and of the groups in it."""
+        names = {line.strip() for line in self.analyze("syscall-filter", group).splitlines()[1:]}
+        for each in [name for name in names if name.startswith("@")]:
+            names |= self.calls_of(each)
+        return names
 
     def test_what_they_start_ends_in_time(self) -> None:
         for name, module in SERVICES.items():
@@ -180,6 +187,16 @@ class Units(unittest.TestCase):
             self.assertEqual((sockets["SocketMode"], sockets["SocketGroup"]),
                              (["0660"], ["feqyldan"]))
             self.assertIn(f"{name}-status.socket", unit(f"{name}.service")["Requires"][0])
+
+    def test_the_door_goes_before_its_servers(self) -> None:
+        service = unit("feqyldan-door.service")
+        self.assertEqual((service["Nice"], service["CPUWeight"]), ([str(NICE)], ["100"]))
+
+    @unittest.skipUnless(shutil.which("systemd-analyze"), "systemd-analyze isn't there")
+    def test_the_door_may_call_what_it_needs(self) -> None:
+        allowed, excluded = unit("feqyldan-door.service")["SystemCallFilter"]
+        calls = self.calls_of(allowed) - self.calls_of(excluded[1:])
+        self.assertLessEqual({"setpriority", "prlimit64", "setsid", "execve"}, calls)
 
     def test_no_burst_stops_a_socket(self) -> None:
         for path in glob.glob(f"{DEPLOY}/*.socket"):

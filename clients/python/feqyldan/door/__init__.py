@@ -11,14 +11,14 @@ What connections can rely on, and how it is ensured:
 - The kernel isolates servers from each other, gives each its share of the processors, and counts
   what it uses. Whatever one program sends, leaves half sent or doesn't read affects only its own
   server.
-- When a connection ends, its server ends. If it is still working on a request, it is killed after
-  the grace.
+- When a connection ends, its server is killed, since nobody can read its replies any more.
 - A server that ends affects only its own connection. Nothing is started again: the program connects
   again.
 - The door's own end affects no connection: if it is killed, servers and programs go on.
 
 The door counts connections: all, those of a process and those of a user. It turns away those over a
-limit.
+limit. One server is started after another. The next one is for the user whose last start is the
+longest ago.
 """
 
 from .command_line import main

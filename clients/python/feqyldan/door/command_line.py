@@ -45,7 +45,8 @@ def parser() -> argparse.ArgumentParser:
         help="most bytes that the limits of all servers may add up to, or 'unlimited' (default: "
              "three quarters of the memory of the machine, or of the door's control group)")
     add("--nice", type=partial(number_from, 0, 19), default=0, metavar="N",
-        help="nice value of the servers, 0 to 19 (default: 0)")
+        help="nice value of the servers, 0 to 19 (default: 0). The door itself has -10 where the "
+             "system allows it")
     add("--user-of-peer", action="store_true",
         help="run each server as the user of its connection's process; needs root (default: as "
              "the door's user)")
@@ -62,8 +63,8 @@ def add_times(made: argparse.ArgumentParser) -> None:
         help="seconds after which a connection that sends nothing while its server waits for "
              "input, even within a frame, is closed (default: never)")
     add("--grace", type=seconds_from, default=options.GRACE, metavar="SECONDS",
-        help="seconds for pending requests after a connection has ended, or the door is told to "
-             f"stop; then the server is killed (default: {options.GRACE:g})")
+        help="seconds for pending requests after the door is told to stop; then their servers are "
+             f"killed (default: {options.GRACE:g})")
 
 
 def plan_of(told: argparse.Namespace) -> Plan:

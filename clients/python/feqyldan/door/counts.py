@@ -1,5 +1,6 @@
 """The door's counts, and how it reports them."""
 
+import signal
 from typing import Any, Dict, Tuple
 
 from ..service.admission import Accepted
@@ -13,6 +14,8 @@ MEANINGS = {
 # The exit statuses of servers whose connection ended: by its end between two frames, or while the
 # server wrote a reply.
 USUAL = (0, 4)
+# The same after the connection ended: then the door kills the server, perhaps within a frame.
+USUAL_ENDS = (*USUAL, 3, -signal.SIGKILL)
 
 
 class Counts(Accepted):

@@ -13,9 +13,10 @@ from ..service.front import Front
 from ..service.lines import Unusable
 from ..service.listener import Listener
 from ..service.signals import Signals
-from .counts import USUAL, Counts, as_metrics, meaning_of
-from .program import Failures, Plan, Program, Trial
+from .counts import USUAL, USUAL_ENDS, Counts, as_metrics, meaning_of
+from .program import NICE, Failures, Plan, Program, Trial, set_nice
 from .server import Server
+from .waiting import Waiting
 
 # Seconds between two checks of the clock.
 LOOK_SECONDS = 1.0
@@ -26,8 +27,8 @@ KILL_SECONDS, KILL_LOOKS = 2.0, 0.01
 
 class Limits(NamedTuple):
     """The limits of the door. Numbers of connections at the same time: in all, of one process, of
-    one user. Seconds: for pending requests after a connection or the door ends, and between two
-    reports of the counts."""
+    one user. Seconds: for pending requests after the door is told to end, and between two reports
+    of the counts."""
 
     connections: int
     per_process: int
@@ -46,6 +47,9 @@ def has_ended(sock: socket.socket) -> bool:
 class Door(Front):
     """The door: its listening socket, and the servers, each with its connection."""
 
+    # Accepting one takes a fiftieth of the time of a start. So the users' turns are soon known.
+    accepted_at_once = 32
+
     def __init__(self, listener: Listener, status: Optional[Listener], program: Program, plan: Plan,
                  limits: Limits) -> None:
         self.plan, self.limits, self.counts = plan, limits, Counts()
@@ -53,7 +57,8 @@ class Door(Front):
         self.program = program
         self.trial: Optional[Trial] = None
         self.failures = Failures()
-        # The servers by their process numbers.
+        # The connections without a server so far, and the servers by their process numbers.
+        self.waiting = Waiting()
         self.servers: Dict[int, Server] = {}
         super().__init__("door", listener, status, self.counts, limits, as_metrics)
         self.looked_at = self.now
@@ -69,6 +74,7 @@ class Door(Front):
         can't be started."""
         try:
             self.try_first()
+            set_nice(NICE)
             with self.signals:
                 memory = "" if self.plan.memory is None else f", of {self.plan.memory} bytes each"
                 self.lines.say(f"listening at {self.listener.path}, with servers of "
@@ -80,6 +86,8 @@ class Door(Front):
                     self.now = time.monotonic()
                     for handler, mask in ready:
                         handler(mask)
+                    if self.waiting:
+                        self.start_next()
                     self.look_at_clock()
                 self.kill_all()
         finally:
@@ -101,9 +109,10 @@ class Door(Front):
         """Returns the seconds until the clock must be checked; None if nothing has a deadline."""
         if self.stops_at is not None:
             return max(0.0, min(LOOK_SECONDS, self.stops_at - self.now))
+        if self.waiting:
+            return 0.0
         is_quiet = not (self.status or self.admission.turned_away.present or self.trial
-                        or self.descriptors.left
-                        or any(server.left_at is not None for server in self.servers.values()))
+                        or self.descriptors.left)
         may_sleep = is_quiet and self.is_listening and not self.has_news()
         return None if may_sleep and self.manager.pause is None else LOOK_SECONDS
 
@@ -112,8 +121,13 @@ class Door(Front):
     def may_listen(self) -> bool:
         return self.stops_at is None
 
+    @property
+    def open(self) -> int:
+        """Returns how many connections have a server or wait for one."""
+        return len(self.servers) + len(self.waiting)
+
     def reason_against(self, owner: Owner) -> Optional[str]:
-        count, memory, total = len(self.servers), self.plan.memory, self.plan.total
+        count, memory, total = self.open, self.plan.memory, self.plan.total
         if count >= self.limits.connections:
             return f"all have {count} connections, the limit (--connections)"
         if memory is not None and total is not None and (count + 1) * memory > total:
@@ -121,26 +135,44 @@ class Door(Front):
                     f"{total} (--total-memory)")
         return self.admission.reason_against(owner)
 
-    def begin(self, sock: socket.socket, owner: Owner) -> None:
-        """Starts the server of a connection, and watches the connection only for its end. A
-        connection that has already ended gets no server."""
+    def admit(self, sock: socket.socket) -> None:
+        """Admits or turns away a new connection. One that has already ended gets neither."""
         if has_ended(sock):
             self.counts.accepted += 1
+            self.descriptors.close(sock)
+        else:
+            super().admit(sock)
+
+    def begin(self, sock: socket.socket, owner: Owner) -> None:
+        """Lets a connection wait for its server."""
+        self.admission.let_in(owner)
+        self.waiting.add(sock, owner)
+
+    def start_next(self) -> None:
+        """Starts the server of the connection whose turn it is, and watches the connection only
+        for its end. A connection that has ended meanwhile gets no server."""
+        sock, owner = self.waiting.take()
+        if has_ended(sock):
+            self.admission.let_out(owner)
             self.descriptors.close(sock)
             return
         try:
             server = Server(sock, owner, self.program, self.plan, self.failures, self.now)
         except (OSError, ValueError) as error:
+            self.admission.let_out(owner)
             self.admission.turn_away(sock, owner, f"no server could be started: {error}")
             return
-        self.admission.let_in(owner)
         self.servers[server.process] = server
         self.events.watch_end(sock.fileno(), partial(self.leave, server))
 
     def leave(self, server: Server, _mask: int) -> None:
-        """Handles the end of a connection: its server has the seconds of --grace to end."""
-        self.events.forget(server.sock.fileno())
-        server.left_at = self.now
+        """Handles the end of a connection: nobody can read a reply any more, so its server is
+        killed, even if its user has stopped it."""
+        # The server's own end may come with the same events, and be handled before.
+        if self.servers.get(server.process) is server:
+            self.events.forget(server.sock.fileno())
+            server.has_left = True
+            os.kill(server.process, signal.SIGKILL)
 
     # ---- servers that end
 
@@ -173,21 +205,13 @@ class Door(Front):
             return
         self.descriptors.close(server.sock)
         self.counts.ended += 1
-        if status not in USUAL:
+        if status not in (USUAL_ENDS if server.has_left else USUAL):
             self.counts.failed += 1
             self.lines.say(f"{server} {meaning_of(status)}")
 
     def kill(self, server: Server, why: str) -> None:
         self.lines.say(f"{server} is killed: {why}")
         os.kill(server.process, signal.SIGKILL)
-
-    def end_left(self) -> None:
-        """Kills the servers that still run --grace seconds after their connections ended."""
-        for server in self.servers.values():
-            if server.left_at is not None and self.now > server.left_at + self.limits.grace:
-                server.left_at = None
-                self.kill(server, f"{server.owner} has gone, and its request takes longer than "
-                                  f"{self.limits.grace:g} s (--grace)")
 
     # ---- the clock, and the end
 
@@ -197,18 +221,17 @@ class Door(Front):
         self.looked_at = self.now
         self.manager.is_alive()
         self.bury()
-        self.end_left()
         if self.trial is not None and self.now > self.trial.until:
             os.kill(self.trial.process, signal.SIGKILL)
             self.end_trial(None, None)
         self.end_late_visitors()
-        self.report(len(self.servers))
+        self.report(self.open)
 
     def state(self) -> Dict[str, Any]:
         counts = self.counts
         return {
             "uptime_seconds": round(self.now - self.began_at, 3), "program": self.program.words[0],
-            "connections": {"open": len(self.servers), "accepted": counts.accepted,
+            "connections": {"open": self.open, "accepted": counts.accepted,
                             "turned_away": counts.turned_away},
             "servers_ended": counts.ended, "servers_failed": counts.failed,
             "processor_seconds": round(counts.processor_seconds, 6),
@@ -256,10 +279,13 @@ class Door(Front):
         self.lines.say(f"keeps {self.program.words[0]} after SIGHUP: {reason}")
 
     def stop(self) -> None:
-        """Accepts no more connections, and closes the servers' inputs."""
+        """Accepts no more connections, starts the servers of those that wait, and closes the
+        servers' inputs."""
         self.stops_at = self.now + self.limits.grace
         self.stop_trial()
         self.stop_listening()
+        while self.waiting:
+            self.start_next()
         for server in self.servers.values():
             server.end_input()
 
@@ -267,7 +293,8 @@ class Door(Front):
         why = ("the door was told twice to end" if self.was_told_twice else
                f"its request takes longer than {self.limits.grace:g} s (--grace)")
         for server in self.servers.values():
-            self.kill(server, why)
+            if not server.has_left:
+                self.kill(server, why)
         until = time.monotonic() + KILL_SECONDS
         while self.servers and time.monotonic() < until:
             time.sleep(KILL_LOOKS)

@@ -21,8 +21,14 @@ PROGRAMS = os.path.join("..", "lib", "feqyldan")
 NOT_STARTED = 126
 # The environment of a server that runs as another user. That user can read it.
 CLEAN = {"PATH": os.defpath}
-# The sizes of objects whose memory is used again by the calls that start the program.
+# The nice value of the door. It and the processes that become servers work little, and however many
+# servers work, each new connection waits for them.
+NICE = -10
+# The sizes of objects whose memory is used again by the calls that start the program. Below a limit
+# that is less than what this process has, the system gives no more, and the last calls need some.
 SPARE_SIZES = [65_536] + [450] * 600
+# More bytes than the door ever has.
+MORE_MEMORY = 2**28
 
 
 class Plan(NamedTuple):
@@ -129,20 +135,21 @@ def become(wanted: Program, stream: int, plan: Plan, peer: Optional[Peer],
            failures: Failures) -> None:
     """Makes this process the program. All limits hold before it runs, and before a user can reach
     the process."""
-    # In a session of its own, so that a terminal that ends the door doesn't end it. Its messages
-    # aren't needed: its status says the same.
-    os.setsid()
+    # Its messages aren't needed: its status says the same.
     null = os.open(os.devnull, os.O_WRONLY)
     for descriptor, source in enumerate((stream, stream, null)):
         os.dup2(source, descriptor)
     close_all_but((wanted.file.fileno(), failures.writer.fileno()))
     target, environment = wanted.target, dict(os.environ) if peer is None else CLEAN
-    make_nice(plan.nice)
-    # Below a limit that is less than what this process has, the system gives no more memory, and
-    # the last calls need some. Python and the C library keep what these objects had.
-    spare = [bytes(size) for size in SPARE_SIZES]
+    # Python and the C library keep the memory of these objects.
+    needs_spare = plan.memory is not None and plan.memory < MORE_MEMORY
+    spare = [bytes(size) for size in SPARE_SIZES if needs_spare]
     limit_memory(0, plan.memory)
     del spare[:-1]
+    # In a session of its own, so that a terminal that ends the door doesn't end it. Up to here it
+    # has the priority of the door.
+    os.setsid()
+    set_nice(plan.nice)
     if peer is not None:
         os.setgroups([])
         os.setgid(peer.group)
@@ -150,12 +157,13 @@ def become(wanted: Program, stream: int, plan: Plan, peer: Optional[Peer],
     os.execve(target, wanted.words, environment)
 
 
-def make_nice(value: int) -> None:
-    """Raises the nice value of this process."""
-    if value:
-        with contextlib.suppress(OSError):
-            os.setpriority(os.PRIO_PROCESS, 0, value)
-            # The scheduler may have a separate nice value for the session (autogroup).
+def set_nice(value: int) -> None:
+    """Sets the nice value of this process, as far as the system allows it."""
+    with contextlib.suppress(OSError):
+        os.setpriority(os.PRIO_PROCESS, 0, value)
+        # The scheduler may have a separate nice value for the session (autogroup). It begins with
+        # 0, and isn't this process's business in the session of another one.
+        if value and os.getsid(0) == os.getpid():
             with open("/proc/self/autogroup", "w") as file:
                 file.write(str(value))
 

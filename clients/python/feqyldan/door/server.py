@@ -4,7 +4,7 @@ import contextlib
 import os
 import socket
 import struct
-from typing import Any, Dict, Optional, Tuple
+from typing import Any, Dict, Tuple
 
 from ..service.admission import Owner
 from ..service.metrics import memory_of
@@ -29,8 +29,8 @@ class Server:
     def __init__(self, sock: socket.socket, owner: Owner, program: Program, plan: Plan,
                  failures: Failures, now: float) -> None:
         self.sock, self.owner, self.began_at = sock, owner, now
-        # When the program at the other end left; None while it is there.
-        self.left_at: Optional[float] = None
+        # Whether the program at the other end has left.
+        self.has_left = False
         sock.setblocking(True)
         sock.setsockopt(socket.SOL_SOCKET, socket.SO_SNDBUF, SEND_BYTES)
         set_time(sock, socket.SO_SNDTIMEO, plan.patience)

@@ -1,5 +1,6 @@
 """Admission: limits on the connections of each process and of each user."""
 
+import contextlib
 import socket
 from collections import Counter
 from typing import NamedTuple, Optional, Set, Tuple
@@ -11,9 +12,8 @@ from .listener import Listener
 from .peers import Ranges, peer_of
 from .visitors import turned_away
 
-# Connections accepted before other events have their turn; and the seconds until the next try after
-# the system had no resources for a connection.
-ACCEPTED_AT_ONCE, ACCEPT_PAUSE = 4, 1.0
+# The seconds until the next try after the system had no resources for a connection.
+ACCEPT_PAUSE = 1.0
 # Connections that wait to be accepted. Further ones wait in connect(), and get their turns one by
 # one. So a program that connects again and again delays another one by this many connections.
 WAITING = 128
@@ -59,15 +59,16 @@ class Admission:
         self.told: Set[Owner] = set()
         self.turned_away = turned_away(events, descriptors)
 
-    def accept(self, listener: Listener) -> Optional[Tuple[socket.socket, Owner]]:
+    def accept(self, listener: Listener) -> Optional[socket.socket]:
         """Accepts the next connection; None if nobody waits. Raises OSError if the system has no
         resources for it."""
-        try:
-            sock = self.descriptors.accept(listener.sock)
-        except BlockingIOError:
-            return None
+        with contextlib.suppress(BlockingIOError):
+            return self.descriptors.accept(listener.sock)
+        return None
+
+    def owner_of(self, sock: socket.socket) -> Owner:
         peer = peer_of(sock)
-        return sock, Owner(peer.process, peer.user, self.ranges.owner_of(peer.user))
+        return Owner(peer.process, peer.user, self.ranges.owner_of(peer.user))
 
     def reason_against(self, owner: Owner) -> Optional[str]:
         """Returns in words why a process gets no connection; None if it gets one."""

@@ -5,7 +5,7 @@ import socket
 import time
 from typing import Any, Callable, Dict, Optional
 
-from .admission import ACCEPT_PAUSE, ACCEPTED_AT_ONCE, WAITING, Accepted, Admission, Owner
+from .admission import ACCEPT_PAUSE, WAITING, Accepted, Admission, Owner
 from .descriptors import Descriptors
 from .events import READ, Events
 from .lines import Lines
@@ -16,6 +16,9 @@ from .visitors import StatusSocket
 
 class Front:
     """The base class of the door and the broker, which define the methods at the end."""
+
+    # Connections accepted before other events have their turn.
+    accepted_at_once = 4
 
     def __init__(self, name: str, listener: Listener, status: Optional[Listener], counts: Accepted,
                  limits: Any, as_metrics: Callable[[Dict[str, Any]], str]) -> None:
@@ -45,23 +48,28 @@ class Front:
             self.events.watch(self.listener.sock.fileno(), READ if wanted else 0, self.accept)
 
     def accept(self, _mask: int) -> None:
-        for _ in range(ACCEPTED_AT_ONCE if self.is_listening else 0):
+        for _ in range(self.accepted_at_once if self.is_listening else 0):
             if not self.may_listen():
                 return
             try:
-                newcomer = self.admission.accept(self.listener)
+                sock = self.admission.accept(self.listener)
             except OSError as error:
                 self.lines.say(f"can't accept a connection: {error}; tries again in "
                                f"{ACCEPT_PAUSE:g} s")
                 self.accepts_from = self.now + ACCEPT_PAUSE
                 return
-            if newcomer is None:
+            if sock is None:
                 return
-            reason = self.reason_against(newcomer[1])
-            if reason is None:
-                self.begin(*newcomer)
-            else:
-                self.admission.turn_away(*newcomer, reason)
+            self.admit(sock)
+
+    def admit(self, sock: socket.socket) -> None:
+        """Admits or turns away a new connection."""
+        owner = self.admission.owner_of(sock)
+        reason = self.reason_against(owner)
+        if reason is None:
+            self.begin(sock, owner)
+        else:
+            self.admission.turn_away(sock, owner, reason)
 
     # ---- the clock, and the end
 
