@@ -24,11 +24,11 @@ class Handle(ctypes.Structure):
 
 def find() -> Optional[str]:
     """Returns the path of the library: the value of FEQYLDAN_CORE, else the one inside this
-    package, else the one built in this checkout; None if there is none. Raises ProgramNotFound if
-    the variable names no file."""
+    package, else the one built in this checkout; None if there is none. The value may be a name
+    that the dynamic linker finds. Raises ProgramNotFound if it is a path without a file."""
     told = os.environ.get(VARIABLE)
     if told:
-        if not os.path.isfile(told):
+        if "/" in told and not os.path.isfile(told):
             raise ProgramNotFound(f"{VARIABLE} is {told}, and there is no such file: set it to "
                                   "the path of libfeqyldan-core.so, or unset it")
         return told
@@ -37,9 +37,9 @@ def find() -> Optional[str]:
 
 @lru_cache(maxsize=None)
 def load(path: str) -> Any:
-    """Returns the library at a path. Raises ProgramNotFound if it isn't one."""
+    """Returns the library at a path, or of a name. Raises ProgramNotFound if there is none."""
     try:
-        library = ctypes.CDLL(os.path.abspath(path))
+        library = ctypes.CDLL(os.path.abspath(path) if os.path.isfile(path) else path)
         library.feqyldan_open.argtypes = ctypes.c_uint64, ctypes.c_uint64, ctypes.c_void_p
         library.feqyldan_connect.argtypes = ctypes.c_void_p, ctypes.c_void_p
         library.feqyldan_serve.argtypes = (

@@ -1,5 +1,5 @@
-"""Common tools of the broker's tests: a running broker, connections to it, and frames of the plain
-server (plain_server.py)."""
+"""Common tools of the tests of the broker and the door: one that runs, connections to it, and
+frames of the plain server (plain_server.py, or plain_library.py in the broker)."""
 
 import contextlib
 import json
@@ -19,13 +19,28 @@ PACKAGE = os.path.join(HERE, "..")
 sys.path[:0] = [HERE, PACKAGE, os.path.join(HERE, "..", "..", "..", "tools")]
 
 import feqyldan as vx  # noqa: E402
-from feqyldan import wire  # noqa: E402
+from feqyldan import core, wire  # noqa: E402
 from plain_server import HOLD, WHO_ASKED  # noqa: E402
 
 if os.environ.get("FEQYLDAN_CORE"):
-    raise unittest.SkipTest("FEQYLDAN_CORE is set: a door and a broker start processes")
+    raise unittest.SkipTest("FEQYLDAN_CORE is set: a door and a broker have servers of their own")
 PROGRAM = os.environ.get("FEQYLDAN_PROGRAM")
+
+
+def found_library() -> Optional[str]:
+    """Returns the path of the library that the package finds, or of the one next to the program."""
+    home, name = os.path.split(os.path.realpath(PROGRAM or ""))
+    beside = os.path.join(home, f"libfeqyldan-core-{name.partition('-')[2] or 'default'}.so")
+    return core.find() or (beside if os.path.isfile(beside) else None)
+
+
+# The library of a broker with the vision server.
+LIBRARY = found_library()
+needs_library = unittest.skipUnless(LIBRARY, "libfeqyldan-core.so is neither in this checkout nor "
+                                             "next to the program of FEQYLDAN_PROGRAM")
 PLAIN = [sys.executable, os.path.join(HERE, "plain_server.py"), "serve"]
+# The command of a broker with the library, which has no words for it.
+REAL: List[str] = []
 # Seconds after which a test gives up waiting, even on a slow or busy machine.
 LATE = 60.0
 # The client number that programs send, unless a test says otherwise.
@@ -163,6 +178,11 @@ class Gate:
 
 # Makes sockets accept descriptors, as on a Linux before 6.16.
 WITHOUT_REFUSAL = "from feqyldan.service import descriptors; descriptors.SO_PASSRIGHTS = 9999"
+# Puts the stand-in for the library into a broker.
+WITH_PLAIN_LIBRARY = f"import sys; sys.path.insert(0, {HERE!r})\n" """
+import plain_library
+plain_library.install()
+"""
 # Runs a module after other code.
 RUN_MODULE = """
 import runpy, sys
@@ -171,11 +191,21 @@ runpy.run_module(sys.argv.pop(1), run_name="__main__", alter_sys=True)
 
 
 class Broker:
-    """A running broker in a folder of its own. It has one server by default, or as many as the
-    broker chooses if `servers` is None. The words `before` come before its command, and the Python
-    code `prelude` runs before its module."""
+    """A running broker in a folder of its own, with the stand-in for the library unless `command`
+    says otherwise. It has one server by default, or as many as the broker chooses if `servers` is
+    None. The words `before` come before its command, and the Python code `prelude` runs before its
+    module."""
 
     module = "feqyldan.broker"
+
+    def words_of(self, command: Optional[List[str]]) -> List[str]:
+        """Returns the words by which the server is given."""
+        return []
+
+    def prelude_of(self, command: Optional[List[str]]) -> str:
+        if command is not None and LIBRARY is None:
+            raise unittest.SkipTest("there is no libfeqyldan-core.so for the broker")
+        return WITH_PLAIN_LIBRARY if command is None else ""
 
     def __init__(self, *options: str, command: Optional[List[str]] = None,
                  path: Optional[str] = None,
@@ -186,22 +216,23 @@ class Broker:
         self.status_path = os.path.join(self.folder.name, "status")
         if tells_state:
             options = ("--status", self.status_path, *options)
-        self.path = path or os.path.join(self.folder.name, "socket")
+        self.path = os.path.join(self.folder.name, "socket") if path is None else path
         self.log = open(os.path.join(self.folder.name, "log"), "w+")
         if servers is not None:
             options = ("--servers", servers, *options)
+        prelude = self.prelude_of(command) + prelude
         if not refuses_descriptors:
             prelude += WITHOUT_REFUSAL
         run = ["-c", f"{prelude}{RUN_MODULE}"] if prelude else ["-m"]
         words = [*before, sys.executable, *run, self.module, "--socket", self.path,
-                 "--per-process", "64", *options, "--"]
+                 "--per-process", "64", *options, *self.words_of(command)]
         paths = [PACKAGE, *filter(None, [os.environ.get("PYTHONPATH")])]
         environment = {**os.environ, "PYTHONPATH": os.pathsep.join(paths),
-                       "PYTHONDONTWRITEBYTECODE": "1",
+                       "PYTHONDONTWRITEBYTECODE": "1", "FEQYLDAN_CORE": LIBRARY or "",
                        **(environment or {})}
         # In a process group of its own, as a shell starts a command.
-        self.process = subprocess.Popen([*words, *(command or PLAIN)], stderr=stderr or self.log,
-                                        env=environment, start_new_session=True)
+        self.process = subprocess.Popen(words, stderr=stderr or self.log, env=environment,
+                                        start_new_session=True)
 
     def __enter__(self) -> "Broker":
         return self
@@ -242,10 +273,6 @@ class Broker:
             sock.shutdown(socket.SHUT_WR)
             return dict(json.loads(all_of(sock)))
 
-    def has_passed_on(self, size: int) -> bool:
-        """Returns whether the broker passes this many bytes of requests to its servers in time."""
-        return self.wait_for(lambda: int(self.state()["bytes_in"]) == size)
-
     def program(self) -> Program:
         return Program(self.path)
 
@@ -275,6 +302,12 @@ class Door(Broker):
 
     def __init__(self, *options: str, **keywords: Any) -> None:
         super().__init__(*options, **{"servers": None, **keywords})
+
+    def words_of(self, command: Optional[List[str]]) -> List[str]:
+        return ["--", *(command or PLAIN)]
+
+    def prelude_of(self, command: Optional[List[str]]) -> str:
+        return ""
 
 
 def files_of(process: int) -> int:

@@ -13,8 +13,9 @@ import time
 # vision server that may take long (VERIFY_GRAPH). MANY_BYTES: answers u32 bytes. WHO_ASKED:
 # answers the client (u16) and the op (u8) of each frame. EXIT: ends with a status (u8). MISTAKE:
 # answers another client. HOLD: waits until the named pipe at a path was written to its end. REFUSE:
-# refuses with a code (u8).
+# refuses with a code (u8). ECHO: answers its body.
 WAIT, MANY_BYTES, WHO_ASKED, EXIT, MISTAKE, HOLD, REFUSE = 100, 101, 102, 103, 104, 105, 106
+ECHO = 107
 SLOW = 22
 
 
@@ -28,7 +29,7 @@ def answer(op: int, body: bytes, asked: bytes) -> bytes:
         return bytes(struct.unpack(">I", body)[0])
     if op == EXIT:
         sys.exit(body[0])
-    return asked if op == WHO_ASKED else b""
+    return {WHO_ASKED: asked, ECHO: body}.get(op, b"")
 
 
 def main() -> None:

@@ -1,4 +1,4 @@
-"""The broker's connections: frames, turns and ends, with a plain server (plain_server.py)."""
+"""The broker's connections: frames, turns and ends, with a plain server (plain_library.py)."""
 
 import contextlib
 import os
@@ -11,10 +11,11 @@ import time
 import unittest
 from typing import List
 
-from broker_tools import LATE, Broker, BrokerTest, peak_bytes, plain, success
+from broker_tools import CLIENT, LATE, Broker, BrokerTest, peak_bytes, plain, success
 from feqyldan import wire
-from feqyldan.broker.incoming import TURN_BYTES
-from plain_server import HOLD, MANY_BYTES, WAIT, WHO_ASKED
+from feqyldan.broker.incoming import TURN_BYTES, Incoming, Total
+from feqyldan.service.descriptors import Descriptors
+from plain_server import ECHO, HOLD, MANY_BYTES, WAIT, WHO_ASKED
 
 # A quick op of the vision server, and one that may take long. The plain server treats them alike.
 SHORT, LONG = wire.QUERY_IMAGE, wire.IMMEDIATE
@@ -22,10 +23,10 @@ BAD_LENGTHS = (0, 1, 2, 536_870_913, 4_294_967_295)
 
 
 class Frames(BrokerTest):
-    """Frames are passed on and come back whole, those of each connection under a number of its
-    own."""
+    """Frames are passed on and come back whole, those of each connection as a connection of its
+    server."""
 
-    def test_each_connection_has_a_number_of_its_own(self) -> None:
+    def test_each_connection_is_one_of_the_server(self) -> None:
         broker = self.begin()
         programs = [self.connect(broker) for _ in range(3)]
         for program in programs:
@@ -70,6 +71,34 @@ class Frames(BrokerTest):
                 program.ask_ahead(frames * 2),
                 [success(50), success(MANY_BYTES, bytes(size)), success(51)] * 2)
 
+    def test_long_frames_and_replies_are_their_connection_s(self) -> None:
+        """Also where the memory of earlier ones is used again."""
+        broker = self.begin("--servers", "2")
+        programs, size = [self.connect(broker) for _ in range(4)], 300_000
+        for turn in range(5):
+            for k, program in enumerate(programs):
+                program.send(plain(ECHO, bytes([turn * 4 + k]) * size))
+            for k, program in enumerate(programs):
+                self.assertEqual(program.reply(), success(ECHO, bytes([turn * 4 + k]) * size))
+
+    def test_which_requests_the_loop_makes(self) -> None:
+        """Those whose time grows with their frames, and those on few samples."""
+        here, there = socket.socketpair()
+        with here, there:
+            incoming = Incoming(2**20, Total(2**20), Descriptors(True))
+
+            def is_quick(frame: bytes) -> bool:
+                there.sendall(frame)
+                incoming.receive(here)
+                return incoming.take(TURN_BYTES).are_quick
+
+            on_images = wire.bitwise_not(CLIENT, 1, 2), wire.read_image(CLIENT, 1)
+            self.assertTrue(is_quick(wire.open_context(CLIENT)))
+            for side, are_quick in ((8, True), (30, True), (9, False)):
+                self.assertFalse(is_quick(wire.create_image(CLIENT, wire.U8, side, side)))
+                self.assertEqual([is_quick(frame) for frame in on_images], [are_quick] * 2)
+            self.assertFalse(is_quick(wire.process_graph(CLIENT, 3)))
+
     def test_a_frame_may_come_byte_by_byte(self) -> None:
         program = self.connect(self.begin())
         for byte in plain(50, b"abc") + plain(51):
@@ -88,7 +117,7 @@ class Ends(BrokerTest):
     """The context of a connection that ends, or is ended, is released, and other connections go
     on."""
 
-    def test_a_context_is_released_before_its_number_comes_back(self) -> None:
+    def test_contexts_are_released_before_another_connection_comes(self) -> None:
         broker = self.begin("--connections", "1")
         for _ in range(3):
             with broker.program() as program:
@@ -106,6 +135,20 @@ class Ends(BrokerTest):
         with broker.program() as program:
             program.send(plain(60))
             return program.reply() == success(60)
+
+    def test_a_connection_has_so_many_contexts(self) -> None:
+        for options, most in (((), 1), (("--contexts", "3"), 3)):
+            program = self.connect(self.begin(*options))
+            # One more is refused, until one is released. One that is open may be asked for again.
+            for client in range(most):
+                self.assertEqual(program.ask(plain(1, b"", client)), success(1, b"", client))
+            for _ in range(2):
+                self.assertEqual(program.ask(plain(1, b"", 9)),
+                                 wire.reply_frame(9, 1, wire.NO_RESOURCES))
+            self.assertEqual(program.ask(plain(1, b"", 0)), success(1, b"", 0))
+            self.assertEqual(program.ask(plain(2, b"", 0)), success(2, b"", 0))
+            self.assertEqual(program.ask(plain(1, b"", 9)), success(1, b"", 9))
+            self.assertEqual(program.who_asked().count((0, 1)), most + 2)
 
     def test_an_end_within_a_frame(self) -> None:
         broker = self.begin()
@@ -205,8 +248,10 @@ class Ends(BrokerTest):
         program = self.connect(broker)
         self.assertEqual(len(program.ask(plain(MANY_BYTES, struct.pack(">I", 100_000 - 8)))),
                          100_000)
-        program.send(plain(MANY_BYTES, struct.pack(">I", 5_000_000)))
-        self.assertTrue(broker.says("bytes of replies wait for it"))
+        program.send(plain(51) + plain(MANY_BYTES, struct.pack(">I", 100_000 - 7)))
+        self.assertEqual(program.reply(), success(51))
+        self.assertTrue(program.has_ended())
+        self.assertTrue(broker.says("its reply would have 100001 bytes"))
 
     def test_the_memory_that_half_frames_take(self) -> None:
         broker = self.begin("--bytes-held", "4000000")
@@ -324,7 +369,7 @@ class Turns(BrokerTest):
         # All at once, so that it is never this program that is waited for.
         self.assertEqual(other.ask_ahead([plain(50)] * 20), [success(50)] * 20)
         asked = other.who_asked()
-        own = [at for at, entry in enumerate(asked) if entry == (3, 50)]
+        own = [at for at, entry in enumerate(asked) if entry == (asked[-1][0], 50)]
         waits = [op for _, op in asked[own[0] : own[-1]] if op == WAIT]
         # At most one turn of each flood.
         self.assertLessEqual(len(waits), 20 * 3)
@@ -338,7 +383,8 @@ class Turns(BrokerTest):
         for _ in range(10):
             self.assertEqual(other.ask(plain(50)), success(50))
         asked = other.who_asked()
-        waited = [op for _, op in asked[asked.index((6, 50)) : len(asked) - 1] if op == WAIT]
+        begin = asked.index((asked[-1][0], 50))
+        waited = [op for _, op in asked[begin : len(asked) - 1] if op == WAIT]
         # One for each request of six that wait; more where this program was kept waiting by the
         # machine.
         self.assertLess(len(waited), 3 * 10)
@@ -370,7 +416,7 @@ class Turns(BrokerTest):
         stream.send(plain(SHORT, b"") * 4000)
         self.assertEqual(other.ask(plain(SHORT)), success(SHORT))
         asked = other.who_asked()
-        before = asked.index((1, SHORT)) if (1, SHORT) in asked else asked.index((0, SHORT))
+        before = asked.index((asked[-1][0], SHORT))
         self.assertLess(before, 3 * TURN_BYTES // len(plain(SHORT)))
         self.assertEqual([stream.reply() for _ in range(4000)], [success(SHORT)] * 4000)
 

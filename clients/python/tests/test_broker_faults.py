@@ -1,5 +1,5 @@
 """Attacks of hostile programs, and want of resources, on the broker and the door, with a plain
-server (plain_server.py)."""
+server (plain_server.py, plain_library.py)."""
 
 import array
 import contextlib
@@ -11,7 +11,6 @@ import signal
 import socket
 import struct
 import subprocess
-import sys
 import tempfile
 import time
 import unittest
@@ -19,7 +18,7 @@ from typing import Any, List, Tuple
 from unittest import mock
 
 from broker_tools import (
-    LATE, PACKAGE, PLAIN, Broker, BrokerTest, Door, Program, files_of, peak_bytes, plain, success)
+    LATE, Broker, BrokerTest, Door, Program, files_of, peak_bytes, plain, success)
 from feqyldan import wire
 from feqyldan.broker.incoming import SHARED_TURN_BYTES
 from feqyldan.service import descriptors, listener
@@ -247,25 +246,17 @@ class Memory(BrokerTest):
         self.assertTrue(broker.says("(--total-held)"))
         self.assertEqual(len(late.reply()), 1_200_008)
 
-    def test_the_broker_has_a_limit_of_its_own(self) -> None:
-        quarter = os.sysconf("SC_PAGE_SIZE") * os.sysconf("SC_PHYS_PAGES") // 4
-        for words, limit in ((("--own-memory", "300000000"), "300000000"),
-                             (("--own-memory", "unlimited"), "unlimited"), ((), str(quarter))):
-            broker = self.begin(*words)
-            with open(f"/proc/{broker.process.pid}/limits") as limits:
-                line = next(line for line in limits if line.startswith("Max address space"))
-            self.assertLessEqual(line.split()[3], limit)
-
-    def test_it_lives_where_its_own_memory_is_used_up(self) -> None:
-        broker = self.begin("--own-memory", "150000000", "--total-held", "100000000000")
+    def test_it_lives_where_its_memory_is_used_up(self) -> None:
+        broker = self.begin("--memory", "200000000", "--total-held", "100000000000")
         honest = self.connect(broker)
         self.assertEqual(honest.ask(plain(1)), success(1))
         for _ in range(3):
             program = self.connect(broker)
             with contextlib.suppress(BrokenPipeError, ConnectionResetError):
-                program.send(plain(50, bytes(200_000_000))[:-1])
+                program.send(plain(50, bytes(250_000_000))[:-1])
             self.assertTrue(program.has_ended())
             self.assertEqual(honest.ask(plain(50, bytes(1_000_000))), success(50))
+        self.assertTrue(broker.says("the broker has no memory for its frame (--memory)"))
         self.assertEqual(broker.stop(), 0)
 
 
@@ -290,16 +281,16 @@ class Turns(BrokerTest):
         broker = self.begin()
         floods, other = [self.connect(broker) for _ in range(6)], self.connect(broker)
         self.assertEqual(other.ask(plain(SHORT)), success(SHORT))
-        gate = self.gate(broker)
-        other.send(gate.frame)
+        gate, held = self.gate(broker), self.connect(broker)
+        held.send(gate.frame)
         self.assertTrue(broker.wait_for(gate.is_reached))
         for flood in floods:
             flood.send(plain(SHORT) * 9000)
         other.send(plain(SHORT))
         gate.let_go()
-        self.assertEqual([other.reply(), other.reply()], [success(HOLD), success(SHORT)])
+        self.assertEqual([held.reply(), other.reply()], [success(HOLD), success(SHORT)])
         asked = other.who_asked()
-        own = [at for at, (client, op) in enumerate(asked) if client == 6 and op == SHORT]
+        own = [at for at, entry in enumerate(asked) if entry == (asked[-1][0], SHORT)]
         # A turn of each, and one more that had begun.
         self.assertLess(own[1] - own[0], 8 * SHARED_TURN_BYTES // len(plain(SHORT)))
 
@@ -325,33 +316,18 @@ class Turns(BrokerTest):
 class Hangs(BrokerTest):
     """A server that hangs."""
 
-    def test_one_that_takes_too_long_is_ended(self) -> None:
-        broker = self.begin("--longest", "1", "--servers", "2", tells_state=True)
-        hung, other = self.connect(broker), self.connect(broker)
-        for program in (hung, other):
-            self.assertEqual(program.ask(plain(1)), success(1))
-        os.kill(broker.state()["servers"][0]["process"], signal.SIGSTOP)
-        hung.send(plain(50))
-        self.assertTrue(hung.has_ended())
-        self.assertTrue(broker.says("is killed: its request takes longer than 1 s (--longest)"))
-        self.assertEqual(other.ask(plain(50)), success(50))
-        self.assertEqual(self.connect(broker).ask(plain(50)), success(50))
-
     def test_one_that_may_hang_gets_no_newcomers(self) -> None:
         broker = self.begin("--patience", "1", "--servers", "2", tells_state=True)
-        hung, others = self.connect(broker), []
-        self.assertEqual(hung.ask(plain(1)), success(1))
-        stopped = broker.state()["servers"][0]["process"]
-        os.kill(stopped, signal.SIGSTOP)
-        self.addCleanup(os.kill, stopped, signal.SIGCONT)
-        hung.send(plain(50))
+        hung, gate, others = self.connect(broker), self.gate(broker), []
+        hung.send(gate.frame)
         self.assertTrue(broker.wait_for(
             lambda: broker.state()["servers"][0]["busy_seconds"] > 1))
         for _ in range(10):
             others.append(self.connect(broker))
             self.assertEqual(others[-1].ask(plain(1)), success(1))
-        os.kill(stopped, signal.SIGCONT)
-        self.assertEqual(hung.reply(), success(50))
+        self.assertTrue(gate.is_reached())
+        gate.let_go()
+        self.assertEqual(hung.reply(), success(HOLD))
 
 
 def listen_together(path: str, barrier: Any, heard: Any, is_over: Any) -> None:
@@ -416,25 +392,20 @@ class Beginning(BrokerTest):
                 listener.listen_at(path, 0o600)
 
     def test_an_empty_path(self) -> None:
-        for module in ("feqyldan.broker", "feqyldan.door"):
-            ended = subprocess.run([sys.executable, "-m", module, "--socket", "", "--", *PLAIN],
-                                   stderr=subprocess.PIPE, timeout=LATE, check=False,
-                                   env={**os.environ, "PYTHONPATH": PACKAGE})
-            self.assertEqual(ended.returncode, 2)
-            self.assertIn(b"the path of a socket is empty", ended.stderr)
-            self.assertNotIn(b"Traceback", ended.stderr)
+        for self.kind in (Broker, Door):
+            broker = self.begin_any(path="")
+            self.assertEqual(broker.status(), 2)
+            self.assertIn("the path of a socket is empty", broker.words())
+            self.assertNotIn("Traceback", broker.words())
 
-    def test_servers_count_among_the_files(self) -> None:
-        broker = self.begin_any("--servers", "60", before=("prlimit", "--nofile=400:400"))
+    def test_too_few_files(self) -> None:
+        few = "prlimit", "--nofile=300:300"
+        broker = self.begin_any(before=few)
         self.assertEqual(broker.status(), 2)
-        self.assertIn("64 connections and 60 servers need 680 open files, and 400 are allowed",
-                      broker.words())
-        broker = self.begin("--servers", "9", "--connections", "10", tells_state=True,
-                            before=("prlimit", "--nofile=320:320"))
-        programs = [self.connect(broker) for _ in range(10)]
-        self.assertEqual([program.ask(plain(1)) for program in programs], [success(1)] * 10)
-        broker.process.send_signal(signal.SIGHUP)
-        self.assertTrue(broker.wait_for(lambda: len(broker.state()["servers"]) == 18))
+        self.assertIn("64 connections need 320 open files, and 300 are allowed", broker.words())
+        broker = self.begin("--servers", "9", "--connections", "40", before=few)
+        programs = [self.connect(broker) for _ in range(40)]
+        self.assertEqual([program.ask(plain(1)) for program in programs], [success(1)] * 40)
         self.assertNotIn("Too many open files", broker.words())
 
     def test_no_loop_spins_where_no_file_is_left(self) -> None:

@@ -2,12 +2,11 @@
 50 programs use the broker at the same time, some of them hostile, with the vision server. Each
 reply is compared with that of the model in tools/checks/model.
 
-The program is the one that the environment variable FEQYLDAN_PROGRAM names; without it the tests
-are skipped.
+The library is the one built in this checkout, or the one next to the program that the environment
+variable FEQYLDAN_PROGRAM names; without it the tests are skipped.
 """
 
 import contextlib
-import json
 import multiprocessing
 import os
 import random
@@ -22,7 +21,8 @@ import unittest
 from typing import Any, Callable, Dict, Iterable, Iterator, List, Set, Tuple
 from unittest import mock
 
-from broker_tools import CLIENT, LATE, PROGRAM, BrokerTest, Broker, Program, passes_longest
+from broker_tools import (
+    CLIENT, LATE, PROGRAM, REAL, Broker, BrokerTest, Program, needs_library, passes_longest)
 from documents import programs_in
 from feqyldan import wire
 import feqyldan as vx
@@ -239,7 +239,7 @@ class Crowd(BrokerTest):
         self.assertEqual(failed, set())
 
 
-@unittest.skipUnless(PROGRAM, "FEQYLDAN_PROGRAM doesn't name the server's program")
+@needs_library
 class ManyPrograms(Crowd):
     """The crowd at the broker."""
 
@@ -267,12 +267,12 @@ class ManyPrograms(Crowd):
         return True
 
 
-@unittest.skipUnless(PROGRAM, "FEQYLDAN_PROGRAM doesn't name the server's program")
+@needs_library
 class ThePackage(BrokerTest):
     """The package's own connections to the broker."""
 
     def test_connect_waits_for_a_broker_that_begins(self) -> None:
-        broker = self.begin(command=[str(PROGRAM), "serve"])
+        broker = self.begin(command=REAL)
         path = broker.path
         self.assertEqual(broker.stop(), 0)
         with self.assertRaises(FileNotFoundError):
@@ -290,7 +290,7 @@ class ThePackage(BrokerTest):
             waiting.start()
             self.assertTrue(has_tried.wait(LATE))
         self.assertEqual(found, [])
-        again = self.begin(command=[str(PROGRAM), "serve"], path=path)
+        again = self.begin(command=REAL, path=path)
         waiting.join(LATE)
         self.assertEqual(found[0].image(vx.U8, 2, 1).read_bytes(), bytes(2))
         found[0].close()
@@ -298,8 +298,8 @@ class ThePackage(BrokerTest):
 
     def test_a_context_that_is_built_again(self) -> None:
         """By the programs in docs/deploying.md and docs/python.md: each picture is answered once
-        and in order, also where its server, or the broker, ends in between. They end with their
-        pictures."""
+        and in order, also where the broker is killed, or told to end, in between. They end with
+        their pictures."""
         program: Dict[str, Any] = {"vx": vx, "Callable": Callable, "Iterable": Iterable,
                                    "Iterator": Iterator}
         exec(programs_in("docs", "deploying.md")["When a server ends"][0], program)
@@ -314,7 +314,7 @@ class ThePackage(BrokerTest):
             self.run_through_ends(run)
 
     def run_through_ends(self, run: Callable[..., Iterator[Any]]) -> None:
-        broker = self.begin(command=[str(PROGRAM), "serve"], tells_state=True)
+        broker = self.begin(command=REAL, tells_state=True)
         built: List[vx.Context] = []
 
         def build(context: vx.Context) -> Tuple[vx.Graph, vx.Image, vx.Image]:
@@ -328,27 +328,20 @@ class ThePackage(BrokerTest):
         outputs = []
         for output in run(broker.path, build, iter(pictures)):
             outputs.append(bytes(output))
-            if len(outputs) == 2:
-                self.kill_server(broker)
-            if len(outputs) == 4:
-                self.assertEqual(broker.stop(), 0)
-                broker = self.begin(command=[str(PROGRAM), "serve"], path=broker.path)
+            if len(outputs) in (2, 4):
+                broker.process.send_signal(signal.SIGKILL if len(outputs) == 2 else signal.SIGTERM)
+                broker.status()
+                broker = self.begin(command=REAL, path=broker.path)
         self.assertEqual(outputs, [bytes([255 - k] * 4) for k in range(8)])
         self.assertEqual(len(built), 3)
         self.assertEqual(broker.stop(), 0)
 
-    def kill_server(self, broker: Broker) -> None:
-        with socket.socket(socket.AF_UNIX, socket.SOCK_STREAM) as sock:
-            sock.connect(broker.status_path)
-            sock.sendall(b"\n")
-            os.kill(json.loads(sock.recv(65536))["servers"][0]["process"], signal.SIGKILL)
-
     def test_the_longest_write_and_the_longest_reply_pass(self) -> None:
-        broker = self.begin(command=[str(PROGRAM), "serve"])
+        broker = self.begin(command=REAL)
         self.assertTrue(passes_longest(broker.path))
 
     def test_who_is_turned_away_is_told_why(self) -> None:
-        broker = self.begin("--connections", "1", command=[str(PROGRAM), "serve"])
+        broker = self.begin("--connections", "1", command=REAL)
         with vx.connect(broker.path) as server, server.context() as context:
             context.image(vx.U8, 1, 1)
             with self.assertRaises(vx.BrokerFull) as caught:
@@ -357,7 +350,7 @@ class ThePackage(BrokerTest):
             self.assertIn("--connections", str(caught.exception))
 
     def test_who_waits_gets_the_next_connection(self) -> None:
-        broker = self.begin("--connections", "1", command=[str(PROGRAM), "serve"], tells_state=True)
+        broker = self.begin("--connections", "1", command=REAL, tells_state=True)
         with vx.connect(broker.path, retry=LATE) as server:
             context = server.context()
             self.assertEqual(vx.status(broker.status_path)["connections"]["open"], 1)
@@ -378,7 +371,7 @@ class ThePackage(BrokerTest):
             self.assertEqual(found[0].image(vx.U8, 2, 1).read_bytes(), bytes(2))
 
     def test_contexts_of_one_program_and_the_server_s_end(self) -> None:
-        broker = self.begin(command=[str(PROGRAM), "serve"])
+        broker = self.begin(command=REAL)
         with self.assertRaises(vx.ServerEnded), vx.connect(broker.path) as server:
             pictures = []
             for sample in (10, 20):

@@ -1,10 +1,10 @@
 """The broker's servers, its start and end, and what it reports to an operator: with a plain server
-(plain_server.py), and with the server's program if the environment variable FEQYLDAN_PROGRAM has
-its path."""
+(plain_library.py), and with the server's library if there is one."""
 
 import json
 import os
 import re
+import shutil
 import signal
 import socket
 import stat
@@ -17,61 +17,23 @@ from typing import IO, Any, Dict, Union
 from unittest import mock
 
 from broker_tools import (
-    CLIENT, LATE, PACKAGE, PLAIN, PROGRAM, Broker, BrokerTest, Gate, Program, all_of, plain,
-    success)
+    CLIENT, LATE, LIBRARY, PACKAGE, REAL, RUN_MODULE, WITH_PLAIN_LIBRARY, Broker, BrokerTest,
+    Program, all_of, needs_library, plain, success)
 from feqyldan import wire
 import feqyldan as vx
 from feqyldan.service import machine
-from feqyldan.broker.command_line import memory_each, servers_unless_told
-from plain_server import EXIT, HOLD, MANY_BYTES, MISTAKE, REFUSE, WHO_ASKED
+from feqyldan.service.options import part_of_memory
+from feqyldan.broker.command_line import servers_unless_told
+from feqyldan.broker.memory import MEMORY_PART
+from plain_server import HOLD, MANY_BYTES, REFUSE, WHO_ASKED
 
-needs_program = unittest.skipUnless(PROGRAM, "FEQYLDAN_PROGRAM doesn't name the server's program")
 # What a line says of this program's connections.
 OWNER = f"process {os.getpid()} of user {os.getuid()}"
 HasFileno = Union[socket.socket, IO[Any]]
 
 
-class TheServer(BrokerTest):
-    """The end of a server ends only its own connections."""
-
-    def test_its_end_is_told_to_its_connections_and_another_begins(self) -> None:
-        broker = self.begin()
-        for status in (0, 3):
-            programs = [self.connect(broker) for _ in range(3)]
-            for program in programs:
-                self.assertEqual(program.ask(plain(1)), success(1))
-            programs[0].send(plain(EXIT, bytes([status])))
-            self.assertTrue(all(program.has_ended() for program in programs))
-            self.assertTrue(broker.says(f"ended with status {status}"))
-        self.assertEqual(self.connect(broker).ask(plain(1)), success(1))
-        self.assertEqual(broker.stop(), 0)
-        self.assertFalse(os.path.exists(broker.path))
-
-    def test_its_end_is_nobody_else_s(self) -> None:
-        broker = self.begin("--servers", "3")
-        programs = [self.connect(broker) for _ in range(6)]
-        for program in programs:
-            self.assertEqual(program.ask(plain(1)), success(1))
-        programs[1].send(plain(EXIT, b"\3"))
-        self.assertTrue(programs[1].has_ended() and programs[4].has_ended())
-        for k in (0, 2, 3, 5):
-            self.assertEqual(programs[k].ask(plain(50)), success(50))
-        # The new one has no connection yet, so it gets the next two.
-        newcomers = [self.connect(broker) for _ in range(2)]
-        self.assertTrue(broker.says("ended with status 3"))
-        self.assertEqual([program.ask(plain(1)) for program in newcomers], [success(1)] * 2)
-        self.assertEqual([op for _, op in newcomers[0].who_asked()], [1, 1, WHO_ASKED])
-
-    def test_replies_that_came_before_its_end_are_sent(self) -> None:
-        broker = self.begin(tells_state=True)
-        program, other = self.connect(broker), self.connect(broker)
-        program.send(plain(MANY_BYTES, struct.pack(">I", 3_000_000)))
-        # The server is at it, and reads the request to end once that reply is written.
-        self.assertTrue(broker.wait_for(lambda: broker.state()["requests"] == 1))
-        other.send(plain(EXIT, b"\3"))
-        self.assertTrue(other.has_ended())
-        self.assertEqual(program.reply(), success(MANY_BYTES, bytes(3_000_000)))
-        self.assertTrue(program.has_ended())
+class Servers(BrokerTest):
+    """Which connections a server has, and what happens to its requests when the broker ends."""
 
     def test_connections_go_to_the_server_with_the_fewest(self) -> None:
         broker = self.begin("--servers", "4")
@@ -94,98 +56,26 @@ class TheServer(BrokerTest):
         with mock.patch("os.sched_getaffinity", return_value=set(range(64))):
             self.assertEqual(servers_unless_told(), 8)
 
-    def test_servers_that_cant_be_kept_up_are_the_broker_s_end(self) -> None:
-        broker = self.begin("--servers", "2", command=["/bin/sh", "-c", "exit 7"])
-        self.assertEqual(broker.status(), 7)
-        self.assertIn("ended with status 7", broker.words())
-
-    def test_new_servers_by_a_signal(self) -> None:
-        broker = self.begin("--servers", "2")
-        before = [self.connect(broker) for _ in range(2)]
-        for program in before:
-            self.assertEqual(program.ask(plain(1)), success(1))
+    def test_a_signal_to_reload_ends_nothing(self) -> None:
+        broker = self.begin()
+        program = self.connect(broker)
+        self.assertEqual(program.ask(plain(1)), success(1))
         broker.process.send_signal(signal.SIGHUP)
-        self.assertTrue(broker.says("after SIGHUP"))
-        after = self.connect(broker)
-        self.assertEqual(after.ask(plain(51)), success(51))
-        self.assertEqual([op for _, op in after.who_asked()], [51, WHO_ASKED])
-        # The ones before go on, and end with their last connection.
-        for program in before:
-            self.assertEqual([op for _, op in program.who_asked()], [1, WHO_ASKED])
-        self.assertEqual(self.servers_of(broker), 4)
-        for program in before:
-            program.sock.close()
-        self.assertTrue(broker.wait_for(lambda: self.servers_of(broker) == 2))
-        self.assertNotIn("ended with status", broker.words())
-        self.assertEqual(after.ask(plain(51)), success(51))
+        self.assertTrue(broker.says("SIGHUP changes nothing: a new library needs a new broker"))
+        self.assertEqual(program.who_asked(), [(0, 1), (0, WHO_ASKED)])
         self.assertEqual(broker.stop(), 0)
 
-    def test_a_new_program_that_cant_run_is_not_the_old_one_s_end(self) -> None:
-        with tempfile.TemporaryDirectory() as folder:
-            path = os.path.join(folder, "program")
-            self.write_script(path, f'exec {" ".join(PLAIN)}')
-            broker = self.begin("--servers", "2", command=[path])
-            program = self.connect(broker)
-            self.assertEqual(program.ask(plain(1)), success(1))
-            self.write_script(path, "sleep 0.3; exit 7")
-            broker.process.send_signal(signal.SIGHUP)
-            self.assertTrue(
-                broker.wait_for(lambda: broker.words().count("ended with status 7") >= 3))
-            self.assertEqual(program.ask(plain(50)), success(50))
-            other = self.connect(broker)
-            self.assertEqual(other.ask(plain(50)), success(50))
-            self.write_script(path, f'exec {" ".join(PLAIN)}')
-            self.assertTrue(broker.wait_for(lambda: self.servers_of(broker) == 2))
-            self.assertEqual(program.ask(plain(50)), success(50))
-            self.assertEqual(broker.stop(), 0)
-
-    def write_script(self, path: str, words: str) -> None:
-        with open(path + ".new", "w") as file:
-            file.write(f"#!/bin/sh\n{words}\n")
-        os.chmod(path + ".new", 0o755)
-        os.replace(path + ".new", path)
-
-    def servers_of(self, broker: Broker) -> int:
-        pid = broker.process.pid
-        with open(f"/proc/{pid}/task/{pid}/children") as children:
-            return len(children.read().split())
-
-    def test_one_that_a_signal_ends(self) -> None:
-        broker = self.begin(command=["/bin/sh", "-c", "kill -9 $$"])
-        self.assertEqual(broker.status(), 128 + 9)
-
-    def test_one_that_answers_another_client_is_ended(self) -> None:
-        broker = self.begin()
+    def test_a_fault_of_a_server_s_thread_ends_the_broker(self) -> None:
+        """Not even its other servers go on, since they share its memory."""
+        broker = self.begin("--servers", "2")
         program, other = self.connect(broker), self.connect(broker)
         self.assertEqual(other.ask(plain(1)), success(1))
-        program.send(plain(MISTAKE))
+        # Its body should be four bytes.
+        program.send(plain(MANY_BYTES))
         self.assertTrue(program.has_ended() and other.has_ended())
-        self.assertTrue(broker.says("is killed, because it wrote a reply of length 4 to op"))
-        self.assertEqual(self.connect(broker).ask(plain(1)), success(1))
-
-    def test_one_that_writes_unasked_is_ended(self) -> None:
-        broker = self.begin(command=["/bin/sh", "-c",
-                                     "printf '\\0\\0\\0\\4\\0\\0\\1\\0'; cat >/dev/null"])
-        self.assertNotEqual(broker.status(), 0)
-        self.assertIn("is killed, because it wrote a reply without a request", broker.words())
-
-    def test_one_that_reads_no_more(self) -> None:
-        with tempfile.TemporaryDirectory() as folder:
-            gate = Gate(folder)
-            self.addCleanup(gate.let_go)
-            broker = self.begin("--grace", "1", tells_state=True,
-                                command=["/bin/sh", "-c", 'exec 0<&-; exec cat "$0"', gate.path])
-            self.assertTrue(broker.wait_for(gate.is_reached))
-            program = self.connect(broker)
-            program.send(plain(1))
-            self.assertTrue(broker.has_passed_on(7))
-            gate.let_go()
-            self.assertTrue(program.has_ended())
-            self.assertTrue(broker.says("ended with status 0"))
-            self.assertEqual(broker.stop(), 0)
+        self.assertEqual(broker.status(), 1)
 
     def test_signals_end_it_after_what_was_asked(self) -> None:
-        """A terminal and some service managers signal the whole group; the servers aren't in it."""
         for which in (signal.SIGTERM, signal.SIGINT):
             broker = self.begin()
             busy, idle = self.connect(broker), self.connect(broker)
@@ -193,7 +83,7 @@ class TheServer(BrokerTest):
             gate = self.gate(broker)
             busy.send(gate.frame + plain(50))
             self.assertTrue(broker.wait_for(gate.is_reached))
-            os.killpg(broker.process.pid, which)
+            broker.process.send_signal(which)
             self.assertTrue(broker.says(f"ends because of {which.name}"))
             gate.let_go()
             self.assertEqual(busy.reply(), success(HOLD))
@@ -201,34 +91,16 @@ class TheServer(BrokerTest):
             self.assertEqual(broker.status(), 0)
             self.assertFalse(os.path.exists(broker.path))
 
-    def test_a_frame_that_is_half_written_is_ended_whole(self) -> None:
-        with tempfile.TemporaryDirectory() as folder:
-            gate = Gate(folder)
-            self.addCleanup(gate.let_go)
-            reads_later = ["/bin/sh", "-c", 'cat "$0"; exec "$@"', gate.path, *PLAIN]
-            broker = self.begin("--grace", "60", command=reads_later, tells_state=True)
-            great, frame = self.connect(broker), plain(50, bytes(5_000_000))
-            great.send(frame)
-            self.assertTrue(broker.has_passed_on(len(frame)))
-            broker.process.terminate()
-            self.assertTrue(broker.says("ends because of SIGTERM")
-                            and broker.wait_for(gate.is_reached))
-            gate.let_go()
-            self.assertEqual(great.reply(), success(50))
-            self.assertEqual(broker.status(), 0)
-
     def test_it_ends_in_time_beside_a_long_request(self) -> None:
-        for command in (PLAIN, ["/bin/sh", "-c", "trap '' TERM; sleep 1000 & wait; sleep 1000"]):
-            broker = self.begin("--grace", "1", "--servers", "2", command=command,
-                                tells_state=True)
-            busy, other, gate = self.connect(broker), self.connect(broker), self.gate(broker)
-            busy.send(gate.frame)
-            other.send(plain(50))
-            self.assertTrue(broker.has_passed_on(len(gate.frame) + 7))
-            # In time, since nobody lets the request go.
-            self.assertEqual(broker.stop(), 0)
-            self.assertIn("is killed: its request takes longer than 1 s", broker.words())
-            self.assertTrue(busy.has_ended())
+        broker = self.begin("--grace", "1", "--servers", "2")
+        busy, other, gate = self.connect(broker), self.connect(broker), self.gate(broker)
+        busy.send(gate.frame)
+        self.assertEqual(other.ask(plain(50)), success(50))
+        self.assertTrue(broker.wait_for(gate.is_reached))
+        # In time, since nobody lets the request go.
+        self.assertEqual(broker.stop(), 0)
+        self.assertIn("a request is given up: it takes longer than 1 s (--grace)", broker.words())
+        self.assertTrue(busy.has_ended())
 
     def test_a_second_signal_ends_it_at_once(self) -> None:
         broker = self.begin("--grace", "1000")
@@ -239,7 +111,7 @@ class TheServer(BrokerTest):
         self.assertTrue(broker.says("ends because of SIGINT"))
         broker.process.send_signal(signal.SIGINT)
         self.assertEqual(broker.status(), 0)
-        self.assertIn("is killed: the broker was told twice to end", broker.words())
+        self.assertIn("a request is given up: the broker was told twice to end", broker.words())
 
 
 def address_space_of(process: int) -> str:
@@ -252,23 +124,57 @@ def whole_memory() -> int:
     return os.sysconf("SC_PAGE_SIZE") * os.sysconf("SC_PHYS_PAGES")
 
 
+# Takes all memory, and then 20 MB: as an image does, from the reserve, and as an image does again.
+USES_RESERVE = """
+from feqyldan.broker.memory import PAGES, limit_memory, with_reserve
+limit_memory(2**29, 2**25)
+taken = []
+
+def has(make):
+    try:
+        taken.append(make())
+    except MemoryError:
+        return "no"
+    return "yes"
+
+size = 2**24
+while size:
+    size = size if has(lambda: PAGES.take(size)) == "yes" else size // 2
+print(has(lambda: PAGES.take(20_000_000)), has(lambda: with_reserve(lambda: bytes(20_000_000))),
+      has(lambda: PAGES.take(20_000_000)))
+"""
+
+
+def fill(program: Program, side: int) -> int:
+    """Makes images until the server has no memory for one more; returns the code of that reply, or
+    of the reply to the last of many requests."""
+    code = wire.SUCCESS
+    for _ in range(200):
+        code = wire.code_of(program.ask(wire.create_image(CLIENT, wire.U8, side, side)))
+        if code == wire.NO_MEMORY:
+            break
+    return code
+
+
 class Memory(BrokerTest):
-    """A server under a limit answers NO_MEMORY, and lives."""
+    """Under a limit, a request is answered NO_MEMORY, and every connection goes on."""
 
-    LIMIT = 100_000_000
+    LIMIT = 400_000_000
 
-    @needs_program
+    def opened(self, broker: Broker) -> Program:
+        """Returns a connection with a context and an image of 8x8."""
+        program = self.connect(broker)
+        for frame in (wire.open_context(CLIENT), wire.create_image(CLIENT, wire.U8, 8, 8)):
+            self.assertEqual(wire.code_of(program.ask(frame)), wire.SUCCESS)
+        return program
+
+    @needs_library
     def test_a_server_under_a_limit(self) -> None:
-        command = [str(PROGRAM), "serve"]
-        broker = self.begin("--memory", str(self.LIMIT), "--servers", "2", command=command,
-                            tells_state=True)
-        great, other = self.connect(broker), self.connect(broker)
-        for program in (great, other):
-            self.assertEqual(wire.code_of(program.ask(wire.open_context(CLIENT))), wire.SUCCESS)
-            self.assertEqual(wire.code_of(program.ask(wire.create_image(CLIENT, wire.U8, 8, 8))),
-                             wire.SUCCESS)
+        broker = self.begin("--memory", str(self.LIMIT), "--quota", "1000000000", "--servers", "2",
+                            command=REAL, tells_state=True)
+        great, other = self.opened(broker), self.opened(broker)
         codes = [wire.code_of(great.ask(wire.create_image(CLIENT, wire.U8, 4096, 4096)))
-                 for _ in range(12)]
+                 for _ in range(30)]
         self.assertEqual({*codes}, {wire.SUCCESS, wire.NO_MEMORY})
         # What was there before still is, and there is memory for what is small.
         for program in (great, other):
@@ -277,12 +183,53 @@ class Memory(BrokerTest):
                              wire.SUCCESS)
         state = broker.state()
         self.assertEqual(state["refusals"], {"NO_MEMORY": codes.count(wire.NO_MEMORY)})
-        for server in state["servers"]:
-            self.assertTrue(0 < server["memory_bytes"] <= server["peak_memory_bytes"] <= self.LIMIT)
+        self.assertTrue(0 < state["memory_bytes"] <= state["peak_memory_bytes"] <= self.LIMIT)
         self.assertEqual(broker.stop(), 0)
 
+    @needs_library
+    def test_images_that_take_all_memory_end_no_connection(self) -> None:
+        """Neither those that are open nor newcomers, and the state is still reported."""
+        broker = self.begin("--memory", str(self.LIMIT), "--quota", "1000000000", "--servers", "2",
+                            command=REAL, tells_state=True)
+        honest = self.opened(broker)
+        hostile = [self.opened(broker) for _ in range(6)]
+        for side in (8192, 4096, 1024, 256, 128, 64, 32, 16, 8):
+            codes = {fill(program, side) for program in hostile}
+            if side > 64:
+                self.assertEqual(codes, {wire.NO_MEMORY})
+        for _ in range(20):
+            self.assertEqual(honest.ask(wire.read_image(CLIENT, 1))[13:], bytes(64))
+            with broker.program() as newcomer:
+                self.assertIn(newcomer.ask(wire.open_context(CLIENT))[7:],
+                              (b"\0", bytes([wire.NO_MEMORY])), broker.words())
+            self.assertGreater(broker.state()["memory_bytes"], 0)
+        self.assertNotIn("is ended", broker.words())
+        for program in hostile:
+            program.sock.close()
+        self.assertTrue(broker.wait_for(lambda: broker.state()["connections"]["releasing"] == 0))
+        self.assertEqual(fill(honest, 8192), wire.NO_MEMORY)
+        self.assertEqual(honest.ask(wire.read_image(CLIENT, 2))[:8],
+                         wire.reply_frame(CLIENT, wire.READ_IMAGE, 0, bytes(8192 * 8192 + 5))[:8])
+        self.assertEqual(broker.stop(), 0)
+
+    def test_no_memory_for_a_connection_is_no_end(self) -> None:
+        broker = self.begin(prelude="""
+connect = plain_library.PlainLibrary.connect
+refused = iter((True, True, False))
+plain_library.PlainLibrary.connect = lambda self: None if next(refused) else connect(self)
+""")
+        program = self.connect(broker)
+        refusal = wire.reply_frame(CLIENT, 50, wire.NO_MEMORY)
+        self.assertEqual([program.ask(plain(50)) for _ in range(3)],
+                         [refusal, refusal, success(50)])
+
+    def test_the_reserve_is_for_what_asks_for_it(self) -> None:
+        ended = subprocess.run([sys.executable, "-c", USES_RESERVE], timeout=LATE,
+                               stdout=subprocess.PIPE, env={**os.environ, "PYTHONPATH": PACKAGE})
+        self.assertEqual(ended.stdout, b"no yes no\n")
+
     def test_the_limits_of_control_groups(self) -> None:
-        """By default the servers have three quarters of the lowest of these limits."""
+        """By default the broker has three quarters of the lowest of these limits."""
         own = "5:cpu,memory:/a/b\n1:name=systemd:/\n0::/c/d"
         for limits, least in (({}, None), ({"c/memory.max": "400000000"}, 400_000_000),
                               ({"memory.max": "max", "c/d/memory.max": "300000000"}, 300_000_000),
@@ -298,27 +245,30 @@ class Memory(BrokerTest):
                         file.write(f"{text}\n")
                 with mock.patch.multiple(machine, GROUPS=folder,
                                          OWN_GROUPS=os.path.join(folder, "own")):
-                    self.assertEqual(memory_each(2), (least or whole_memory()) * 3 // 4 // 2)
+                    self.assertEqual(part_of_memory(MEMORY_PART),
+                                     (least or whole_memory()) * 3 // 4)
 
-    def test_each_server_has_the_limit(self) -> None:
-        unless_told = str(memory_each(1))
-        for words, limit in ((["--memory", "123456789"], "123456789"),
-                             (["--memory", "unlimited"], "unlimited"),
-                             ([], unless_told)):
-            broker = self.begin(*words, tells_state=True)
-            server, = broker.state()["servers"]
-            self.assertEqual(address_space_of(server["process"]), limit)
+    def test_the_broker_has_the_limit(self) -> None:
+        """It never gets more than LimitAS= of a unit, or `ulimit -v` in a shell, allows. The part
+        that no image gets isn't in the limit that holds now."""
+        allowed, held = 2**32, 1_000_000
+        within = ["sh", "-c", f'ulimit -v {allowed // 1024} && exec "$@"', "sh"]
+        for before, words, limit in (
+                ([], ["--memory", "523456789"], "522456789"),
+                ([], ["--memory", "unlimited"], "unlimited"),
+                ([], [], str(part_of_memory(MEMORY_PART) - held)),
+                (within, ["--memory", str(2 * allowed)], str(allowed - held)),
+                (within, ["--memory", "unlimited"], str(allowed - held)),
+                (within, ["--memory", "523456789"], "522456789")):
+            broker = self.begin(*words, "--total-held", str(held), before=before)
+            self.assertEqual(address_space_of(broker.process.pid), limit)
 
-    def test_a_limit_on_the_broker_itself_holds_for_each_server(self) -> None:
-        """A limit as LimitAS= of a unit and `ulimit -v` in a shell set it: no server gets more."""
-        allowed = 2**32
-        before = ["sh", "-c", f'ulimit -v {allowed // 1024} && exec "$@"', "sh"]
-        for words, limit in ((["--memory", str(2 * allowed)], allowed),
-                             (["--memory", "unlimited"], allowed),
-                             (["--memory", "123456789"], 123456789)):
-            broker = self.begin(*words, before=before, tells_state=True)
-            server, = broker.state()["servers"]
-            self.assertEqual(address_space_of(server["process"]), str(limit))
+    def test_a_limit_that_is_too_low(self) -> None:
+        broker = self.begin_any("--memory", "20000000")
+        self.assertEqual(broker.status(), 2)
+        self.assertIn("20000000 bytes are too few for the broker and its servers: allow at least",
+                      broker.words())
+        self.assertFalse(os.path.exists(broker.path))
 
 
 class Status(BrokerTest):
@@ -338,7 +288,7 @@ class Status(BrokerTest):
         self.assertTrue(broker.wait_for(
             lambda: broker.state()["servers"][0]["busy_seconds"] > 0.05))
         state = broker.state()
-        # What the broker asks itself, as the release of a context, isn't among them.
+        # The release of contexts isn't among them.
         self.assertEqual((state["requests"], state["bytes_in"], state["bytes_out"]),
                          (2, 7 + 100 + len(gate.frame), 16))
         self.assertEqual([server["connections"] for server in state["servers"]], [1, 0])
@@ -362,15 +312,6 @@ class Status(BrokerTest):
         self.assertEqual(state["refusals"], {"NO_MEMORY": 2, "INVALID_VALUE": 1, "code 77": 1})
         self.assertEqual(state["connections"],
                          {"open": 2, "releasing": 0, "accepted": 2, "turned_away": 3})
-        # The one before goes on beside the new one.
-        broker.process.send_signal(signal.SIGHUP)
-        self.assertTrue(broker.wait_for(lambda: len(broker.state()["servers"]) == 2))
-        self.assertEqual([(server["is_retiring"], server["connections"])
-                          for server in broker.state()["servers"]], [(True, 2), (False, 0)])
-        program.send(plain(EXIT, b"\3"))
-        self.assertTrue(program.has_ended())
-        self.assertTrue(broker.wait_for(lambda: broker.state()["servers_ended"] == 1))
-        self.assertEqual([server["is_retiring"] for server in broker.state()["servers"]], [False])
 
     def test_prometheus_is_told_all_of_the_state(self) -> None:
         broker = self.begin("--servers", "2", "--connections", "2", tells_state=True)
@@ -383,17 +324,13 @@ class Status(BrokerTest):
         told, state = self.metrics(text), broker.state()
         # Of the numbers of the state these alone change while nobody asks anything.
         self.assertEqual(told.pop("uptime_seconds", {}), {})
-        servers = {f'process="{server["process"]}"': server for server in state["servers"]}
+        for name in ("memory_bytes", "peak_memory_bytes"):
+            self.assertGreater(told.pop(name)[""], 0)
+        servers = {f'server="{server["server"]}"': server for server in state["servers"]}
         for name, at in (("connections", "connections"), ("requests_total", "requests"),
-                         ("waiting", "waiting"), ("busy_seconds", "busy_seconds"),
-                         ("memory_bytes", None), ("peak_memory_bytes", None)):
-            values = told.pop(f"server_{name}")
-            self.assertEqual(set(values), set(servers))
-            for label, server in servers.items():
-                if at is None:
-                    self.assertGreater(values[label], 0)
-                else:
-                    self.assertEqual(values[label], server[at], name)
+                         ("waiting", "waiting"), ("busy_seconds", "busy_seconds")):
+            self.assertEqual(told.pop(f"server_{name}"), {
+                label: server[at] for label, server in servers.items()}, name)
         self.assertEqual(told.pop("refusals_total"),
                          {'code="NO_MEMORY"': 2, 'code="INVALID_LINK"': 1})
         connections = state["connections"]
@@ -405,8 +342,7 @@ class Status(BrokerTest):
             ("requests_total", state["requests"]), ("request_bytes_total", state["bytes_in"]),
             ("reply_bytes_total", state["bytes_out"]),
             ("held_bytes", state["bytes_held"]),
-            ("longest_request_seconds", state["longest_request_seconds"]),
-            ("servers_ended_total", state["servers_ended"]))})
+            ("longest_request_seconds", state["longest_request_seconds"]))})
 
     def metrics(self, text: str) -> Dict[str, Dict[str, float]]:
         """Returns the values of each metric by its labels, in Prometheus' text format: first its
@@ -436,7 +372,7 @@ class Status(BrokerTest):
         self.assertTrue(head.startswith("HTTP/1.0 200 OK\r\n"), head)
         self.assertIn("\nfeqyldan_requests_total 1\n", body)
         self.assertIn("\n# TYPE feqyldan_requests_total counter\n", body)
-        self.assertRegex(body, r'\nfeqyldan_server_memory_bytes\{process="\d+"\} [1-9]\d*\n')
+        self.assertRegex(body, r'\nfeqyldan_server_requests_total\{server="0"\} 1\n')
         head, _, body = self.page(broker, "/status").partition("\r\n\r\n")
         self.assertEqual(json.loads(body)["requests"], 1)
         self.assertTrue(self.page(broker, "/other").startswith("HTTP/1.0 404 "))
@@ -485,7 +421,7 @@ class Status(BrokerTest):
         cut.send(plain(50)[:3])
         cut.sock.shutdown(socket.SHUT_WR)
         said = ("connection {} of {} is ended: ", (
-            (0, "sent nothing of the rest of a frame for 1 s"), (1, "bytes of replies wait for it"),
+            (0, "sent nothing of the rest of a frame for 1 s"), (1, "its reply would have"),
             (2, "a frame of 1007 bytes"), (3, "it ended within a frame"),
             (4, "asked nothing for 5 s")))
         for number, words in said[1]:
@@ -536,15 +472,47 @@ class Beginning(BrokerTest):
             ("--mode", "0800"), ("--mode", "1777"), ("--connections", "0"),
             ("--connections", "65537"), ("--bytes-held", "-1"), ("--bytes-held", "536870917"),
             ("--patience", "0"), ("--patience", "nan"), ("--servers", "0"), ("--memory", "1000"),
-            ("--grace", "0"), ("--idle", "0"), ("--per-user", "0"),
-            ("--status", "/no/such/folder/socket"))
+            ("--grace", "0"), ("--idle", "0"), ("--per-user", "0"), ("--quota", "0"),
+            ("--contexts", "65536"), ("--status", "/no/such/folder/socket"))
         for options in (*wrong, ("--no-such-option",)):
             with self.subTest(options=options):
                 self.assertEqual(self.begin_any(*options).status(), 2)
-        self.assertEqual(self.begin_any(command=["/no/such/program"]).status(), 2)
-        self.assertEqual(self.begin_any("--servers", "3", command=["/no/such/program"]).status(), 2)
         self.assertEqual(self.begin_any(path="/no/such/folder/socket").status(), 2)
         self.assertEqual(self.begin_any(path="/tmp/" + "x" * 200).status(), 2)
+
+    def test_what_is_refused_is_refused_with_words(self) -> None:
+        for options, words in (
+                (("--longest", "5"), "--longest is refused: a request can't be interrupted"),
+                (("--own-memory", "5"), "--own-memory is refused: the broker and its servers are"),
+                (("--", "vx_main", "serve", "--quota", "7"),
+                 "the broker starts no program: leave out -- vx_main serve --quota 7; give --quota "
+                 "and --work to the broker")):
+            broker = self.begin_any(*options)
+            self.assertEqual(broker.status(), 2)
+            self.assertIn(words, broker.words())
+
+    def test_without_the_library_it_says_so(self) -> None:
+        for variable, words in (("/no/such/library", "FEQYLDAN_CORE is /no/such/library, and"),
+                                (__file__, "isn't the server's library")):
+            broker = self.begin_any(command=REAL, environment={"FEQYLDAN_CORE": variable})
+            self.assertEqual(broker.status(), 2)
+            self.assertIn(words, broker.words())
+            self.assertFalse(os.path.exists(broker.path))
+        broker = self.begin_any(prelude="from feqyldan import core; core.find = lambda: None\n",
+                                command=REAL,
+                                environment={"FEQYLDAN_CORE": ""})
+        self.assertEqual(broker.status(), 2)
+        self.assertIn("the server's library wasn't found: FEQYLDAN_CORE isn't set", broker.words())
+
+    @needs_library
+    def test_the_library_may_be_one_of_the_system(self) -> None:
+        """By its name, as in the unit of the package."""
+        with tempfile.TemporaryDirectory() as folder:
+            shutil.copy(str(LIBRARY), os.path.join(folder, "libfeqyldan-core.so.0"))
+            broker = self.begin(command=REAL, environment={
+                "FEQYLDAN_CORE": "libfeqyldan-core.so.0", "LD_LIBRARY_PATH": folder})
+            self.assertEqual(self.connect(broker).ask(wire.open_context(CLIENT)),
+                             success(wire.OPEN_CONTEXT))
 
     def test_a_service_manager_is_told_when_it_listens(self) -> None:
         with tempfile.TemporaryDirectory() as folder, socket.socket(socket.AF_UNIX,
@@ -627,7 +595,8 @@ class Beginning(BrokerTest):
         script = "; ".join([*moves,
                             f"LISTEN_FDS={len(held)} LISTEN_PID={process} LISTEN_FDNAMES={names} "
                             'exec "$@"'])
-        words = [sys.executable, "-m", "feqyldan.broker", "--servers", "1", "--", *PLAIN]
+        words = [sys.executable, "-c", WITH_PLAIN_LIBRARY + RUN_MODULE, "feqyldan.broker",
+                 "--servers", "1"]
         broker = subprocess.Popen(["/bin/bash", "-c", script, "sh", *words],
                                   pass_fds=[one.fileno() for one in held],
                                   stderr=subprocess.DEVNULL,
@@ -637,7 +606,7 @@ class Beginning(BrokerTest):
         return broker
 
     def test_where_to_listen_has_to_be_told(self) -> None:
-        words = [sys.executable, "-m", "feqyldan.broker", "--", *PLAIN]
+        words = [sys.executable, "-c", WITH_PLAIN_LIBRARY + RUN_MODULE, "feqyldan.broker"]
         ended = subprocess.run(words, stderr=subprocess.PIPE,
                                env={**os.environ, "PYTHONPATH": PACKAGE}, timeout=LATE)
         self.assertEqual(ended.returncode, 2)

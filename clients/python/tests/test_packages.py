@@ -274,10 +274,13 @@ class TestPackages(unittest.TestCase):
     def test_the_door_and_the_broker_of_the_debian_packages(self):
         self.unpack()
         socket = os.path.join(self.folder, "socket")
-        for name, options in (("door", ()), ("broker", ("--servers", "1"))):
+        # The broker's unit has this name, and the linker looks in the system's folders.
+        core = {"LD_LIBRARY_PATH": f"{self.root}/{MULTIARCH}",
+                "FEQYLDAN_CORE": "libfeqyldan-core.so.0"}
+        for name, words in (("door", ("--", "feqyldan", "serve")), ("broker", ("--servers", "1"))):
             run = subprocess.Popen(
-                [sys.executable, f"{self.root}/usr/bin/feqyldan-{name}", *options, "--socket",
-                 socket, "--", "feqyldan", "serve"], env=self.environment, stderr=subprocess.PIPE)
+                [sys.executable, f"{self.root}/usr/bin/feqyldan-{name}", "--socket", socket,
+                 *words], env={**self.environment, **core}, stderr=subprocess.PIPE)
             try:
                 with vx.connect(socket, retry=30) as server, server.context() as context:
                     self.assertEqual(context.image_from([[1, 2]]).read().tolist(), [[1, 2]])
@@ -299,8 +302,9 @@ class TestPackages(unittest.TestCase):
             self.assertNotIn("/opt", texts[name])
         self.assertEqual(set(texts), set(os.listdir(os.path.join(ROOT, "deploy"))) - {
             "man", "starter", "sysusers.conf"})
-        for name in ("door", "broker"):
-            self.assertIn("-- /usr/bin/feqyldan serve", texts[f"feqyldan-{name}.service"])
+        self.assertIn("-- /usr/bin/feqyldan serve", texts["feqyldan-door.service"])
+        self.assertIn("\nEnvironment=FEQYLDAN_CORE=libfeqyldan-core.so.0\n",
+                      texts["feqyldan-broker.service"])
         self.assertIn("\nExecStart=/run/feqyldan/program serve ", texts["feqyldan@.service"])
         self.assertIn("/run/feqyldan/program'\n", texts["feqyldan.socket"])
 

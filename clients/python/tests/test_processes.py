@@ -234,15 +234,14 @@ class TestForks(ProcessTest):
 
     @of_a_process
     def test_sockets(self):
-        """A child's copy of a socket is closed, and so the broker sees its end."""
+        """A child's copy of a socket is closed, and so the door sees its end."""
         with tempfile.TemporaryDirectory() as folder:
             path = os.path.join(folder, "socket")
-            broker = subprocess.Popen([sys.executable, "-m", "feqyldan.broker", "--socket", path,
-                                       "--", PROGRAM, "serve"],
-                                      env={**os.environ, "PYTHONPATH": PACKAGE},
-                                      stderr=subprocess.DEVNULL)
-            self.addCleanup(broker.wait)
-            self.addCleanup(broker.terminate)
+            door = subprocess.Popen([sys.executable, "-m", "feqyldan.door", "--socket", path, "--",
+                                     PROGRAM, "serve"], env={**os.environ, "PYTHONPATH": PACKAGE},
+                                    stderr=subprocess.DEVNULL)
+            self.addCleanup(door.wait)
+            self.addCleanup(door.terminate)
             with vx.connect(path, retry=PATIENCE) as server, server.context() as context:
                 image = context.image_from([[1, 2]])
                 child = os.fork()

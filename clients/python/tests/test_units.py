@@ -16,8 +16,8 @@ from typing import Dict, List, Set
 from broker_tools import HERE, LATE
 from program import PROGRAM, needs_program, skip_module_in_process, vx
 from feqyldan.broker import command_line as broker
-from feqyldan.broker.loop import END_SECONDS
 from feqyldan.door import command_line as door
+from feqyldan.door.loop import KILL_SECONDS
 from feqyldan.door.program import NICE
 from feqyldan.service.listener import STATUS_NAME
 
@@ -171,7 +171,7 @@ class Units(unittest.TestCase):
             self.assertEqual((told.socket, told.status), (None, None))
             self.assertEqual(sockets["ListenStream"], ["/run/feqyldan/socket"])
             self.assertEqual(service["Type"], ["notify"])
-            self.assertLess(told.grace + END_SECONDS, float(service["TimeoutStopSec"][0]))
+            self.assertLess(told.grace + KILL_SECONDS, float(service["TimeoutStopSec"][0]))
             # It is started again for as long as that takes, and no kill of a server ends it.
             self.assertEqual((service["StartLimitIntervalSec"], service["Restart"],
                               service["OOMPolicy"]), (["0"], ["on-failure"], ["continue"]))

@@ -1,90 +1,102 @@
 """The broker's command line."""
 
 import argparse
-import resource
+import os
 import sys
+import traceback
 from functools import partial
 from typing import List, Optional
 
+from .. import core, wire
+from ..errors import FeqyldanError
+from ..server import GREATEST_LIMIT, QUOTA, WORK
 from ..service import options
 from ..service.lines import Unusable
 from ..service.machine import open_standard_files, processors, raise_file_limit
 from ..service.options import memory_from, number_from, part_of_memory, seconds_from
 from .connection import Limits
-from .incoming import AHEAD, GREATEST_LENGTH
-from .loop import Broker, Plan
+from .incoming import AHEAD
+from .loop import Broker
+from .memory import kept_for_python, limit_memory, use_one_heap
+from .server import Library
 
 MOST_SERVERS, MOST_SERVERS_UNLESS_TOLD = 256, 8
 BYTES_HELD = 268_500_992
-# Default shares of the memory: for all servers, for the broker itself, and for the frames and
-# replies that it buffers.
-SERVERS_PART, OWN_PART, HELD_PART = 3 / 4, 1 / 4, 1 / 8
-# The least limit on the broker's own memory, in bytes. Python itself takes about 40 MB of address
-# space.
-LEAST_OWN_MEMORY = 2**27
+# The default share of the machine's memory for the frames and replies that are buffered.
+HELD_PART = 1 / 8
 # The least limit on what all connections hold: two reads.
 LEAST_HELD = 2 * AHEAD
-# The pipes to and from a server, and those of its replacement while that one starts.
-FILES_OF_SERVER = 6
+# A context has a number of 16 bits in its server, and one number is spare.
+MOST_CONTEXTS = 65_535
 USAGE = """
-Memory: for each connection the broker buffers at most one request frame and one reply. Each has at
-most --bytes-held bytes and 131,072 more. Frames and replies of all connections together take at
-most --total-held bytes. Buffers grow as bytes arrive and aren't allocated in advance. The broker
-closes a connection whose frame or waiting replies exceed its limit. If the total would be exceeded,
-it closes the connection with the most bytes. Not counted: the kernel's socket buffers, and the
-images of the servers' clients (their --quota).
+Memory: --memory limits the address space of the broker with all of its servers. Of it, --total-held
+bytes, or a quarter if that is less, are kept for frames, replies and the broker itself. A request
+gets NO_MEMORY if too little is left for its images. For each connection the broker buffers at most
+one request frame and one reply, of at most --bytes-held bytes each, and 131,072 bytes more. Frames
+and replies of all connections together take at most --total-held bytes. The broker closes a
+connection whose frame or reply exceeds its limit. If the total would be exceeded, it closes the
+connection with the most bytes. Not counted in --total-held: the kernel's socket buffers, the frame
+and the reply of each server's request, and the images of the servers' clients (their --quota).
 
-Signals: SIGTERM and SIGINT stop the broker with status 0 once its servers have answered all pending
-requests, or after --grace seconds. After SIGHUP it starts new servers for new connections. An old
-server ends with its last connection.
+Signals: SIGTERM and SIGINT stop the broker with status 0 once the requests in progress are
+answered, or after --grace seconds. SIGHUP changes nothing: a new library needs a new broker, and
+all connections end with the old one.
 
-Failures: if a server ends, its connections end too, and the broker starts another server. If three
-servers in a row end right after they start, the broker ends with the status of the last one, or 1
-if that is 0. It ends with status 2 if it can't start itself.
+Failures: if the broker fails, all connections end. It ends with status 2 if it can't start.
 
 Socket activation: a service manager may pass one or two listening sockets (LISTEN_FDS) instead of
 --socket and --status.
 """
+# Options of earlier versions, and why they are refused.
+REFUSED = {
+    "--longest": "a request can't be interrupted; --work bounds how long a graph takes, and the "
+                 "status socket reports the time of the present request",
+    "--own-memory": "the broker and its servers are one process, which --memory limits"}
 
 
-def most_held(connections: int, bytes_held: int) -> int:
-    """Returns the most bytes of frames that the broker could buffer without a total limit."""
-    return 2 * connections * (bytes_held + 2 * AHEAD)
+class Refused(argparse.Action):
+    """An option that is refused with words."""
+
+    def __call__(self, made: argparse.ArgumentParser, namespace: argparse.Namespace,
+                 values: object, option: Optional[str] = None) -> None:
+        made.error(f"{option} is refused: {REFUSED[str(option)]}")
 
 
 def servers_unless_told() -> int:
     return min(processors(), MOST_SERVERS_UNLESS_TOLD)
 
 
-def memory_each(servers: int) -> int:
-    """Returns the default limit of each server's address space, in bytes. All limits together are
-    three quarters of the memory."""
-    return part_of_memory(SERVERS_PART / servers)
-
-
 def parser() -> argparse.ArgumentParser:
-    made = options.parser("feqyldan-broker", "Shares vision servers among several programs. Each "
-                          "connection to a Unix socket is one client.", USAGE)
+    made = options.parser("feqyldan-broker", "", "Shares vision servers among several programs, "
+                          "through a Unix socket. The servers run in the broker's process, each on "
+                          "a thread.", USAGE)
     add = made.add_argument
     add("--servers", type=partial(number_from, 1, MOST_SERVERS), metavar="N",
         help=f"number of servers, 1 to {MOST_SERVERS} (default: one for each processor, at most "
              f"{MOST_SERVERS_UNLESS_TOLD})")
-    options.add_admission(made, ", including those whose context is still being released")
+    options.add_admission(made, ", including those whose contexts are still being released")
     add_memory(made)
     add_times(made)
+    for name in REFUSED:
+        add(name, action=Refused, help=argparse.SUPPRESS)
+    add("command", nargs="*", help=argparse.SUPPRESS)
     return made
 
 
 def add_memory(made: argparse.ArgumentParser) -> None:
-    add = made.add_argument
+    add, limit = made.add_argument, partial(number_from, 1, GREATEST_LIMIT)
+    add("--quota", type=limit, default=QUOTA, metavar="BYTES",
+        help=f"most sample bytes of the images of a context (default: {QUOTA})")
+    add("--work", type=limit, default=WORK, metavar="BYTES",
+        help=f"most sample bytes of the virtual images of a graph (default: {WORK})")
+    add("--contexts", type=partial(number_from, 1, MOST_CONTEXTS), default=1, metavar="N",
+        help="most contexts of a connection, each of a client; one more is refused NO_RESOURCES "
+             "(default: 1)")
     add("--memory", type=memory_from, default=0, metavar="BYTES",
-        help="most bytes of address space of each server, or 'unlimited'; a request that needs "
-             "more gets NO_MEMORY (default: three quarters of the memory of the machine, or of the "
-             "broker's control group, divided among the servers)")
-    add("--own-memory", type=memory_from, default=0, metavar="BYTES",
-        help="most bytes of address space of the broker itself, or 'unlimited' (default: a "
-             f"quarter of the same memory, at least {LEAST_OWN_MEMORY})")
-    add("--bytes-held", type=partial(number_from, 7, GREATEST_LENGTH + 4), default=BYTES_HELD,
+        help="most bytes of address space of the broker with all of its servers, or 'unlimited' "
+             "(default: three quarters of the memory of the machine, or of the broker's control "
+             "group)")
+    add("--bytes-held", type=partial(number_from, 7, wire.GREATEST_LENGTH + 4), default=BYTES_HELD,
         metavar="BYTES", help="most bytes of a request frame, and of a reply (default: "
                               f"{BYTES_HELD}, enough for an image of 8192x8192 U32)")
     add("--total-held", type=partial(number_from, LEAST_HELD, options.MOST_MEMORY), metavar="BYTES",
@@ -100,45 +112,62 @@ def add_times(made: argparse.ArgumentParser) -> None:
              "frames there is no limit")
     add("--idle", type=seconds_from, metavar="SECONDS",
         help="seconds without a request after which a connection is closed (default: never)")
-    add("--longest", type=seconds_from, metavar="SECONDS",
-        help="seconds that one request may take before its server is killed and another one "
-             "started (default: no limit)")
     add("--grace", type=seconds_from, default=options.GRACE, metavar="SECONDS",
-        help="seconds for pending requests after the broker is told to stop; then the servers "
-             f"are killed (default: {options.GRACE:g})")
+        help="seconds for requests in progress after the broker is told to stop; then they are "
+             f"given up (default: {options.GRACE:g})")
 
 
-def limits_of(told: argparse.Namespace) -> Limits:
-    total = told.total_held or min(part_of_memory(HELD_PART),
-                                   most_held(told.connections, told.bytes_held))
-    return Limits(told.connections, told.per_process, told.per_user, told.bytes_held, total,
-                  told.patience, told.idle, told.longest, told.grace, told.report)
+def told_by(words: Optional[List[str]]) -> Limits:
+    """Returns what the command line says. Without words, that is the command line of this
+    process."""
+    made = parser()
+    told = made.parse_args(words)
+    if told.command:
+        made.error(f"the broker starts no program: leave out -- {' '.join(told.command)}; give "
+                   "--quota and --work to the broker, and the library by FEQYLDAN_CORE")
+    told.total_held = told.total_held or part_of_memory(HELD_PART)
+    return told
 
 
-def limit_own_memory(asked: Optional[int]) -> None:
-    """Limits the broker's own memory. An allocation beyond the limit then fails here, and only the
-    connection that needs it is ended. Without a limit the system would kill the broker, and with it
-    all programs."""
-    limit = asked or max(LEAST_OWN_MEMORY, part_of_memory(OWN_PART))
-    hard = resource.getrlimit(resource.RLIMIT_AS)[1]
-    if asked is not None and (hard == resource.RLIM_INFINITY or limit < hard):
-        resource.setrlimit(resource.RLIMIT_AS, (limit, hard))
+def found_library() -> str:
+    """Returns the path of the library, which vx.Server() finds too. Raises Unusable if there is
+    none."""
+    path = core.find()
+    if path is None:
+        raise Unusable("the server's library wasn't found: FEQYLDAN_CORE isn't set, and neither "
+                       "the package nor a checkout has libfeqyldan-core.so for this processor; "
+                       "install the wheel with the server, or set FEQYLDAN_CORE")
+    return path
 
 
 def main(words: Optional[List[str]] = None) -> int:
     """Runs the broker until it ends, and returns its exit status."""
     open_standard_files()
-    told = parser().parse_args(words)
-    limits = limits_of(told)
-    servers = told.servers or servers_unless_told()
-    plan = Plan(told.command, servers, told.memory if told.memory != 0 else memory_each(servers))
+    told = told_by(words)
+    use_one_heap()
     try:
-        raise_file_limit(f"{limits.connections} connections and {servers} servers",
-                         limits.connections + FILES_OF_SERVER * servers)
-        listener, status = options.listeners(told)
-        broker = Broker(listener, status, plan, limits)
-        limit_own_memory(told.own_memory)
-        return broker.run()
-    except Unusable as reason:
+        path = found_library()
+        raise_file_limit(f"{told.connections} connections", told.connections)
+        kept = kept_for_python(told.connections)
+        libraries = [Library(path, told.quota, told.work)
+                     for _ in range(told.servers or servers_unless_told())]
+        broker = Broker(*options.listeners(told), libraries, told)
+        try:
+            limit_memory(told.memory, told.total_held)
+        except Unusable:
+            broker.close()
+            raise
+    except (Unusable, FeqyldanError) as reason:
         print(f"feqyldan broker: {reason}", file=sys.stderr)
         return 2
+    status = 0
+    try:
+        broker.run()
+    except Exception:
+        traceback.print_exc()
+        status = 1
+    del kept
+    if broker.is_serving:
+        # The call of a thread goes on until the process ends, and needs its memory until then.
+        os._exit(status)
+    return status

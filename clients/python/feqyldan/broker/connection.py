@@ -1,62 +1,66 @@
 """A program's connection to the broker."""
 
+import argparse
 import socket
-from typing import TYPE_CHECKING, Any, NamedTuple, Optional
+from typing import TYPE_CHECKING, Any, List, Optional, Set
 
 from ..service.admission import Owner
 from ..service.descriptors import Descriptors
 from ..service.events import READ, WRITE
-from .incoming import AHEAD, CHUNK, Frames, Incoming, Total, release_of
+from .incoming import AHEAD, CHUNK, Frames, Incoming, Total
+from .memory import PAGES
 
 if TYPE_CHECKING:
-    from .server import Server, Turn
-
-# The most seconds that the turns with a server are expected to take, if another one joins them.
-TURN_SECONDS = 0.001
+    from .server import Server
 
 
-class Limits(NamedTuple):
-    """
-    The limits of the broker. Numbers of connections at the same time: in all, of one process, of
-    one user. Bytes: of the longest frame and reply, and of those of all connections together.
-    Seconds: without a byte within a frame or a reply, without a request, of the longest request,
-    for pending requests after the broker is told to end, and between two reports of the counts.
-    """
+# The limits of the broker: what its command line says.
+Limits = argparse.Namespace
 
-    connections: int
-    per_process: int
-    per_user: int
-    bytes_held: int
-    total_held: int
-    patience: float
-    idle: Optional[float]
-    longest: Optional[float]
-    grace: float
-    report: float
+
+class Turn:
+    """The requests of one connection that its server works on, or without frames the release of the
+    connection's contexts; and what comes of them: the replies and their number, the codes of the
+    refusals, the seconds, and the fault if there was one."""
+
+    __slots__ = ("connection", "frames", "size", "began", "replies", "count", "refusals", "seconds",
+                 "fault")
+
+    def __init__(self, connection: "Connection", frames: Optional[Frames], now: float) -> None:
+        self.connection, self.frames, self.began = connection, frames, now
+        self.size = 0 if frames is None else len(frames.front) + len(frames.rest)
+        self.replies, self.count, self.seconds = memoryview(b""), 0, 0.0
+        self.refusals: List[int] = []
+        self.fault: Optional[Exception] = None
 
 
 class Connection:
-    """One program's connection, from when it is accepted until its number is free again."""
+    """One program's connection, from when it is accepted until its contexts are released."""
+
+    __slots__ = ("sock", "number", "owner", "limits", "total", "incoming", "outgoing", "left",
+                 "sent", "server", "link", "clients", "turn", "place", "used", "took", "reads",
+                 "is_open", "is_leaving", "interest", "received_at", "taken_at", "served_at")
 
     def __init__(self, sock: socket.socket, number: int, owner: Owner, limits: Limits, total: Total,
                  descriptors: Descriptors, now: float) -> None:
         self.sock, self.number, self.owner, self.limits = sock, number, owner, limits
         self.total = total
         self.incoming = Incoming(limits.bytes_held, total, descriptors)
-        # The replies that aren't sent yet.
-        self.outgoing = bytearray()
-        # The server that has the connection's context, after the first request; and the turn that
-        # is with the server.
+        # The replies that aren't sent yet, how many bytes of them are left, and how many of the
+        # first one were sent.
+        self.outgoing: List[memoryview] = []
+        self.left, self.sent = 0, 0
+        # The connection's server, after the first request; what the server calls the connection,
+        # and the clients whose contexts it has; and the turn in progress.
         self.server: Optional["Server"] = None
-        self.turn: Optional["Turn"] = None
-        # Whether the server has got a request of the connection, and so may have a context for it.
-        self.is_known = False
+        self.link: Optional[int] = None
+        self.clients: Set[int] = set()
+        self.turn: Optional[Turn] = None
         # The place in the line for the next turn.
         self.place: Any = None
-        # Seconds of the server's time: used in all, used by the last turn, and expected for a
-        # request that may take long.
-        self.used, self.took, self.pace = 0.0, 0.0, TURN_SECONDS
-        # Whether the connection may send more; whether it is open; whether its context is being
+        # Seconds of the server's time: used in all, and by the last turn.
+        self.used, self.took = 0.0, 0.0
+        # Whether the connection may send more; whether it is open; whether its contexts are being
         # released.
         self.reads, self.is_open, self.is_leaving = True, True, False
         # The events that it is watched for.
@@ -71,34 +75,19 @@ class Connection:
     # ---- what it sends
 
     def wanted(self) -> int:
-        """Returns the events to watch for. The connection isn't read while a long frame of it waits
-        here, so that it never has two."""
-        is_held_up = self.turn is not None and self.turn.is_long_and_unwritten
+        """Returns the events to watch for. The connection isn't read while the server has a long
+        frame of it, so that it never has two."""
+        is_held_up = self.turn is not None and self.turn.size > AHEAD
         reads = self.reads and not is_held_up and self.incoming.has_room
         return (READ if reads else 0) | (WRITE if self.outgoing else 0)
 
+    def next_turn(self, turn_bytes: int, now: float) -> Turn:
+        """Returns the next requests. After the connection's end that is the release of its
+        contexts."""
+        return Turn(self, None if self.is_leaving else self.incoming.take(turn_bytes), now)
+
     def may_ask(self) -> bool:
-        return self.turn is None and self.incoming.is_whole and len(self.outgoing) <= AHEAD
-
-    @property
-    def begins_long(self) -> bool:
-        """Whether the first request of its next turn may take long."""
-        return self.is_leaving or self.incoming.begins_long
-
-    def next_frames(self, may_be_long: bool, turn_bytes: int) -> Frames:
-        """Returns the frames of the next turn. After the connection's end that is the release of
-        its context."""
-        if self.is_leaving:
-            return release_of(self.number)
-        return self.incoming.take(self.number, may_be_long, turn_bytes)
-
-    def has_taken(self, seconds: float, long: int) -> None:
-        """Notes how long the server took for a turn, and how many requests of the turn may take
-        long."""
-        self.used += seconds
-        self.took = seconds
-        if long:
-            self.pace = max(seconds / long, self.pace / 2)
+        return self.turn is None and self.incoming.is_whole and self.left <= AHEAD
 
     def has_finished(self) -> bool:
         """Returns whether the connection sends no more, and has all of its replies."""
@@ -120,33 +109,23 @@ class Connection:
         self.taken_at = now
         return sent
 
-    def put_reply(self, piece: memoryview, now: float) -> memoryview:
-        """Sends a piece of a reply, unless earlier pieces wait. Returns what wasn't sent."""
-        if self.outgoing:
-            return piece
-        sent, self.taken_at = self.send(piece, now), now
-        return piece[sent:]
-
-    def let_wait(self, piece: memoryview) -> None:
-        """Keeps a piece of a reply until the connection takes it. Raises TotalReached if too many
-        bytes would wait for all connections together, and MemoryError if there is no memory."""
-        self.total.take(len(piece))
-        try:
-            self.outgoing += piece
-        except MemoryError:
-            self.total.give(len(piece))
-            raise
-
-    @property
-    def most_waiting(self) -> int:
-        """The most bytes of replies that may wait for the connection."""
-        return self.limits.bytes_held + 2 * AHEAD
+    def let_wait(self, reply: memoryview, sent: int, now: float) -> None:
+        """Keeps a reply of which so many bytes were sent until the connection takes it. Raises
+        TotalReached if too many bytes would wait for all connections together."""
+        self.total.take(len(reply))
+        self.taken_at = self.taken_at if self.outgoing else now
+        self.outgoing.append(reply)
+        self.left += len(reply) - sent
+        self.sent += sent
 
     def send_waiting(self, now: float) -> None:
-        with memoryview(self.outgoing) as waiting, waiting[:CHUNK] as first:
-            sent = self.send(first, now)
-        del self.outgoing[:sent]
-        self.total.give(sent)
+        first = self.outgoing[0]
+        sent = self.send(first[self.sent : self.sent + CHUNK], now)
+        self.sent, self.left = self.sent + sent, self.left - sent
+        if self.sent == len(first):
+            PAGES.give(self.outgoing.pop(0).obj)
+            self.sent = 0
+            self.total.give(len(first))
 
     # ---- the clock
 
@@ -154,8 +133,8 @@ class Connection:
         """Returns in words what the connection has delayed for too long; None if nothing."""
         patience, idle = self.limits.patience, self.limits.idle
         if self.outgoing and now - self.taken_at > patience:
-            return (f"it took none of its {len(self.outgoing)} bytes of replies for "
-                    f"{patience:g} s (--patience)")
+            return (f"it took none of its {self.left} bytes of replies for {patience:g} s "
+                    "(--patience)")
         if self.interest & READ and self.incoming.has_part and now - self.received_at > patience:
             return f"it sent nothing of the rest of a frame for {patience:g} s (--patience)"
         if idle is not None and self.is_idle() and now - self.served_at > idle:
@@ -168,9 +147,9 @@ class Connection:
     @property
     def bytes_held(self) -> int:
         """The connection's share of the bytes held for all connections."""
-        return self.incoming.taken + len(self.outgoing)
+        return self.incoming.taken + sum(map(len, self.outgoing))
 
     def clear(self) -> None:
+        self.total.give(sum(map(len, self.outgoing)))
+        self.outgoing.clear()
         self.incoming.clear()
-        self.total.give(len(self.outgoing))
-        self.outgoing = bytearray()

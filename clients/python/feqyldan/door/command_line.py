@@ -34,10 +34,12 @@ Socket activation: a service manager may pass one or two listening sockets (LIST
 
 
 def parser() -> argparse.ArgumentParser:
-    made = options.parser("feqyldan-door", "Starts a vision server for each connection to a Unix "
-                          "socket.", USAGE)
+    made = options.parser("feqyldan-door", " -- PROGRAM serve [WORD ..]", "Starts a vision server "
+                          "for each connection to a Unix socket.", USAGE)
     options.add_admission(made, "")
     add = made.add_argument
+    add("command", nargs="+", metavar="PROGRAM serve ..",
+        help="the server's program and its arguments")
     add("--memory", type=memory_from, default=0, metavar="BYTES",
         help="most bytes of address space of each server, or 'unlimited' (default: --total-memory "
              "divided by --connections)")

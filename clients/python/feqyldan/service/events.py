@@ -5,6 +5,9 @@ from typing import Callable, Dict, List, Optional, Tuple
 
 READ, WRITE = select.EPOLLIN, select.EPOLLOUT
 Handler = Callable[[int], None]
+# The most events that are handled before others are looked for. Their list is small enough for the
+# memory that Python keeps for itself.
+EVENTS_AT_ONCE = 40
 
 
 class Events:
@@ -42,7 +45,8 @@ class Events:
         return [
             (self.handlers[descriptor],
              (READ if mask & ~WRITE else 0) | (WRITE if mask & ~READ else 0))
-            for descriptor, mask in self.epoll.poll(seconds) if descriptor in self.handlers]
+            for descriptor, mask in self.epoll.poll(seconds, EVENTS_AT_ONCE)
+            if descriptor in self.handlers]
 
     def close(self) -> None:
         self.epoll.close()

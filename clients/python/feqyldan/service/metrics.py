@@ -27,10 +27,12 @@ def metrics_of(state: Dict[str, Any], metrics: Metrics) -> Iterator[str]:
         yield from metric(name, kind, words, [("", found(state, path))])
 
 
-def metrics_of_servers(state: Dict[str, Any], metrics: Metrics) -> Iterator[str]:
+def metrics_of_servers(state: Dict[str, Any], metrics: Metrics,
+                       label: str = "process") -> Iterator[str]:
+    """Yields the metrics of each server, with one of its values as the label."""
     for name, path, kind, words in metrics:
         yield from metric(name, kind, words, [
-            (f'{{process="{server["process"]}"}}', server[path]) for server in state["servers"]])
+            (f'{{{label}="{server[label]}"}}', server[path]) for server in state["servers"]])
 
 
 def metric(name: str, kind: str, words: str, values: List[Tuple[str, Any]]) -> Iterator[str]:

@@ -59,12 +59,12 @@ def part_of_memory(part: float) -> int:
     return max(LEAST_MEMORY, int(memory_bytes() * part))
 
 
-def parser(name: str, description: str, epilog: str) -> argparse.ArgumentParser:
-    """Returns a parser with the options for the sockets and the server's program."""
+def parser(name: str, arguments: str, description: str, epilog: str) -> argparse.ArgumentParser:
+    """Returns a parser with the options for the sockets and the reports."""
     made = argparse.ArgumentParser(
         prog=name, formatter_class=argparse.RawDescriptionHelpFormatter,
-        usage="%(prog)s --socket PATH [OPTION ..] -- PROGRAM serve [WORD ..]",
-        description=description, epilog=epilog)
+        usage=f"%(prog)s --socket PATH [OPTION ..]{arguments}", description=description,
+        epilog=epilog)
     add = made.add_argument
     add("--socket", metavar="PATH", help="path of the Unix socket that programs connect to")
     add("--mode", type=mode_from, default=0o600, metavar="OCTAL",
@@ -82,8 +82,6 @@ def parser(name: str, description: str, epilog: str) -> argparse.ArgumentParser:
     add("--report", type=seconds_from, default=REPORT, metavar="SECONDS",
         help="seconds between two lines of counts on standard error (default: "
              f"{REPORT:g}); a line is left out if nothing has happened")
-    add("command", nargs="+", metavar="PROGRAM serve ..",
-        help="the server's program and its arguments")
     return made
 
 
