@@ -58,8 +58,10 @@ CHANGES = {
                         "ExecStartPre=/bin/sh -c 'exec ln -sfn \"$$(/usr/bin/feqyldan --which)\" "
                         f"{CHOSEN}'\n"},
     "feqyldan@.service": {PROGRAM: CHOSEN},
-    **{f"feqyldan-{module}.service": {"Environment=PYTHONPATH=/opt/feqyldan/python\n": "",
-                                      PROGRAM: "/usr/bin/feqyldan"} for module in COMMANDS}}
+    "feqyldan-door.service": {"Environment=PYTHONPATH=/opt/feqyldan/python\n": "",
+                              PROGRAM: "/usr/bin/feqyldan"},
+    "feqyldan-broker.service": {"Environment=PYTHONPATH=/opt/feqyldan/python\n": "",
+                                "/opt/feqyldan/lib/libfeqyldan-core.so": "libfeqyldan-core.so.0"}}
 # Starts nothing and adds no user when installing into another system's root (DPKG_ROOT).
 AFTER_INSTALL = """\
 #!/bin/sh
@@ -178,7 +180,7 @@ def build_services(folder: str) -> str:
              "postrm": AFTER_REMOVAL.replace("    rm -rf /run/feqyldan\n", "")},
             name=SERVICES, architecture="all", section="science", description=SERVICES_DESCRIPTION,
             relations=f"Depends: python3 (>= 3.9), {SERVER} (= {version}), {PYTHON} (= {version})\n"
-                      "Suggests: libfeqyldan-dev")
+                      "Recommends: libfeqyldan0\nSuggests: libfeqyldan-dev")
 
 
 def build(wheel: str, programs: Dict[str, bytes], c_library: Tuple[int, int],
