@@ -51,6 +51,12 @@ class Server:
         self.process.wait()
 
 
+def library_of(program):
+    """Returns the path of the library that tools/build puts next to a program."""
+    home, name = os.path.split(os.path.abspath(program))
+    return os.path.join(home, f"libfeqyldan-core-{name.partition('-')[2] or 'default'}.so")
+
+
 def best_seconds(function, count=1):
     """Returns the least seconds of a call, over several rounds of `count` calls."""
     function()

@@ -650,11 +650,11 @@ class Library(unittest.TestCase):
 
     def started_broker(self, *options):
         """The path of the socket of a broker, which ends with the test."""
+        self.need_core()
         path = os.path.join(tempfile.mkdtemp(dir=folder), "socket")
-        words = [sys.executable, "-m", "feqyldan.broker", "--socket", path, *options, "--",
-                 os.environ["FEQYLDAN_PROGRAM"], "serve"]
-        package = os.path.join(HOME, "..", "python")
-        broker = subprocess.Popen(words, env={**os.environ, "PYTHONPATH": package})
+        words = [sys.executable, "-m", "feqyldan.broker", "--socket", path, *options]
+        found_by = {"PYTHONPATH": os.path.join(HOME, "..", "python"), "FEQYLDAN_CORE": core("so")}
+        broker = subprocess.Popen(words, env={**os.environ, **found_by})
         self.addCleanup(broker.wait)
         self.addCleanup(broker.terminate)
         vx.connect(path, retry=30).close()
