@@ -73,13 +73,11 @@ fi
 ADD_USER = "    if command -v systemd-sysusers > /dev/null; then systemd-sysusers feqyldan.conf; fi"
 COMPILE = "    if command -v py3compile > /dev/null; then py3compile -p python3-feqyldan; fi"
 RELOAD = "    if [ -d /run/systemd/system ]; then systemctl daemon-reload; fi"
-# New connections to running services get the new program.
-RELOAD_SERVICES = """
-    if [ -d /run/systemd/system ]; then
-        for unit in {units}; do
-            if systemctl --quiet is-active "$unit"; then systemctl reload "$unit" || true; fi
-        done
-    fi""".format(units=" ".join(f"feqyldan-{module}" for module in COMMANDS))
+# New connections to a running door get the new program.
+RELOAD_DOOR = """
+    if [ -d /run/systemd/system ] && systemctl --quiet is-active feqyldan-door; then
+        systemctl reload feqyldan-door || true
+    fi"""
 # A missing or masked unit doesn't prevent removal of the package.
 BEFORE_REMOVAL = """\
 #!/bin/sh
@@ -144,7 +142,7 @@ def build_server(programs: Dict[str, bytes], c_library: Tuple[int, int], folder:
                         *(os.path.join(stage, place) for place in places)], check=True)
         return debian.finish(
             stage, folder,
-            {"postinst": AFTER_INSTALL.format(lines=f"{ADD_USER}\n{RELOAD}{RELOAD_SERVICES}"),
+            {"postinst": AFTER_INSTALL.format(lines=f"{ADD_USER}\n{RELOAD}{RELOAD_DOOR}"),
              "prerm": BEFORE_REMOVAL.format(units="feqyldan.socket", more=STOP_ALL),
              "postrm": AFTER_REMOVAL},
             name=SERVER, architecture=machine.debian, section="science",

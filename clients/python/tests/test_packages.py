@@ -325,16 +325,14 @@ class TestPackages(unittest.TestCase):
         for package in self.debian[:3]:
             self.run_script(package, "exit 1", "prerm", "remove")
 
-    def test_an_upgrade_reaches_the_new_connections_of_running_services(self):
-        """The door and the broker look up the server's program again."""
+    def test_an_upgrade_reaches_the_new_connections_of_a_running_door(self):
+        """The door looks up the server's program again."""
         said = self.run_script(self.debian[0], 'echo "$*"', "postinst", "configure", "0.0.1")
-        for name in ("feqyldan-door", "feqyldan-broker"):
-            self.assertIn(f"reload {name}\n", said)
+        self.assertIn("reload feqyldan-door\n", said)
         # Nothing is started.
         said = self.run_script(self.debian[0], 'echo "$*"; [ "$1" = daemon-reload ]', "postinst",
                                "configure", "0.0.1")
-        self.assertEqual(said, "daemon-reload\n--quiet is-active feqyldan-door\n"
-                               "--quiet is-active feqyldan-broker\n")
+        self.assertEqual(said, "daemon-reload\n--quiet is-active feqyldan-door\n")
 
     def run_script(self, package, systemctl, name, *words):
         """Runs a maintainer's script of a package with a script in place of systemctl. Returns what
