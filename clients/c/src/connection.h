@@ -92,7 +92,8 @@ struct core {
     uint32_t (*connect)(struct feqyldan_handle *handle, uint32_t *connection);
     uint32_t (*serve)(struct feqyldan_handle *handle, uint32_t connection, const uint8_t *front,
                       size_t front_length, const uint8_t *back, size_t back_length,
-                      uint8_t *reply, size_t reply_length, size_t *length);
+                      uint8_t *reply, size_t reply_length, uint8_t *rest, size_t rest_length,
+                      size_t *length);
     void (*close)(struct feqyldan_handle *handle);
     struct feqyldan_handle handle;
     /* The number of the only connection of the handle. */

@@ -135,41 +135,52 @@ static void drop_large_buffer(struct core *core) {
     core->long_reply = (struct buffer){NULL, 0};
 }
 
-/* Ends a request with a code, and copies its reply's body to its places. */
-static void take_reply(struct request *request, uint8_t code, const uint8_t *body) {
+/* Ends a request with a code, and copies its reply's body to its places. The samples may be there
+   already. */
+static void take_reply(struct request *request, uint8_t code, const uint8_t *body,
+                       const uint8_t *samples) {
     request->code = code;
     request->is_done = true;
     if (code != 0)
         return;
     if (request->body_length > 0)
         memcpy(request->body, body, request->body_length);
-    body += request->body_length;
     uint8_t *to = request->samples;
     for (size_t at = 0; at < request->samples_length; at += request->row) {
-        turn_samples(to, body + at, request->row, request->unit);
+        turn_samples(to, samples + at, request->row, request->unit);
         to += request->stride;
     }
+}
+
+/* Whether the server writes the samples of a reply to their place: they are one row, and alone have
+   the least length of a reply's memory. */
+static bool is_placed(const struct request *request) {
+    return request->samples_length >= FEQYLDAN_LEAST_BUFFER &&
+           request->row == request->samples_length;
 }
 
 /* Has the server answer the frame of front and back. Returns false where it gives no reply. */
 static bool serve(struct connection *connection, struct request *request, size_t front_length,
                   const uint8_t *back, size_t back_length) {
     struct core *core = &connection->core;
-    size_t wanted = REPLY_HEAD + request->body_length + request->samples_length, length;
+    size_t placed = is_placed(request) ? request->samples_length : 0;
+    size_t before = REPLY_HEAD + request->body_length, length;
+    size_t wanted = before + request->samples_length - placed;
     uint8_t *reply = reply_buffer(core, wanted);
     if (reply == NULL) {
-        take_reply(request, NO_MEMORY, NULL);
+        take_reply(request, NO_MEMORY, NULL, NULL);
         return true;
     }
-    size_t capacity = reply == core->short_reply ? sizeof core->short_reply : wanted;
+    uint8_t *samples = placed > 0 ? request->samples : reply + before;
+    size_t room = placed == 0 && reply == core->short_reply ? sizeof core->short_reply : wanted;
     uint32_t status = core->serve(&core->handle, core->number, core->front, front_length,
-                                  back_length > 0 ? back : core->front, back_length, reply,
-                                  capacity, &length);
+                                  back_length > 0 ? back : core->front, back_length, reply, room,
+                                  samples, placed, &length);
     if (status != FEQYLDAN_OK || !is_reply_to(request, reply)) {
         connection->has_ended = true;
         return false;
     }
-    take_reply(request, reply[7], reply + REPLY_HEAD);
+    take_reply(request, reply[7], reply + REPLY_HEAD, samples);
     drop_large_buffer(core);
     return true;
 }

@@ -107,7 +107,8 @@ static void turn(uint8_t *to, const uint8_t *from, vx_size size) {
 
 void turn_samples(uint8_t *to, const uint8_t *from, size_t bytes, size_t unit) {
     if (unit == 1 || is_big_endian()) {
-        memmove(to, from, bytes);
+        if (to != from)
+            memmove(to, from, bytes);
         return;
     }
     for (size_t at = turn_vectors(to, from, bytes, unit); at < bytes; at += unit)

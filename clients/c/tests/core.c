@@ -14,7 +14,7 @@ static size_t length;
 static uint32_t serve(const uint8_t *front, size_t front_length, const uint8_t *back,
                       size_t back_length, size_t room) {
     return feqyldan_serve(&handle, connection, front, front_length, back, back_length, reply, room,
-                          &length);
+                          reply, 0, &length);
 }
 
 /* Sends a whole frame, and checks that the reply has this code and this many bytes. */
@@ -101,6 +101,42 @@ static void pictures(void) {
         CHECK(reply[13 + i] == 255 - sample(i, 7));
 }
 
+/* Serves a frame with two buffers in memory of their exact lengths. Checks the status, the length
+   and, at OK, the bytes. */
+static void divide(const uint8_t *frame, size_t count, size_t first, size_t second,
+                   uint32_t status, size_t bytes) {
+    uint8_t *one = malloc(first + (first == 0)), *two = malloc(second + (second == 0));
+    CHECK(one != NULL && two != NULL);
+    CHECK(feqyldan_serve(&handle, connection, frame, count, frame, 0, one, first, two, second,
+                         &length) == status);
+    CHECK(length == bytes);
+    if (status == FEQYLDAN_OK) {
+        size_t in_one = bytes < first ? bytes : first;
+        CHECK(memcmp(one, reply, in_one) == 0);
+        CHECK(memcmp(two, reply + in_one, bytes - in_one) == 0);
+    }
+    free(one);
+    free(two);
+}
+
+/* A reply goes on in the second buffer at any place, and is the same bytes. */
+static void divided_replies(void) {
+    expect(READ, sizeof READ, 0, REPLY);
+    for (size_t first = 0; first <= REPLY; first++) {
+        divide(READ, sizeof READ, first, REPLY - first, FEQYLDAN_OK, REPLY);
+        if (first < REPLY)
+            divide(READ, sizeof READ, first, REPLY - 1 - first, FEQYLDAN_TOO_SHORT, REPLY);
+    }
+    expect(OPEN, sizeof OPEN, 7, 8);
+    for (size_t first = 0; first <= FEQYLDAN_LEAST_BUFFER; first++) {
+        size_t second = FEQYLDAN_LEAST_BUFFER - first;
+        divide(OPEN, sizeof OPEN, first, second, FEQYLDAN_OK, 8);
+        if (second > 0)
+            divide(OPEN, sizeof OPEN, first, second - 1, FEQYLDAN_TOO_SHORT,
+                   FEQYLDAN_LEAST_BUFFER);
+    }
+}
+
 /* Another connection has a client 7 of its own, with an image 2 of its own. Its number is free when
    it has been closed. */
 static void other_connections(void) {
@@ -156,8 +192,8 @@ static void other_handles(void) {
     uint32_t number;
     CHECK(feqyldan_open(QUOTA, QUOTA, &other) == FEQYLDAN_OK);
     CHECK(feqyldan_connect(&other, &number) == FEQYLDAN_OK);
-    CHECK(feqyldan_serve(&other, number, READ, sizeof READ, READ, 0, reply, REPLY, &length) ==
-          FEQYLDAN_OK);
+    CHECK(feqyldan_serve(&other, number, READ, sizeof READ, READ, 0, reply, REPLY, reply, 0,
+                         &length) == FEQYLDAN_OK);
     CHECK(length == 8 && reply[7] == INVALID_REFERENCE);
     feqyldan_close(&other);
     expect(READ, sizeof READ, 0, REPLY);
@@ -169,6 +205,7 @@ int main(void) {
     frames();
     short_buffer();
     pictures();
+    divided_replies();
     other_connections();
     many_connections();
     other_handles();

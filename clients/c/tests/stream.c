@@ -1,5 +1,6 @@
 /* As `vx_main serve`, by feqyldan/core.h: answers the frames of standard input one by one. Each
-   comes in two parts that are cut at random, and the reply goes to a buffer that grows. */
+   comes in two parts that are cut at random, and the reply goes to two parts of a buffer that
+   grows. */
 #include <feqyldan/core.h>
 
 #include "testing.h"
@@ -10,6 +11,7 @@ static struct feqyldan_handle handle;
 static uint32_t connection;
 static uint8_t *reply;
 static size_t room = FEQYLDAN_LEAST_BUFFER;
+static vx_uint32 state = 1;
 
 static int end(const char *line) {
     fprintf(stderr, "%s\n", line);
@@ -18,9 +20,9 @@ static int end(const char *line) {
 
 /* Answers a frame, whose first part ends at `cut`. Returns the length of the reply. */
 static size_t answer(const uint8_t *frame, size_t length, size_t cut) {
-    size_t count;
+    size_t count, part = next_number(&state) % (room + 1);
     uint32_t status = feqyldan_serve(&handle, connection, frame, cut, frame + cut, length - cut,
-                                     reply, room, &count);
+                                     reply, part, reply + part, room - part, &count);
     if (status == FEQYLDAN_TOO_SHORT) {
         CHECK(count > room);
         room = count;
@@ -33,7 +35,6 @@ static size_t answer(const uint8_t *frame, size_t length, size_t cut) {
 }
 
 static int serve(void) {
-    vx_uint32 state = 1;
     uint8_t head[HEAD];
     for (size_t got; (got = fread(head, 1, HEAD, stdin)) != 0;) {
         if (got < HEAD)

@@ -44,7 +44,8 @@ def load(path: str) -> Any:
         library.feqyldan_connect.argtypes = ctypes.c_void_p, ctypes.c_void_p
         library.feqyldan_serve.argtypes = (
             ctypes.c_void_p, ctypes.c_uint32, ctypes.c_void_p, ctypes.c_size_t, ctypes.c_void_p,
-            ctypes.c_size_t, ctypes.c_void_p, ctypes.c_size_t, ctypes.c_void_p)
+            ctypes.c_size_t, ctypes.c_void_p, ctypes.c_size_t, ctypes.c_void_p, ctypes.c_size_t,
+            ctypes.c_void_p)
         library.feqyldan_disconnect.argtypes = ctypes.c_void_p, ctypes.c_uint32
         library.feqyldan_close.argtypes = ctypes.c_void_p,
         library.feqyldan_close.restype = None

@@ -29,7 +29,7 @@ from .core import Core, address_of
 from .errors import Closed, FeqyldanError, UnexpectedReply
 from .log import LOG
 
-# The least length of a reply buffer, in bytes: FEQYLDAN_LEAST_BUFFER.
+# The least length of reply buffers, in bytes: FEQYLDAN_LEAST_BUFFER.
 LEAST = 28
 
 
@@ -79,9 +79,9 @@ class DirectConnection:
         self._short = ctypes.create_string_buffer(LEAST)
         self._short_view = memoryview(self._short).cast("B")
         # The length of a reply that no request has got yet, else 0; and the last request with its
-        # reply's memory.
+        # reply's memory, and the number of bytes that a call writes to the request's place.
         self._length = ctypes.c_size_t(0)
-        self._last: Optional[Tuple[Request, memoryview]] = None
+        self._last: Optional[Tuple[Request, memoryview, int]] = None
         self._addresses = ctypes.addressof(self._short), ctypes.addressof(self._length)
         # The requests of streams without a reply, and whether the last one's frame is incomplete.
         self._line: Deque[Request] = deque()
@@ -181,32 +181,38 @@ class DirectConnection:
             self._refuse_if_ended()
         if request.answer is not None:
             return
-        size = HEAD.size + request.body.size
-        frame, place = self._short_view, self._addresses[0]
-        if size > HEAD_AND_NAME:
-            size = max(size, LEAST)
-            frame = memoryview(self._buffers.take(LEAD + size))[LEAD:]
-            place = address_of(frame)
+        frame, place, into = self._memory_for(request)
         front, back = parts[0], b"" if len(parts) == 1 else parts[1]
-        samples = address_of(back)
-        self._last = request, frame
+        samples, rest = address_of(back), address_of(into)
+        self._last = request, frame, len(into)
         try:
             self._core.serve(self._core.address, self._number, front, len(front), samples,
-                             len(back), place, len(frame), self._addresses[1])
+                             len(back), place, len(frame), rest, len(into), self._addresses[1])
         finally:
             self._settle()
         if request.answer is None:
             raise FeqyldanError(f"{request.words}: the server takes no frame of {len(front):,} and "
                                 f"{len(back):,} bytes")
 
+    def _memory_for(self, request: Request) -> Tuple[memoryview, Any, Part]:
+        """Returns memory for a reply, with its address, and the memory that the rest of the reply
+        goes to: the place of the request's samples."""
+        size, into = HEAD.size + request.body.size, request.into
+        if into is not None and len(into) >= LEAST:
+            return self._short_view[: size - len(into)], self._addresses[0], into
+        if size <= HEAD_AND_NAME:
+            return self._short_view, self._addresses[0], b""
+        frame = memoryview(self._buffers.take(LEAD + max(size, LEAST)))[LEAD:]
+        return frame, address_of(frame), b""
+
     def _settle(self) -> None:
         """Gives the reply of the last call to its request, unless that was done."""
         length = self._length.value
         if length == 0 or self._last is None:
             return
-        request, frame = self._last
+        request, frame, placed = self._last
         try:
-            request.arrive(reply_of(request, frame, length), 0)
+            request.arrive(reply_of(request, frame, placed, length), 0)
         except UnexpectedReply as fault:
             self._fault = fault
             raise
@@ -263,16 +269,18 @@ class DirectConnection:
         return True
 
 
-def reply_of(request: Request, frame: memoryview, length: int) -> memoryview:
-    """Returns the reply in a frame, whose samples go to the request's place if it has one. Raises
-    UnexpectedReply if it doesn't answer the request."""
-    if length > len(frame):
+def reply_of(request: Request, frame: memoryview, placed: int, length: int) -> memoryview:
+    """Returns the reply in a frame, whose samples go to the request's place if it has one. If
+    `placed` isn't 0, the server has written them there, that many bytes. Raises UnexpectedReply if
+    the reply doesn't answer the request."""
+    if length > len(frame) + placed:
         raise UnexpectedReply(f"{request.words}: the reply has {length:,} bytes, more than "
-                              f"{len(frame):,}")
+                              f"{len(frame) + placed:,}")
     size, client, op, code = HEAD.unpack_from(frame)
     request.look_at(size, client, op, code)
-    if request.into is not None and code == 0:
+    if request.into is not None and code == 0 and not placed:
         request.into[:] = frame[BEFORE_SAMPLES:length]
+    if code == 0 and (placed or request.into is not None):
         return memoryview(bytes(frame[:BEFORE_SAMPLES]))
     return memoryview(bytes(frame[:length])) if length <= HEAD_AND_NAME else frame[:length]
 

@@ -138,7 +138,7 @@ class TestConnections(unittest.TestCase):
         """Returns the status and the reply to a frame of a connection."""
         reply, length = ctypes.create_string_buffer(2000), ctypes.c_size_t()
         status = self.core.serve(self.core.address, number, frame, len(frame), b"", 0, reply,
-                                 len(reply), ctypes.addressof(length))
+                                 len(reply), b"", 0, ctypes.addressof(length))
         return status, reply.raw[:length.value]
 
     def ask(self, number, frame, code=wire.SUCCESS):
@@ -210,7 +210,7 @@ def held():
         return int(numbers.read().split()[1]) * os.sysconf("SC_PAGESIZE") >> 20
 def ask(number, frame):
     reply, length = ctypes.create_string_buffer(28), ctypes.c_size_t()
-    status = server.serve(server.address, number, frame, len(frame), b"", 0, reply, 28,
+    status = server.serve(server.address, number, frame, len(frame), b"", 0, reply, 28, b"", 0,
                           ctypes.addressof(length))
     assert (status, reply.raw[7]) == (0, 0), (status, reply.raw)
 server = core.Core(core.find(), 2**40, 2**40)
@@ -300,6 +300,28 @@ class TestCalls(CoreTest):
         self.assertRaises(vx.UnexpectedReply, connection.wait)
         connection.close()
 
+    def test_a_place_of_another_size(self):
+        """Nothing is written past it."""
+        connection = opened()
+        image = Request("image", 7, wire.CREATE_IMAGE)
+        connection.ask(image, [wire.create_image(7, vx.U8, 10, 10)])
+        memory = bytearray(b"X" * 60)
+        read = Request("read", 7, wire.READ_IMAGE, body=Body(55))
+        read.into = memoryview(memory)[:50]
+        with self.assertRaisesRegex(vx.UnexpectedReply, "113 bytes, more than 63"):
+            connection.ask(read, [wire.read_image(7, wire.name_of(image.reply))])
+        self.assertEqual(memory[50:], b"X" * 10)
+        connection.close()
+
+    def test_a_refusal_leaves_a_place(self):
+        connection, place = opened(), bytearray(b"X" * 100)
+        read = Request("read", 7, wire.READ_IMAGE, body=Body(105))
+        read.into = memoryview(place)
+        connection.ask(read, [wire.read_image(7, 1)])
+        self.assertEqual((len(read.reply), read.reply[7]), (8, wire.INVALID_REFERENCE))
+        self.assertEqual(place, b"X" * 100)
+        connection.close()
+
     def test_bytes_that_are_no_frame(self):
         connection = opened()
         with self.assertRaisesRegex(vx.FeqyldanError, "takes no frame of 3 and 0 bytes"):
@@ -338,6 +360,38 @@ class TestInterruptions(CoreTest):
             self.assertEqual(self.context.usage().objects, 0)
             number += 1
         self.assertGreater(number, 50)
+
+    def test_a_place_at_each_line(self):
+        """After an interruption nothing more comes into the place, and the next reads are
+        right."""
+        connection = opened()
+        connection.ask(Request("image", 7, wire.CREATE_IMAGE), [wire.create_image(7, vx.U8, 8, 8)])
+        connection.ask(Request("write", 7, wire.WRITE_IMAGE),
+                       [wire.write_image(7, 1, vx.U8, 8, 8, b"1" * 64)])
+        number = 1
+        while self.place(connection, number):
+            number += 1
+        self.assertGreater(number, 15)
+        connection.close()
+
+    def place(self, connection, interrupted_at):
+        """Reads into a place, and returns whether the read was interrupted."""
+        place, other = (memoryview(bytearray(64)) for _ in range(2))
+        requests = [Request("read", 7, wire.READ_IMAGE, body=Body(69)) for _ in range(3)]
+        requests[0].into, requests[1].into = place, other
+        frames = [wire.read_image(7, 1)]
+        is_interrupted = Everywhere(interrupted_at, ("direct.py", "connection.py")).interrupts(
+            connection.ask, requests[0], frames)
+        if is_interrupted:
+            connection.let_go(place)
+            place[:] = b"X" * 64
+        for request in requests[1:]:
+            connection.ask(request, frames)
+        self.assertEqual(bytes(place), (b"X" if is_interrupted else b"1") * 64)
+        self.assertEqual(bytes(other), b"1" * 64)
+        self.assertEqual(bytes(requests[2].reply[13:]), b"1" * 64)
+        self.assertEqual(bytes(requests[1].reply), bytes(requests[2].reply[:13]))
+        return is_interrupted
 
     def test_a_call_ends_first(self):
         """Ctrl-C interrupts when the server has answered, and the result is there."""

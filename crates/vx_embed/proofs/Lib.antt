@@ -1,3 +1,4 @@
 pub mod Steps
 pub mod HandleValues
+pub mod TwoParts
 pub mod TurnAnswers

@@ -3,7 +3,7 @@
 //! - `feqyldan_open` makes a server, which a `Handle` in the caller's memory then holds.
 //! - `feqyldan_connect` opens a connection to the server. Each connection has clients of its own.
 //! - `feqyldan_serve` answers one request frame of a connection, from the caller's bytes into the
-//!   caller's buffer.
+//!   caller's buffers.
 //! - `feqyldan_disconnect` closes a connection, and frees what its clients made.
 //! - `feqyldan_close` frees the server.
 //!
@@ -98,11 +98,11 @@ fn connect(alloc: Global, handle: &mut Handle) -> (Status, u32)
 }
 
 /// Answers one request frame of a connection. The frame is `front` and then `back`. Writes the
-/// reply frame to the front of `reply`.
+/// reply frame to `reply`, and what doesn't fit there to the front of `rest`.
 ///
 /// - `Ok`: `*length` is the length of the reply
-/// - `TooShort`: `reply` is too short. `*length` is the length that it has to have at least. A
-///   buffer of less than 28 bytes is always too short
+/// - `TooShort`: `reply` and `rest` are too short. `*length` is the length that they have to have
+///   at least, together. Less than 28 bytes are always too short
 /// - `NotAFrame`: the bytes aren't exactly one frame, or `front` has less than four bytes
 /// - `NotOpen`: the handle holds no server
 /// - `NotConnected`: the connection isn't open
@@ -117,16 +117,19 @@ pub extern "C" fn feqyldan_serve(
     front: &[u8],
     back: &[u8],
     reply: &mut [u8],
+    rest: &mut [u8],
     length: &mut usize,
 ) -> u32
     ensures serves { (status : Status) × (result ≡ status_number status)
-        × Serves connection handle.old handle.new front.now back.now reply.new length.new status }
+        × Serves connection handle.old handle.new front.now back.now (reply.new ++ rest.new)
+        length.new status }
     ensures one_session { result ≡ 0 → (summary : Summary) × Session handle.old.world.limits
-        (Some (front.now ++ back.now)) (Some []) (Some []) (Some (take length.new reply.new))
+        (Some (front.now ++ back.now)) (Some []) (Some [])
+        (Some (take length.new (reply.new ++ rest.new)))
         (states_in handle.old.world connection) (states_in handle.new.world connection)
         (Ok summary) }
 {
-    let (status, count) = serve(alloc, handle, connection, front, back, reply);
+    let (status, count) = serve(alloc, handle, connection, front, back, reply, rest);
     *length = count;
     status.number()
 }
@@ -138,15 +141,16 @@ fn serve(
     front: &[u8],
     back: &[u8],
     reply: &mut [u8],
+    rest: &mut [u8],
 ) -> (Status, usize)
-    ensures { Serves connection handle.old handle.new front.now back.now reply.new
+    ensures { Serves connection handle.old handle.new front.now back.now (reply.new ++ rest.new)
         result.1 result.0 }
 {
     if !handle.is_held() {
         return (Status::NotOpen, 0);
     }
     let mut server = handle.take(alloc);
-    let answered = answering::answer(alloc, &mut server, connection, front, back, reply);
+    let answered = answering::answer(alloc, &mut server, connection, front, back, reply, rest);
     handle.put(server);
     answered
 }

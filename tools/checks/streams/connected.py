@@ -14,7 +14,7 @@ from checks.streams.serving import model_replies, shown
 OK, TOO_SHORT, NOT_CONNECTED = 0, 1, 7
 # The length of a request frame's first field.
 LENGTH = 4
-# Lengths of a reply buffer that is tried first, and the bytes after it, which stay as they are.
+# Lengths of reply buffers that are tried first, and the bytes after each, which stay as they are.
 ROOMS, GUARD = (0, 27, 28, 28, 60, 4000), b"\xa5" * 8
 # Bytes that are a whole frame of any client.
 OPEN_CONTEXT = b"\0\0\0\3\0\0\1"
@@ -24,27 +24,36 @@ class Wrong(Exception):
     """What the library did other than it should."""
 
 
-def serve(core, number, frame, cut, room):
-    """Returns the status of a call, and the bytes of the buffer that it says. The frame is cut in
-    two."""
-    buffer, length = ctypes.create_string_buffer(bytes(room) + GUARD), ctypes.c_size_t()
+def serve(core, number, frame, cut, rooms):
+    """Returns the status of a call, and the bytes of the two buffers that it says. The frame is cut
+    in two."""
+    buffers = [ctypes.create_string_buffer(bytes(room) + GUARD) for room in rooms]
+    length = ctypes.c_size_t()
     status = core.serve(core.address, number, frame[:cut], cut, frame[cut:], len(frame) - cut,
-                        buffer, room, ctypes.addressof(length))
-    if buffer.raw[room : room + len(GUARD)] != GUARD:
-        raise Wrong(f"a call wrote past a buffer of {room} bytes")
-    return status, length.value, buffer.raw[: length.value]
+                        buffers[0], rooms[0], buffers[1], rooms[1], ctypes.addressof(length))
+    for buffer, room in zip(buffers, rooms):
+        if buffer.raw[room : room + len(GUARD)] != GUARD:
+            raise Wrong(f"a call wrote past a buffer of {room} bytes")
+    both = b"".join(buffer.raw[:room] for buffer, room in zip(buffers, rooms))
+    return status, length.value, both[: length.value]
+
+
+def divided(room, rng):
+    """Returns the lengths of two buffers, of this length together."""
+    first = rng.choice((room, 0, min(13, room), rng.randint(0, room)))
+    return first, room - first
 
 
 def answer(core, number, frame, rng):
-    """Returns the reply to a frame that is cut at random. The buffer is often too short at
+    """Returns the reply to a frame that is cut at random. The buffers are often too short at
     first."""
     cut, room = rng.randint(LENGTH, len(frame)), rng.choice(ROOMS)
-    status, length, reply = serve(core, number, frame, cut, room)
+    status, length, reply = serve(core, number, frame, cut, divided(room, rng))
     while status == TOO_SHORT and length > room:
         room = length
-        status, length, reply = serve(core, number, frame, cut, room)
+        status, length, reply = serve(core, number, frame, cut, divided(room, rng))
     if status != OK:
-        raise Wrong(f"the status is {status} and the length {length}, for a buffer of {room} bytes")
+        raise Wrong(f"the status is {status} and the length {length}, for {room} bytes of buffers")
     return reply
 
 
@@ -107,7 +116,7 @@ class Server:
     def disconnect(self, number):
         del self.open[number]
         self.core.disconnect(number)
-        status, length, _ = serve(self.core, number, OPEN_CONTEXT, LENGTH, 28)
+        status, length, _ = serve(self.core, number, OPEN_CONTEXT, LENGTH, (28, 0))
         if (status, length) != (NOT_CONNECTED, 0):
             raise Wrong(f"the closed connection {number} has the status {status}")
 

@@ -6,7 +6,7 @@
  *     feqyldan_open(268435456, 268435456, &handle);
  *     feqyldan_connect(&handle, &connection);
  *     feqyldan_serve(&handle, connection, front, front_length, back, back_length, reply,
- *                    reply_length, &length);
+ *                    reply_length, rest, rest_length, &length);
  *     feqyldan_disconnect(&handle, connection);
  *     feqyldan_close(&handle);
  *
@@ -26,8 +26,9 @@
  *   the same time.
  * - No call from a signal handler, and none for a handle that was open when this process was
  *   forked. In the child of a process with threads malloc has to work, as glibc's does.
- * - No pointer is null, not even for a length of 0. `reply`, `*length`, `*connection` and `*handle`
- *   overlap neither each other nor `front` or `back`, and nobody writes these during the call.
+ * - No pointer is null, not even for a length of 0. `reply`, `rest`, `*length`, `*connection` and
+ *   `*handle` overlap neither each other nor `front` or `back`, and nobody writes these during the
+ *   call.
  * - malloc, realloc and free are of one allocator, and align blocks as the C standard says.
  * - The processor has SSE4.2 (x86-64-v2), and AVX2 (x86-64-v3) for libfeqyldan-core-x86-64-v3.
  *
@@ -54,7 +55,7 @@ struct feqyldan_handle {
 /* The results of the calls. */
 enum {
     FEQYLDAN_OK = 0,
-    FEQYLDAN_TOO_SHORT = 1,    /* the reply doesn't fit the buffer; no client's state has changed */
+    FEQYLDAN_TOO_SHORT = 1,    /* the reply doesn't fit; no client's state has changed */
     FEQYLDAN_NOT_A_FRAME = 2,  /* the bytes aren't exactly one request frame; nothing has changed */
     FEQYLDAN_NOT_OPEN = 3,     /* the handle holds no server */
     FEQYLDAN_ALREADY_OPEN = 4, /* the handle holds a server already; nothing has changed */
@@ -63,8 +64,8 @@ enum {
     FEQYLDAN_NOT_CONNECTED = 7 /* no open connection has this number; nothing has changed */
 };
 
-/* The least length of a reply buffer, in bytes. Every reply fits, except those of ReadImage,
- * ReadImagePgm and ReadDistribution. */
+/* The least length of `reply` and `rest` together, in bytes. Every reply fits, except those of
+ * ReadImage, ReadImagePgm and ReadDistribution. */
 enum { FEQYLDAN_LEAST_BUFFER = 28 };
 
 /* Makes a server without connections. `quota` is the limit on the sample bytes of a client's
@@ -80,20 +81,23 @@ uint32_t feqyldan_open(uint64_t quota, uint64_t work, struct feqyldan_handle *ha
 uint32_t feqyldan_connect(struct feqyldan_handle *handle, uint32_t *connection);
 
 /* Answers one request frame of a connection: the bytes of `front`, then those of `back`. The first
- * four bytes, which are the frame's length, are in `front`. Writes the reply frame to the front of
- * `reply`; the bytes after it may have any values. Returns
+ * four bytes, which are the frame's length, are in `front`. Writes the reply frame to `reply`, and
+ * what doesn't fit there to the front of `rest`; the bytes after it may have any values. A reply to
+ * ReadImage has 13 bytes before its samples, so with a `reply` of 13 bytes the samples are at the
+ * front of `rest`. Returns
  *
  * - OK: *length is the length of the reply frame in bytes. The reply's code says whether the
  *   request was refused, or lost because memory was refused (NO_MEMORY)
- * - TOO_SHORT: `reply` is too short, and *length is the length that it has to have at least. The
- *   states of all clients are unchanged, so the frame can be sent again. A buffer of less than
- *   FEQYLDAN_LEAST_BUFFER bytes is always too short
+ * - TOO_SHORT: `reply` and `rest` are too short, and *length is the length that they have to have
+ *   at least, together. The states of all clients are unchanged, so the frame can be sent again.
+ *   Less than FEQYLDAN_LEAST_BUFFER bytes are always too short
  * - NOT_A_FRAME: the bytes aren't exactly one frame, or `front` has less than four bytes. *length
  *   is 0
  * - NOT_OPEN or NOT_CONNECTED: *length is 0 */
 uint32_t feqyldan_serve(struct feqyldan_handle *handle, uint32_t connection, const uint8_t *front,
                         size_t front_length, const uint8_t *back, size_t back_length,
-                        uint8_t *reply, size_t reply_length, size_t *length);
+                        uint8_t *reply, size_t reply_length, uint8_t *rest, size_t rest_length,
+                        size_t *length);
 
 /* Closes a connection: releases its contexts with all that its clients made. Their memory is used
  * again by the other connections, or goes back to the system. This needs no memory. Returns OK,

@@ -80,7 +80,7 @@ class Library:
         result = int(self.core.serve(
             self.core.address, link, ctypes.byref(BYTE(front)), len(front),
             ctypes.byref(BYTE(rest)) if rest else self.nothing, len(rest),
-            ctypes.byref(BYTE(reply)), len(reply), self.length_at))
+            ctypes.byref(BYTE(reply)), len(reply), self.nothing, 0, self.length_at))
         if result not in (OK, TOO_SHORT):
             raise RuntimeError(f"feqyldan_serve returns {result} for a frame of {len(front)} and "
                                f"{len(rest)} bytes of connection {link}")
