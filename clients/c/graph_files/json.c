@@ -22,7 +22,7 @@ gboolean refuse_call(vx_context context, GError **error) {
 }
 
 /* Checks that the text isn't nested too deeply for the parser, which calls itself for each list and
-   object. Refuses comments and quotes that only this parser allows, in which brackets could hide. */
+   object. Refuses comments and quotes that only this parser allows, where brackets could hide. */
 static gboolean check_depth(const char *text, gsize length, GError **error) {
     guint depth = 0;
     gboolean is_text = FALSE;

@@ -431,8 +431,8 @@ static gboolean make_table(feqyldan_graph_t *graph, const char *name, JsonObject
     gboolean is_deep = BY_FORMAT[format].format == VX_DF_IMAGE_S16;
     guint count = json_array_get_length(list), wanted = is_deep ? G_MAXUINT16 + 1 : 256;
     if (count != wanted)
-        return refuse(error, "a lookup table of %s needs %u entries, one for each sample value, not "
-                      "%u", FORMATS[format], wanted, count);
+        return refuse(error, "a lookup table of %s needs %u entries, one for each sample value, "
+                      "not %u", FORMATS[format], wanted, count);
     vx_lut table = vxCreateLUT(graph->context, is_deep ? VX_TYPE_INT16 : VX_TYPE_UINT8, count);
     if (!enter(graph, name, (vx_reference)table, error))
         return FALSE;

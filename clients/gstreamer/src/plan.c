@@ -52,8 +52,8 @@ static gboolean choose_output(Plan *plan, const char *name, char fault[FAULT_BYT
     if (outputs == 1)
         return TRUE;
     g_autofree char *names = list_outputs(plan);
-    g_snprintf(fault, FAULT_BYTES, "it writes the images %s: choose one by output=NAME, or output=- "
-               "for the frame itself", names);
+    g_snprintf(fault, FAULT_BYTES, "it writes the images %s: choose one by output=NAME, or output=-"
+               " for the frame itself", names);
     return FALSE;
 }
 
