@@ -137,8 +137,9 @@ class Prints:
 
 def is_pixels(frame: Any) -> bool:
     """Returns whether a value is a NumPy array with rows."""
-    numpy = sys.modules.get("numpy")
-    return numpy is not None and isinstance(frame, numpy.ndarray) and frame.ndim > 1
+    # Another thread may be importing NumPy, which has no arrays until then.
+    kind = getattr(sys.modules.get("numpy"), "ndarray", None)
+    return kind is not None and isinstance(frame, kind) and frame.ndim > 1
 
 
 def start_of(pixels: Any) -> int:

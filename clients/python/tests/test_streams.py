@@ -2,13 +2,15 @@
 
 import itertools
 import pathlib
+import sys
 import threading
 import time
+import types
 import unittest
 from unittest import mock
 
 from program import ProgramTest, answering, needs_program, vx
-from feqyldan import samples, wire
+from feqyldan import samples, sources, wire
 from test_processes import ProcessTest
 
 OPENED = wire.reply_frame(0, wire.OPEN_CONTEXT)
@@ -29,6 +31,16 @@ class StationTest(ProgramTest):
 
     def shades(self, stream):
         return [(frame[0][0], result[0, 0]) for frame, result in stream]
+
+
+class TestFrames(unittest.TestCase):
+    def test_while_another_thread_imports_numpy(self):
+        """A module that is being imported is in sys.modules, and has no names yet."""
+        with mock.patch.dict(sys.modules, numpy=types.ModuleType("numpy")):
+            prints = sources.Prints()
+            for frame in (bytes(4), memoryview(bytes(4)).cast("B", (2, 2))):
+                prints.take(frame)
+                prints.let_go(frame)
 
 
 class TestResultsAfterRefusals(StationTest):
