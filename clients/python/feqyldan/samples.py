@@ -12,6 +12,7 @@ both, and tolist() returns their rows.
 from __future__ import annotations
 
 import array
+import operator
 import os
 import struct
 import sys
@@ -352,6 +353,9 @@ def packed(numbers: Sequence[int], fmt: Format, what: str) -> Any:
     """Returns the numbers as an array.array of a format's samples. Raises ValueError or TypeError
     for the first number that isn't one; `what` is the message's word for a number."""
     try:
+        if sys.version_info < (3, 10):
+            # Python 3.9 would round numbers such as Decimal("2.5").
+            numbers = list(map(operator.index, numbers))
         return array.array(LETTERS[fmt], numbers)
     except OverflowError:
         least, greatest = RANGES[fmt]
