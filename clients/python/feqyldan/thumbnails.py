@@ -3,6 +3,8 @@
 from __future__ import annotations
 
 import array
+import functools
+import operator
 from typing import Any, List, Sequence, Tuple
 
 from .samples import (Format, Picture, Readable, Samples, numbers_of, numpy_module, of_two_sides,
@@ -88,11 +90,15 @@ def _first_of_squares(rows: memoryview, width: int, step: int) -> bytes:
 
 def _greatest_of_squares(rows: memoryview, width: int, step: int) -> bytes:
     content = rows.tobytes()
-    # Few squares of a picture have marks, and a comparison of bytes is fast.
-    if content == content[: rows.itemsize] * len(rows):
-        return _first_of_squares(rows, width, step)
     lines = [rows[at : at + width] for at in range(0, len(rows), width)]
-    columns = [max(column) for column in zip(*lines)]
+    mark = content.lstrip(b"\0")[:1]
+    columns: Sequence[int]
+    if rows.itemsize == 1 and not content.translate(None, b"\0" + mark):
+        # Of 0 and one other number the greatest is their "or", which is fast in long numbers.
+        numbers = (int.from_bytes(line, "little") for line in lines)
+        columns = functools.reduce(operator.or_, numbers).to_bytes(width, "little")
+    else:
+        columns = [max(column) for column in zip(*lines)]
     greatest: List[int] = [max(columns[x : x + step]) for x in range(0, width, step)]
     return array.array(rows.format, greatest).tobytes()
 

@@ -46,7 +46,7 @@ class TestThumbnails(unittest.TestCase):
                          [[0, 0, 0, 0], [0, 0, 0, 0], [0, 0, 0, 9]])
 
     def test_a_single_mark_stays(self):
-        for letter, mark in (("B", 255), ("h", 32767), ("I", 2**32 - 1)):
+        for letter, mark in (("B", 255), ("B", 1), ("h", 32767), ("I", 2**32 - 1)):
             for width, height, x, y in ((7, 5, 6, 4), (7, 5, 1, 1), (6, 4, 3, 0), (1, 9, 0, 8)):
                 rows = [[0] * width for _ in range(height)]
                 rows[y][x] = mark
@@ -58,6 +58,16 @@ class TestThumbnails(unittest.TestCase):
                             [mark * ((column, row) == (x // step, y // step))
                              for column in range(-(-width // step))]
                             for row in range(-(-height // step))])
+
+    @unittest.skipUnless(numpy, "NumPy isn't installed")
+    def test_both_ways_keep_the_same_marks(self):
+        chance = numpy.random.default_rng(1)
+        for few in ([0, 9], [7, 9], [0, 1, 2], range(256)):
+            pixels = chance.choice(numpy.array(few, numpy.uint8), (23, 41))
+            wanted = thumbnails.reduced(pixels, 3, keeps_marks=True).tolist()
+            with without_numpy():
+                small = thumbnails.reduced(memoryview(pixels), 3, keeps_marks=True)
+            self.assertEqual(small.tolist(), wanted)
 
     def test_what_is_no_picture(self):
         for picture, words in ((None, "None is no picture"), ([[1, 2], [3]], "same length"),
