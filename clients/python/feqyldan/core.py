@@ -104,7 +104,8 @@ def address_of(memory: Any) -> Any:
         return memory
     if not memory.readonly:
         return ctypes.addressof(ctypes.c_char.from_buffer(memory)) if len(memory) else b""
-    numpy = sys.modules.get("numpy")
-    if numpy is None:
+    if "numpy" not in sys.modules:
         return bytes(memory)
+    # It waits if another thread is importing NumPy, which has no names until then.
+    import numpy
     return int(numpy.frombuffer(memory, numpy.uint8).__array_interface__["data"][0])

@@ -440,6 +440,31 @@ class TestInterruptions(CoreTest):
                 loop.one(loop.pictures[times % 3])
 
 
+class TestAddresses(unittest.TestCase):
+    def test_while_another_thread_imports_numpy(self):
+        """The address is asked for in the middle of the import, and waits for its end."""
+        script = """if True:
+            import os, sys, tempfile, threading
+            from feqyldan import core
+            core.asked = threading.Event()
+            kept = tempfile.TemporaryDirectory()
+            folder = kept.name
+            with open(os.path.join(folder, "numpy.py"), "w") as file:
+                print("import time, types", "from feqyldan import core", "core.asked.wait(60)",
+                      "time.sleep(0.2)", "uint8 = None", "def frombuffer(memory, kind):",
+                      "    return types.SimpleNamespace(__array_interface__={'data': (7, True)})",
+                      sep=chr(10), file=file)
+            sys.path.insert(0, folder)
+            importing = threading.Thread(target=__import__, args=("numpy",))
+            importing.start()
+            while "numpy" not in sys.modules:
+                pass
+            core.asked.set()
+            print(core.address_of(memoryview(bytes(4))))
+            importing.join()"""
+        self.assertEqual(run(script), (0, "7\n"))
+
+
 @needs_core
 class TestStreams(CoreTest):
     def stations(self, count):
