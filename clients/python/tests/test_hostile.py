@@ -34,8 +34,6 @@ needs_program = unittest.skipUnless(PROGRAM, "FEQYLDAN_PROGRAM doesn't name the 
 # A user that no other program of this machine has.
 USER = 61_357
 SHORT = wire.QUERY_IMAGE
-# Seconds within which an operator has an answer.
-ANSWERED = 1.0
 
 AS_USER = """
 import ctypes, os, signal, socket, sys, time
@@ -395,6 +393,7 @@ class StatusSockets(Hostile):
 
     @needs_root
     def test_a_flood_leaves_an_operator_an_answer(self) -> None:
+        """bench/hostile measures how soon."""
         for self.kind in (Door, Broker):
             broker = self.begin_for_all("--status-mode", "0666")
             honest = self.connect(broker)
@@ -402,13 +401,10 @@ class StatusSockets(Hostile):
             for _ in range(6):
                 self.assertEqual(self.line_of(self.as_user(USER, FLOODS, broker.status_path)),
                                  "begins")
-            waits = []
             for _ in range(10):
-                start = time.monotonic()
-                self.assertEqual(vx.status(broker.status_path)["connections"]["open"], 1)
-                waits.append(time.monotonic() - start)
+                state = vx.status(broker.status_path, timeout=LATE)
+                self.assertEqual(state["connections"]["open"], 1)
                 self.assertEqual(honest.ask(plain(50)), success(50))
-            self.assertLess(max(waits), ANSWERED)
 
 
 class AnsweringState:
