@@ -1,5 +1,6 @@
 //! Answers frames of a connection's clients, each client under its own number of the runtime.
-ghost use Rattle.std.specs.Prelude.{◌≡◌, ◌≢◌, ◌+◌, ◌<◌, ◌≤◌, ◌^◌, ℕ, None, Some, Err, IsSome, IfSome};
+ghost use Rattle.std.specs.Prelude.{◌≡◌, ◌≢◌, ◌+◌, ◌<◌, ◌≤◌, ◌^◌, ℕ};
+ghost use Rattle.std.specs.Prelude.{None, Some, Err, IsSome, IfSome};
 ghost use Rattle.client_contexts.specs.World.{state_of};
 ghost use Rattle.vx_requests.specs.Frame.Reading.{CanRead, KeepsCount};
 ghost use Rattle.vx_requests.specs.declared.stream.fault.StreamFault.{StreamFault};

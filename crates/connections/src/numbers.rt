@@ -1,5 +1,6 @@
 //! The numbers by which the runtime knows the clients of the connections.
-ghost use Rattle.std.specs.Prelude.{◌≡◌, ◌≢◌, ◌<◌, ℕ, true, false, None, Some, length, IfSome, IfNone, OnOk, OnErr};
+ghost use Rattle.std.specs.Prelude.{◌≡◌, ◌≢◌, ◌<◌, ℕ, true, false, None, Some, length};
+ghost use Rattle.std.specs.Prelude.{IfSome, IfNone, OnOk, OnErr};
 ghost use Rattle.connections.specs.declared.numbers.Numbers.{Numbers};
 ghost use Rattle.connections.specs.Numbers.{numbers_of, number_in, number_for, Assigns};
 ghost use Rattle.connections.specs.Numbers.{HasSameConnections, SetsOpen, has_connection};

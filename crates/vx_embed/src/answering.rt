@@ -70,8 +70,8 @@ fn answer_open(
     (Status::TooShort, length_said(reply, rest) as usize + 4)
 }
 
-/// Returns the length that the first four bytes of a frame encode. They are in two slices, one after
-/// the other.
+/// Returns the length that the first four bytes of a frame encode. The frame is in two slices, one
+/// after the other.
 fn length_said(front: &[u8], back: &[u8]) -> u32
     requires { 4 ≤ length front.now + length back.now }
     ensures { result ≡ said_length (front.now ++ back.now) }

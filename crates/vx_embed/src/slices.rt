@@ -71,8 +71,8 @@ impl Sink for ReplyBuffer<'_> {
     }
 }
 
-/// Copies the front of `bytes` to two slices, one after the other, from `at` on. Stops at the end of
-/// a slice. Returns the number of bytes copied.
+/// Copies the front of `bytes` to two slices, one after the other, from `at` on. Stops at the end
+/// of a slice. Returns the number of bytes copied.
 fn fill(front: &mut [u8], back: &mut [u8], at: usize, bytes: &[u8]) -> usize
     requires { at ≤ length front.old + length back.old }
     ensures count { (at + result ≤ length front.old + length back.old)
