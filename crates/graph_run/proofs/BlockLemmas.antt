@@ -1,19 +1,19 @@
 -- Blocks of a pool for slots, and the places of these.
 use Rattle.buffer_plan.specs.Lives.{is_live}
-use Rattle.std.proofs.Common.{rules, ◌≡◌, ◌≢◌, ℕ, zero, suc, ◌+◌, ◌*◌, ◌≤◌, ◌<◌, ◌==◌, ◌⊎◌, List, [], ◌∷◌, ◌++◌, length, map, max, get_or, drop, take, refl, sym, ap, ◌∙◌, arith, if◌then◌else◌, sum_by, append_assoc, Option, Some, None, length-append}
-use Rattle.graph_run.specs.Slots.{capacities_for}
-use Rattle.graph_run.proofs.Common.{length-map-range_with_len, range_with_len, map-append, VirtualOutput, Node, In, Format, S16, U32, U8, IsPlan, PlanView, slot_index, slot_index_of, planned_capacities, take_more, samples_format, blocks_of, lent_of}
-use Rattle.std.proofs.lemmas.List.{append-nil, drop_all, take_all}
+use Rattle.std.proofs.Common.{rules, ◌≡◌, ◌≢◌, ℕ, zero, suc, ◌+◌, ◌*◌, ◌≤◌, ◌<◌, ◌⊎◌, List, [], ◌∷◌, ◌++◌, length, map, get_or, drop, take, refl, sym, ap, ◌∙◌, arith, sum_by, slice_set, append_assoc, Option, Some, None, length-append}
+use Rattle.graph_run.specs.Slots.{capacities_for, slot_total}
+use Rattle.graph_run.proofs.Common.{length-map-range_with_len, range_with_len, map-append, VirtualOutput, Node, Format, S16, U32, U8, IsPlan, PlanView, slot_index, planned_capacities, take_more, Samples, samples_format, values, blocks_of, lent_of}
+use Rattle.std.proofs.lemmas.List.{append-nil, drop_all, drop_more, get_or_default, get_or-map, length-map, take_all}
 use Rattle.std.proofs.lemmas.List.FromFn.{map-range_with_len_more}
 use Rattle.std.proofs.lemmas.List.Sums.{sum_by_push, sum_by-append, sum_by-cons, length-filter, count_by-le-length}
 use Rattle.buffer_plan.specs.Slots.{IsPeak, of_format}
 use Rattle.pixel_pool.specs.Block.{BlockValue}
 use Rattle.pixel_pool.specs.declared.pool.Pool.{Pool}
 use Rattle.pixel_pool.specs.Pool.{one_of, KeepsOtherFree, Lends}
-use Rattle.graph_steps.specs.Program.{halo}
+use Rattle.graph_steps.specs.Planes.{PlaneValue, plane}
+use Rattle.graph_steps.specs.Steps.{capacities, capacity}
 use Rattle.graph_run.proofs.ListLemmas.{rest_at}
-use Rattle.graph_run.proofs.SlotLemmas.{has_slot, planned_slots}
-use Rattle.graph_run.specs.Blocks.{band_samples, blocks_of_format, block_size, capacity_count, lent_size, samples_from}
+use Rattle.graph_run.specs.Blocks.{blocks_of_format, block_size, capacity_count, lent_size, samples_size}
 
 -- ---- places
 
@@ -29,9 +29,9 @@ formats_le : (outs : List VirtualOutput) → length (of_format U8 outs) + length
 formats_le [] = omega arith
 formats_le (o ∷ outs) = grind (arith, formats_le outs)
 
--- the place of an image's slot is below the number of images
-pub place_below : (steps : List Node) (outs : List VirtualOutput) (p : PlanView) → IsPlan steps outs p → (o : VirtualOutput) → In o outs → slot_index_of p o < length outs
-place_below steps outs p plan o i = grind (arith, has_slot steps outs p (planned_slots steps outs p plan) o i, planned_slots steps outs p plan, slots_le steps outs p plan U8, slots_le steps outs p plan S16, slots_le steps outs p plan U32, formats_le outs)
+-- there are at most as many slots as images
+pub slots_total : (steps : List Node) (outs : List VirtualOutput) (p : PlanView) → IsPlan steps outs p → slot_total p ≤ length outs
+slots_total steps outs p plan = omega (arith, slots_le steps outs p plan U8, slots_le steps outs p plan S16, slots_le steps outs p plan U32, formats_le outs)
 
 -- the places of a format's slots follow each other
 pub place_more : (p : PlanView) (f : Format) (k : ℕ) → slot_index p f k ≡ slot_index p f 0 + k
@@ -40,13 +40,6 @@ place_more p f k = grind arith
 -- as many capacities more as the format has slots
 pub capacities_counted : (p : PlanView) (f : Format) (before after : List (Format × ℕ)) → after ≡ before ++ capacities_for p f → length after ≡ length before + p.slot_count f
 capacities_counted p f before after capacities = grind (arith, length-map-range_with_len, length-append)
-
--- ---- samples that a slot needs
-
-pub samples_next : (size : ℕ) (halos : List ℕ) (outs : List VirtualOutput) (slots : List ℕ) (place most k : ℕ) (o : VirtualOutput) (s : ℕ) → k < length outs → k < length slots
-    → o ≡ get_or outs k o → s ≡ get_or slots k 0 → max (if s == place then max most (band_samples size (halo halos k) o.desc) else most) (samples_from size halos (k + 1) (drop (k + 1) outs) (drop (k + 1) slots) place)
-    ≡ max most (samples_from size halos k (drop k outs) (drop k slots) place)
-samples_next size halos outs slots place most k o s below here image slot = grind (arith, rest_at)
 
 -- ---- one more
 
@@ -109,3 +102,84 @@ planned_count p f = grind (arith, sum_by-append (λ (r : Format × ℕ). one_of 
 -- as many blocks of a format as capacities
 pub blocks_counted : (blocks : List BlockValue) (capacities : List (Format × ℕ)) → map block_size blocks ≡ capacities → (f : Format) → blocks_of_format blocks f ≡ capacity_count capacities f
 blocks_counted blocks capacities are f = sum_told block_size (λ (r : Format × ℕ). one_of r.0 f) blocks ∙ ap (λ (l : List (Format × ℕ)). capacity_count l f) are
+
+-- ---- planes of slots
+
+abbrev size_of : PlaneValue → Format × ℕ
+size_of p = (p.format, length p.samples)
+
+-- the plane of one slot more, whose block is still in the list
+pub planes_more : (old now : List BlockValue) (planes after : List PlaneValue) (p : PlaneValue) (k : ℕ) (b : BlockValue) → capacities planes ≡ map block_size (take k old) → drop k now ≡ drop k old → k < length now → length now ≡ length old
+    → size_of p ≡ block_size (get_or now k b) → after ≡ planes ++ p ∷ [] → capacities after ≡ map block_size (take (k + 1) old)
+planes_more old now planes after p k b sizes rest below count size are =
+    ap capacities are
+    ∙ map-append size_of planes (p ∷ [])
+    ∙ ap (λ l. l ++ size_of p ∷ []) sizes
+    ∙ ap (λ r. map block_size (take k old) ++ r ∷ []) (size ∙ ap block_size (same_item old now k b rest below count))
+    ∙ sym (map-append block_size (take k old) (get_or old k b ∷ []))
+    ∙ ap (map block_size) (sym (take_more old k b (omega (arith, below, count))))
+  where
+    same_item : (old now : List BlockValue) (k : ℕ) (b : BlockValue) → drop k now ≡ drop k old → k < length now → length now ≡ length old → get_or now k b ≡ get_or old k b
+    same_item old now k b rest below count =
+        let first : List BlockValue → BlockValue = λ l. get_or l 0 b in
+        ap first (sym (drop_more now k b below)) ∙ ap first rest ∙ ap first (drop_more old k b (omega (arith, below, count)))
+
+-- the blocks that are still to be given to planes
+pub rest_more : (old now : List BlockValue) (k : ℕ) (b : BlockValue) → drop k now ≡ drop k old → drop (k + 1) (slice_set now k b) ≡ drop (k + 1) old
+rest_more old now k b rest =
+    let same : k + 1 ≡ suc k = omega arith in
+    ap (λ n. drop n (slice_set now k b)) same ∙ drop_after now k b ∙ sym (drop_tail now k) ∙ ap tail rest ∙ drop_tail old k ∙ ap (λ n. drop n old) (sym same)
+  where
+    tail : {X : Type 0} → List X → List X
+    tail [] = []
+    tail (x ∷ l) = l
+
+    drop_tail : {X : Type 0} (l : List X) (k : ℕ) → tail (drop k l) ≡ drop (suc k) l
+    drop_tail [] zero = refl
+    drop_tail [] (suc k) = refl
+    drop_tail (x ∷ l) zero = refl
+    drop_tail (x ∷ l) (suc k) = drop_tail l k
+
+    drop_after : {X : Type 0} (l : List X) (k : ℕ) (x : X) → drop (suc k) (slice_set l k x) ≡ drop (suc k) l
+    drop_after [] k x = refl
+    drop_after (y ∷ l) zero x = refl
+    drop_after (y ∷ l) (suc k) x = drop_after l k x
+
+-- the samples that a plane gives back are those of its block
+pub returned_size : (start planes : List PlaneValue) (k : ℕ) (b : Samples) (r : PlaneValue) → samples_format b ≡ (get_or planes k r).format → values b ≡ (get_or planes k r).samples → k < length planes
+    → plane planes k ≡ plane start k → length planes ≡ length start → samples_size b ≡ capacity (capacities start) k
+returned_size start planes k b r format value below here count = grind (arith, get_or_default, get_or-map)
+
+-- they are as many as the pool lent in the block of the plane's slot
+pub returned_fits : (old now : List BlockValue) (sizes : List (Format × ℕ)) (k : ℕ) (b : Samples) (x : BlockValue) → samples_size b ≡ capacity sizes k → take (length old) sizes ≡ map lent_size old → map lent_size now ≡ map lent_size old → k < length old
+    → samples_size b ≡ lent_size (get_or now k x)
+returned_fits old now sizes k b x gives fit same below =
+    gives
+    ∙ sym (get_or_take sizes k (length old) (U8, 0) below)
+    ∙ ap (λ l. let r : Format × ℕ = get_or l k (U8, 0) in r) (fit ∙ sym same)
+    ∙ get_or-map lent_size now k x (U8, 0) (omega (arith, below, sym (length-map now lent_size) ∙ ap length same ∙ length-map old lent_size))
+  where
+    get_or_take : {X : Type 0} (l : List X) (k n : ℕ) (d : X) → k < n → get_or (take n l) k d ≡ get_or l k d
+    get_or_take [] k zero d inside = refl
+    get_or_take [] k (suc n) d inside = refl
+    get_or_take (y ∷ l) zero (suc n) d inside = refl
+    get_or_take (y ∷ l) (suc k) (suc n) d inside = get_or_take l k n d (omega (arith, inside))
+    get_or_take (y ∷ l) k zero d inside = absurd (omega (arith, inside))
+
+-- one block more is back
+pub back_more : (sizes : List (Format × ℕ)) (now : List BlockValue) (k : ℕ) (b : BlockValue) → map block_size (take k now) ≡ take k sizes → block_size b ≡ capacity sizes k → k < length now → k < length sizes
+    → map block_size (take (k + 1) (slice_set now k b)) ≡ take (k + 1) sizes
+back_more sizes now k b back size below inside =
+    ap (map block_size) (take_set now k b below)
+    ∙ map-append block_size (take k now) (b ∷ [])
+    ∙ ap (λ l. l ++ block_size b ∷ []) back
+    ∙ ap (λ r. take k sizes ++ r ∷ []) size
+    ∙ sym (take_more sizes k (U8, 0) inside)
+  where
+    take_set : {X : Type 0} (l : List X) (k : ℕ) (x : X) → k < length l → take (k + 1) (slice_set l k x) ≡ take k l ++ x ∷ []
+    take_set {X = X} l k x inside = ap (λ n. take n (slice_set l k x)) (let same : k + 1 ≡ suc k = omega arith in same) ∙ at l k x inside
+      where
+        at : (l : List X) (k : ℕ) (x : X) → k < length l → take (suc k) (slice_set l k x) ≡ take k l ++ x ∷ []
+        at [] k x inside = absurd (omega (arith, inside))
+        at (y ∷ l) zero x inside = refl
+        at (y ∷ l) (suc k) x inside = ap (λ (m : List X). y ∷ m) (at l k x (omega (arith, inside)))

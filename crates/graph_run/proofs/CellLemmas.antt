@@ -1,5 +1,5 @@
 -- What cells hold where one of them is written.
-use Rattle.std.proofs.Common.{◌≡◌, ℕ, IsTrue, List, [], ◌∷◌, map, Option, Some, None, refl, sym, ap, subst, ◌∙◌, arith, All, is_some, unwrap_or, IfSome, option_map, eq-eqb, eqb-true}
+use Rattle.std.proofs.Common.{◌≡◌, ℕ, IsTrue, List, [], ◌∷◌, Option, Some, None, refl, sym, ap, subst, ◌∙◌, arith, All, is_some, unwrap_or, IfSome, option_map, eq-eqb, eqb-true}
 use Rattle.graph_run.proofs.Common.{IsStrictlyIncreasing, All-head, All-tail, All-weaker, U8, Kind, Reference, ImageValue, new_image, ObjectValue, ImageObject, IsObject, object_kind, in_slot, with_slot, NamedObject, object_held, object_at, with_object, with_written, cell_object, image_held, HoldsImage, names_of, HasObject, map-with_object, with_slot_there, with_slot_elsewhere, Missing, operand_of, operand_held, lasting_part, lasting_named, Lasts, Holds, AreApart, HoldsKind}
 use Rattle.object_table.proofs.HeldLemmas.{held_alone, All-with_object}
 use Rattle.object_table.proofs.SkeletonLaws.{IsObject-with_slot}
@@ -68,27 +68,6 @@ held_image objects cell h = grind arith
 pub held_once : (objects : List NamedObject) (name : ℕ) (x : ObjectValue) → IsStrictlyIncreasing (names_of objects) → object_held objects name ≡ Some x → All (HasObject name x) objects
 held_once objects name x names found = subst (λ (o : Option ObjectValue). IfSome o (λ object. All (HasObject name object) objects)) found (held_alone objects name names)
 
--- what is the same of an object of this name and of the one with a write is the same of all
-pub map-with_held : {X : Type 0} (f : NamedObject → X) (objects : List NamedObject) (cell : Reference) (new : ObjectValue) → IsStrictlyIncreasing (names_of objects) → Holds objects cell
-    → ((x : ObjectValue) → object_held objects cell.name ≡ Some x → (o : NamedObject) → o.object ≡ x → f (record o { object = with_slot cell.slot new o.object }) ≡ f o)
-    → map f (with_object objects cell new) ≡ map f objects
-map-with_held f objects cell new names there same = found (object_held objects cell.name) refl
-  where
-    found : (held : Option ObjectValue) → object_held objects cell.name ≡ held → map f (with_object objects cell new) ≡ map f objects
-    found None e = absurd (grind (arith, e, there))
-    found (Some x) e =
-        map-with_object f objects cell new
-        (All-weaker (HasObject cell.name x) (λ o. o.name ≡ cell.name → f (record o { object = with_slot cell.slot new o.object }) ≡ f o) (λ o at named. same x e o (at named)) objects (held_once objects cell.name x names e))
-
--- an object that is written to a cell, and of which as much lasts as of the one there
-module _ (objects : List NamedObject) (w : Reference × ObjectValue) (lasts : option_map lasting_part (object_at objects w.0) ≡ Some (lasting_part w.1)) (names : IsStrictlyIncreasing (names_of objects)) where
-  pub replaces-in_slot : (x : ObjectValue) → object_held objects w.0.name ≡ Some x → (o : NamedObject) → o.object ≡ x → option_map lasting_part (in_slot w.0.slot o.object) ≡ Some (lasting_part w.1)
-  replaces-in_slot x e o at = grind arith
-
-  -- as much lasts of all
-  pub lasting-with_object : map lasting_named (with_object objects w.0 w.1) ≡ map lasting_named objects
-  lasting-with_object = grind (arith, map-with_held, lasts, lasting-with_slot, replaces-in_slot)
-
 -- an object that may be written to a cell: as much lasts of it as of the one there
 pub record IsReplacement (objects : List NamedObject) (w : Reference × ObjectValue) : Type 0 where
   pub is_object : IsObject w.1
@@ -101,15 +80,24 @@ module _ (objects : List NamedObject) (w : Reference × ObjectValue) (may : IsRe
 
   -- where names increase, it is written there
   pub Lasts-with_object : IsStrictlyIncreasing (names_of objects) → All (λ o. IsObject o.object) objects → Lasts objects (with_object objects w.0 w.1)
-  Lasts-with_object names are = record { objects = found (object_held objects w.0.name) refl; lasting = lasting-with_object objects w may.lasts names }
+  Lasts-with_object names are = found (object_held objects w.0.name) refl
     where
-      found : (object : Option ObjectValue) → object_held objects w.0.name ≡ object → All (λ o. IsObject o.object) (with_object objects w.0 w.1)
+      there : (x : ObjectValue) → object_held objects w.0.name ≡ Some x → (o : NamedObject) → o.object ≡ x → option_map lasting_part (in_slot w.0.slot o.object) ≡ Some (lasting_part w.1)
+      there x e o at = grind (arith, may.lasts)
+
+      found : (object : Option ObjectValue) → object_held objects w.0.name ≡ object → Lasts objects (with_object objects w.0 w.1)
       found None e = absurd (grind (arith, e, may.lasts))
       found (Some x) e =
-          All-with_object (λ o. IsObject o.object) (HasObject w.0.name x) objects w.0 w.1
-          (λ o at before named.
-          IsObject-with_slot w.0.slot w.1 o.object (skeletons-last (in_slot w.0.slot o.object) (Some w.1) (replaces-in_slot objects w may.lasts names x e o (at named))) may.is_object before)
-          (held_once objects w.0.name x names e) are
+          let only = held_once objects w.0.name x names e in
+          record {
+            objects =
+                All-with_object (λ o. IsObject o.object) (HasObject w.0.name x) objects w.0 w.1
+                (λ o at before named. IsObject-with_slot w.0.slot w.1 o.object (skeletons-last (in_slot w.0.slot o.object) (Some w.1) (there x e o (at named))) may.is_object before) only are;
+            lasting =
+                map-with_object lasting_named objects w.0 w.1
+                (All-weaker (HasObject w.0.name x) (λ o. o.name ≡ w.0.name → lasting_named (record o { object = with_slot w.0.slot w.1 o.object }) ≡ lasting_named o)
+                (λ o at named. grind (arith, lasting-with_slot w.0.slot w.1 o.object (there x e o (at named)))) objects only);
+          }
 
 -- so are several, one after the other
 pub Lasts-with_written : (objects : List NamedObject) (written : List (Reference × ObjectValue)) → IsStrictlyIncreasing (names_of objects) → All (λ o. IsObject o.object) objects

@@ -1,14 +1,14 @@
 -- References to the images of a graph, each once, and their indices.
-use Rattle.std.proofs.Common.{◌≡◌, ◌≢◌, ℕ, zero, suc, ◌+◌, ◌<◌, ◌≤◌, false, List, [], ◌∷◌, ◌++◌, length, map, get_or, refl, sym, ap, ◌∙◌, inl, inr, arith, Some, None, position, ◌⊎◌}
+use Rattle.std.proofs.Common.{◌≡◌, ◌≢◌, ℕ, zero, suc, ◌+◌, ◌^◌, ◌<◌, ◌≤◌, false, List, [], ◌∷◌, ◌++◌, length, map, get_or, refl, sym, ap, subst, ◌∙◌, inl, inr, arith, Option, Some, None, position, ◌⊎◌}
 use Rattle.std.proofs.lemmas.List.Recursion.{is_position_or_len}
 use Rattle.std.proofs.lemmas.List.{append_assoc, append-nil, length-map}
 use Rattle.std.proofs.Math.Seq.{drop-append_seam}
+use Rattle.graph_verify.proofs.KnownLemmas.{find_cases}
 use Rattle.graph_verify.proofs.MemberLemmas.{position-None}
-use Rattle.graph_run.proofs.Common.{In-at, fails-from_In, list_any, list_any-append, cases_Bool, or_parts, Reference, same_reference, has_twice, In, In-append, In-left, In-right, In-from_any, any-from_In, same_cell-true, same_cell-refl, NamedObject, Node, VirtualOutput}
+use Rattle.graph_run.proofs.Common.{In-at, fails-from_In, list_any, list_any-append, cases_Bool, or_parts, Reference, same_reference, has_twice, In, In-append, In-left, In-right, In-from_any, any-from_In, same_cell-true, same_cell-refl, NamedObject, Node, PlanView, VirtualOutput, slot_index_of}
 use Rattle.graph_run.specs.Bind.{AreAllApart, HoldImages}
 use Rattle.graph_run.specs.Cells.{images_named, index_of, with_cell, with_cells}
-use Rattle.graph_run.specs.Program.{client_cells}
-use Rattle.graph_run.specs.Tasks.{graph_cells}
+use Rattle.graph_run.specs.Tasks.{HasIndices, client_cells, graph_cells, virtual_output}
 
 -- ---- indices
 
@@ -31,6 +31,23 @@ index_below (d ∷ cells) c i = grind (arith, cases_Bool (same_reference d c), s
 pub at_index : (cells : List Reference) (c d : Reference) → In c cells → get_or cells (index_of cells c) d ≡ c
 at_index [] c d i = elim i [ ]
 at_index (x ∷ cells) c d i = grind (arith, cases_Bool (same_reference x c), same_cell-true x c, same_cell-refl c, at_index cells c d)
+
+index_most : (cells : List Reference) (c : Reference) → index_of cells c ≤ length cells
+index_most [] c = omega arith
+index_most (x ∷ cells) c = grind (arith, index_most cells c)
+
+-- an image's plane has an index
+pub slot_fits : (p : PlanView) (outs : List VirtualOutput) (slots : ℕ) (clients : List Reference) → HasIndices p outs slots clients → (c : Reference) (o : VirtualOutput) → virtual_output outs c ≡ Some o → slot_index_of p o < 2 ^ 64
+slot_fits p outs slots clients fits c o found = elim (find_cases (λ (x : VirtualOutput). same_reference x.cell c) outs) [
+  | inl f ↦ subst (λ (x : VirtualOutput). slot_index_of p x < 2 ^ 64) (let e = sym f.1 ∙ found in same_some f.0 o e) (fits.0 f.0 f.2)
+  | inr none ↦ absurd (let e = sym none.0 ∙ found in cc)
+]
+  where
+    same_some : (a b : VirtualOutput) → ◌≡◌ {A = Option VirtualOutput} (Some a) (Some b) → a ≡ b
+    same_some a b e = cc
+
+pub client_fits : (p : PlanView) (outs : List VirtualOutput) (slots : ℕ) (clients : List Reference) → HasIndices p outs slots clients → (c : Reference) → slots + index_of clients c < 2 ^ 64
+client_fits p outs slots clients fits c = let most = index_most clients c in let room = fits.1 in omega arith
 
 -- cells that differ have other indices
 pub indices_differ : (cells : List Reference) (a b : Reference) → In a cells → In b cells → a ≢ b → index_of cells a ≢ index_of cells b
@@ -112,6 +129,3 @@ index_left (x ∷ xs) ys c i = grind (arith, cases_Bool (same_reference x c), sa
 pub index_behind : (xs ys : List Reference) (c : Reference) → (In c xs → ⊥) → index_of (xs ++ ys) c ≡ length xs + index_of ys c
 index_behind [] ys c none = omega arith
 index_behind (x ∷ xs) ys c none = grind (arith, cases_Bool (same_reference x c), same_cell-true, index_behind xs ys c (λ i. none (inr i)))
-
-pub index_right : (xs ys : List Reference) (c : Reference) → (In c xs → ⊥) → length xs ≤ index_of (xs ++ ys) c
-index_right xs ys c none = omega (arith, index_behind xs ys c none)

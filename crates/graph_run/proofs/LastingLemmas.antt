@@ -1,7 +1,6 @@
 -- What lasts of objects as others are written in their places.
 use Rattle.std.proofs.Common.{◌≡◌, ℕ, List, [], ◌∷◌, Option, Some, None, map, drop, refl, sym, ap, subst, ◌∙◌, arith, option_map, option_and_then}
 use Rattle.graph_run.proofs.Common.{IsStrictlyIncreasing, Node, Reference, Description, ImageValue, image_over, description_of, ObjectValue, ImageObject, empty_rectangle, in_slot, with_slot, NamedObject, object_held, object_at, skeleton, names_of, map-determined, lasting_part, lasting_named, Lasts}
-use Rattle.object_table.specs.Context.{object_named}
 use Rattle.object_table.specs.Uses.{nodes_in}
 use Rattle.object_table.proofs.SkeletonLaws.{option_map-determined, in_slot-skeleton, skeleton-with_slot}
 
@@ -47,12 +46,6 @@ pub held-lasts : (old new : List NamedObject) (name : ℕ) → map lasting_named
 held-lasts [] [] name same = refl
 held-lasts (o ∷ old) (p ∷ new) name same = grind (arith, held-lasts old new name (ap (drop 1) same))
 held-lasts old new name same = absurd (cc)
-
--- and of what a live name has
-pub named-lasts : (old new : List NamedObject) (name : ℕ) → map lasting_named new ≡ map lasting_named old → option_map lasting_part (object_named new name) ≡ option_map lasting_part (object_named old name)
-named-lasts [] [] name same = refl
-named-lasts (o ∷ old) (p ∷ new) name same = grind (arith, named-lasts old new name (ap (drop 1) same))
-named-lasts old new name same = absurd (cc)
 
 -- and in each cell
 pub cell-lasts : (old new : List NamedObject) (cell : Reference) → map lasting_named new ≡ map lasting_named old → option_map lasting_part (object_at new cell) ≡ option_map lasting_part (object_at old cell)

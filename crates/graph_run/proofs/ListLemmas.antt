@@ -1,18 +1,6 @@
--- Lists of tasks and slots that grow by one item.
-use Rattle.std.proofs.Common.{◌≡◌, ℕ, ◌+◌, ◌<◌, List, [], ◌∷◌, ◌++◌, length, take, drop, get_or, Some, sym, ap, ◌∙◌, arith, ◌==◌, if◌then◌else◌, length-take}
+-- Lists from an item on.
+use Rattle.std.proofs.Common.{◌≡◌, ℕ, ◌+◌, ◌<◌, List, ◌∷◌, length, drop, get_or, sym, ap, ◌∙◌}
 use Rattle.std.proofs.lemmas.List.{drop_more}
-use Rattle.graph_run.proofs.Common.{take_more}
-use Rattle.graph_run.specs.Tasks.{last_in}
-
--- ---- slots
-
--- the last image in a slot, once there is one image more
-last_in-push : (slot : ℕ) (slots : List ℕ) (s : ℕ) → last_in slot (slots ++ s ∷ []) ≡ (if s == slot then Some (length slots) else last_in slot slots)
-last_in-push slot [] s = grind arith
-last_in-push slot (t ∷ slots) s = grind (arith, last_in-push slot slots s)
-
-pub last_in-more : (slot : ℕ) (slots : List ℕ) (k d : ℕ) → k < length slots → last_in slot (take (k + 1) slots) ≡ (if get_or slots k d == slot then Some k else last_in slot (take k slots))
-last_in-more slot slots k d below = grind (arith, take_more slots k d below, last_in-push slot (take k slots) (get_or slots k d), length-take {A = ℕ})
 
 -- ---- what is left
 

@@ -1,106 +1,112 @@
 -- A node by itself: what it reads and writes in a table.
-use Rattle.std.proofs.Common.{◌≡◌, ◌≢◌, ◌⊎◌, List, [], ◌∷◌, Some, refl, sym, ap, subst, ◌∙◌, arith, All, IfSome, option_map}
-use Rattle.graph_run.proofs.Common.{First, Second, Output, Kind, Node, Reference, parameters, ImageValue, ImageObject, IsObject, object_kind, node_image, second_or_output, written_by, Context, with_objects, NamedObject, object_at, with_object, with_written, cell_object, image_held, IsStrictlyIncreasing, names_of, Lasts, RunsTo, with_output_object, CanRunNow}
+use Rattle.std.proofs.Common.{◌≡◌, ◌≢◌, ◌⊎◌, List, [], ◌∷◌, Option, Some, refl, sym, ap, subst, ◌∙◌, arith, All, IfSome, option_map}
+use Rattle.graph_run.proofs.Common.{First, Second, Output, Kind, Node, Reference, parameters, ImageValue, ImageObject, ObjectValue, IsObject, description_of, object_kind, node_image, second_or_output, written_by, Context, with_objects, NamedObject, object_at, with_object, with_written, cell_object, image_held, HoldsImage, IsStrictlyIncreasing, names_of, Lasts, RunsTo, with_output_object, CanRunNow}
 use Rattle.vx_base.specs.declared.kind.Kind.TheVariants as kind
+use Rattle.vx_base.specs.Outputs.{node_output}
+use Rattle.object_table.specs.Object.{image_value}
 use Rattle.graph_steps.specs.declared.tally.Tally.{Tally}
 use Rattle.graph_steps.specs.Planes.{IsWhole, PlaneValue, block_image}
 use Rattle.graph_steps.specs.Steps.{CanMake, lent_step}
 use Rattle.graph_steps.specs.Tallies.{tally_of}
-use Rattle.graph_run.specs.declared.output_planes.OutputPlanes.{OutputPlanes}
+use Rattle.graph_run.specs.Bind.{image_plane, without_samples}
 use Rattle.graph_run.specs.Bound.{IsTallyFor}
-use Rattle.graph_run.specs.OutputPlanes.{AreInPlanes, IsInPlane, IsInPlaneIf, with_plane, with_planes}
 use Rattle.graph_run.specs.Program.{tally_by}
 use Rattle.graph_run.specs.Results.{tally_object}
 use Rattle.graph_run.specs.Steps.{HasInputs, output_of}
-use Rattle.graph_run.proofs.CellLemmas.{elsewhere, object_after, object_elsewhere, object_if_elsewhere, there_is, with_object_twice}
+use Rattle.graph_run.proofs.CellLemmas.{elsewhere, image_after, object_after, object_elsewhere, object_if_elsewhere, there_is, with_object_twice}
 use Rattle.graph_steps.proofs.KernelLaws.{whole_takes}
-use Rattle.graph_run.proofs.LendLemmas.{back_after, desc_there, format_there, image_there, names-with_plane, runs_before, taken_after}
-use Rattle.graph_run.proofs.RunLemmas.{Lasts-outputs, runs_first, runs_second, runs_then, two_outputs, written_is}
+use Rattle.graph_run.proofs.RunLemmas.{Lasts-outputs, runs_first, runs_then, written_is}
 use Rattle.graph_run.proofs.SolutionStepsReturns.{counted_kind, tally_output}
 use Rattle.graph_run.proofs.SolutionStepsTaken.{tally_for}
 
 -- ---- both outputs
 
-module _ (t : Context) (n : Node) (planes : OutputPlanes) (taken : AreInPlanes t.objects n planes) (names : IsStrictlyIncreasing (names_of t.objects))
-    (are : All (λ o. IsObject o.object) (with_planes t.objects n planes)) (can : CanRunNow (with_planes t.objects n planes) n) where
-  abbrev whole : List NamedObject
-  whole = with_planes t.objects n planes
-
-  abbrev first : List NamedObject
-  first = with_plane t.objects n.out1 planes.first
-
-  names_first : IsStrictlyIncreasing (names_of first)
-  names_first = subst IsStrictlyIncreasing (sym (names-with_plane t.objects n.out1 planes.first)) names
-
-  pub runs_first_taken : IfSome n.out1 (RunsTo first n)
-  runs_first_taken = runs_before first n n.out1 n.out2 planes.second names_first taken.second (runs_first n whole are can) (runs_second n whole are can) (two_outputs n whole are can)
-
+module _ (t : Context) (n : Node) (are : All (λ o. IsObject o.object) t.objects) (can : CanRunNow t.objects n) (between : Context) (one : between ≡ with_objects t (with_output_object t.objects n First n.out1)) where
   -- after the first output
-  module _ (between : Context) (one : between ≡ with_objects t (with_output_object first n First n.out1)) where
-    then : with_plane between.objects n.out2 planes.second ≡ with_output_object whole n First n.out1
-    then = grind (arith, back_after, runs_first_taken, runs_second, two_outputs)
+  pub runs_next : IfSome n.out2 (RunsTo between.objects n)
+  runs_next = subst (λ (b : Context). IfSome n.out2 (RunsTo b.objects n)) (sym one) (runs_then n t.objects are can)
 
-    pub taken_then : IsInPlaneIf between.objects n.out2 planes.second
-    taken_then = subst (λ (b : Context). IsInPlaneIf b.objects n.out2 planes.second) (sym one) (taken_after first n n.out1 n.out2 planes.second taken.second (two_outputs n whole are can))
+  -- and after the second
+  module _ (after : Context) (two : after ≡ with_objects between (with_output_object between.objects n Second n.out2)) where
+    both : after ≡ with_objects t (with_output_object (with_output_object t.objects n First n.out1) n Second n.out2)
+    both = two ∙ ap (λ (b : Context). with_objects b (with_output_object b.objects n Second n.out2)) one
 
-    pub runs_then_taken : IfSome n.out2 (RunsTo (with_plane between.objects n.out2 planes.second) n)
-    runs_then_taken = subst (λ (l : List NamedObject). IfSome n.out2 (RunsTo l n)) (sym then) (runs_then n whole are can)
+    pub both_written : after ≡ with_objects t (with_written t.objects (written_by n (object_at t.objects)))
+    both_written = both ∙ ap (with_objects t) (sym (written_is n t.objects are can))
 
-    -- and after the second
-    module _ (after : Context) (two : after ≡ with_objects between (with_output_object (with_plane between.objects n.out2 planes.second) n Second n.out2)) where
-      both : after ≡ with_objects t (with_output_object (with_output_object whole n First n.out1) n Second n.out2)
-      both =
-          two
-          ∙ ap (λ (b : Context). with_objects b (with_output_object (with_plane between.objects n.out2 planes.second) n Second n.out2)) one
-          ∙ ap (λ (l : List NamedObject). with_objects t (with_output_object l n Second n.out2)) then
+    pub both_last : IsStrictlyIncreasing (names_of t.objects) → Lasts t.objects after.objects
+    both_last names = subst (λ (b : Context). Lasts t.objects b.objects) (sym both) (Lasts-outputs n t.objects are can names)
 
-      pub both_written : after ≡ with_objects t (with_written whole (written_by n (object_at whole)))
-      both_written = both ∙ ap (with_objects t) (sym (written_is n whole are can))
-
-      pub both_last : Lasts whole after.objects
-      both_last = grind (arith, names-with_plane first, names_first, both, Lasts-outputs n whole are can)
-
-pub ruleset lent_planes = (runs_first_taken, taken_then, runs_then_taken)
+pub ruleset both_outputs = (runs_first, runs_next, both_written, both_last)
 
 -- ---- inputs
 
 pub reads : (objects : List NamedObject) (n : Node) (output : Reference) → RunsTo objects n output → HasInputs objects n
 reads objects n output h = grind arith
 
--- ---- an output image, whose samples are in a plane
+-- ---- an output that is an image
 
-module _ (t : Context) (n : Node) (which : Output) (output : Reference) (p : PlaneValue) (taken : IsInPlane t.objects output p) (h : RunsTo (with_plane t.objects (Some output) (Some p)) n output) where
-  abbrev image : ImageValue
-  image = block_image p
+module _ (t : Context) (n : Node) (which : Output) (output : Reference) (h : RunsTo t.objects n output) (is_image : (parameters n.function).output ≡ kind.Image) where
+  abbrev own : ImageValue
+  own = image_held t.objects output
 
-  -- the objects with the image
-  abbrev l : List NamedObject
-  l = with_object t.objects output (ImageObject image)
+  own_is : cell_object t.objects output ≡ ImageObject own
+  own_is = grind (arith, h.runs.out_kind)
 
-  own : cell_object l output ≡ ImageObject image
-  own = object_after t.objects output (image_there t.objects output p taken) image
+  first_is : cell_object t.objects n.in1 ≡ ImageObject (image_held t.objects n.in1)
+  first_is = grind (arith, h.runs.first_kind)
 
-  first_same : cell_object l n.in1 ≡ cell_object t.objects n.in1
-  first_same = object_elsewhere t.objects output n.in1 (ImageObject image) h.in1_apart
+  pub image_there : HoldsImage t.objects output
+  image_there = ap (option_map object_kind) (there_is t.objects output h.out ∙ ap Some own_is)
 
-  second_same : option_map (cell_object l) n.in2 ≡ option_map (cell_object t.objects) n.in2
-  second_same = object_if_elsewhere t.objects output n.in2 (ImageObject image) h.in2_apart
+  -- while its samples are in a plane
+  module _ (left : Context) (taken : left ≡ with_objects t (with_object t.objects output (ImageObject (without_samples own)))) where
+    first_same : cell_object left.objects n.in1 ≡ cell_object t.objects n.in1
+    first_same = ap (λ (c : Context). cell_object c.objects n.in1) taken ∙ object_elsewhere t.objects output n.in1 (ImageObject (without_samples own)) h.in1_apart
 
-  pub inputs_there : HasInputs t.objects n
-  inputs_there = grind (arith, reads, elsewhere, first_same, second_same)
+    second_same : option_map (cell_object left.objects) n.in2 ≡ option_map (cell_object t.objects) n.in2
+    second_same = ap (λ (c : Context). option_map (cell_object c.objects) n.in2) taken ∙ object_if_elsewhere t.objects output n.in2 (ImageObject (without_samples own)) h.in2_apart
 
-  pub output_can : CanMake (lent_step n which) (image_held t.objects n.in1) (option_map (cell_object t.objects) n.in2) p.desc
-  output_can = grind (arith, second_same, first_same, own)
+    pub inputs_left : HasInputs left.objects n
+    inputs_left = grind (arith, reads, elsewhere, first_same, second_same)
 
-  pub plane_whole : IsWhole p
-  plane_whole = grind (arith, own, format_there)
+    pub image_left : HoldsImage left.objects output
+    image_left = subst (λ (c : Context). HoldsImage c.objects output) (sym taken) (image_after t.objects output image_there (without_samples own))
 
-  -- once the plane is written and its image is back
-  pub image_back : (q : PlaneValue) → block_image q ≡ node_image n which p.desc.format (image_held t.objects n.in1) (second_or_output n (option_map (cell_object t.objects) n.in2) (ImageObject image))
-      → (back : Context) → back ≡ with_objects t (with_object t.objects output (ImageObject (block_image q))) → back ≡ with_objects t (with_output_object l n which (Some output))
-  image_back q made back put = grind (arith, first_same, second_same, own, with_object_twice)
+    module _ (p : PlaneValue) (is : p ≡ image_plane own) where
+      pub output_can : CanMake (lent_step n which) (image_held left.objects n.in1) (option_map (cell_object left.objects) n.in2) p.desc
+      output_can = grind (arith, first_same, second_same, own_is)
 
-pub ruleset lent_output = (inputs_there, plane_whole, whole_takes, image_there, desc_there, format_there)
+      pub plane_whole : IsWhole p
+      plane_whole = grind (arith, own_is)
+
+      pub desc_left : p.desc ≡ description_of (image_held left.objects output)
+      desc_left = grind (arith, object_after, image_there)
+
+      -- once the plane is written and its image is back
+      module _ (q : PlaneValue) (made : block_image q ≡ node_image n which p.desc.format (image_held left.objects n.in1) (second_or_output n (option_map (cell_object left.objects) n.in2) (ImageObject (block_image p)))) where
+        abbrev second : Option ObjectValue
+        second = option_map (cell_object t.objects) n.in2
+
+        output_is : output_of t.objects n which output ≡ ImageObject (node_image n which own.format (image_held t.objects n.in1) (second_or_output n second (ImageObject own)))
+        output_is = ap (λ o. node_output n which o second (cell_object t.objects output)) first_is ∙ ap (node_output n which (ImageObject (image_held t.objects n.in1)) second) own_is
+
+        made_is : ImageObject (block_image q) ≡ output_of t.objects n which output
+        made_is =
+            ap ImageObject (made
+            ∙ ap (λ (x : PlaneValue). node_image n which x.desc.format (image_held left.objects n.in1) (second_or_output n (option_map (cell_object left.objects) n.in2) (ImageObject (block_image x)))) is
+            ∙ ap (λ o. node_image n which own.format (image_value o) (second_or_output n (option_map (cell_object left.objects) n.in2) (ImageObject own))) first_same
+            ∙ ap (λ s. node_image n which own.format (image_held t.objects n.in1) (second_or_output n s (ImageObject own))) second_same)
+            ∙ sym output_is
+
+        pub image_back : (back : Context) → back ≡ with_objects left (with_object left.objects output (ImageObject (block_image q))) → back ≡ with_objects t (with_output_object t.objects n which (Some output))
+        image_back back put =
+            put
+            ∙ ap (λ (l : Context). with_objects l (with_object l.objects output (ImageObject (block_image q)))) taken
+            ∙ ap (with_objects t) (with_object_twice t.objects output (ImageObject (without_samples own)) (block_image q))
+            ∙ ap (λ o. with_objects t (with_object t.objects output o)) made_is
+
+pub ruleset image_output = (image_there, inputs_left, image_left, plane_whole, desc_left, whole_takes)
 
 -- ---- an output that is a tally
 

@@ -13,8 +13,7 @@ use Rattle.vx_base.specs.declared.kind.Kind.TheVariants as kind
 use Rattle.graph_verify.specs.Operand.{is_virtual}
 use Rattle.graph_verify.proofs.VerdictLemmas.{can_run}
 use Rattle.graph_run.specs.Operands.{StandsFor}
-use Rattle.graph_run.specs.Program.{client_cells}
-use Rattle.graph_run.specs.Tasks.{HaveTasks}
+use Rattle.graph_run.specs.Tasks.{HaveTasks, client_cells}
 use Rattle.graph_run.proofs.OperandLaws.{adds_to_none, declared_of_virtual, virtual_written}
 
 -- each cell behind those of the virtual images is another, which a node names as an image

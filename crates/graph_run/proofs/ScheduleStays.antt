@@ -1,14 +1,14 @@
 -- A schedule stays one while the cells that its nodes name hold objects of the same skeletons.
-use Rattle.std.proofs.Common.{◌≡◌, ◌≤◌, ◌+◌, ℕ, true, List, [], ◌∷◌, map, Option, Some, None, inl, inr, refl, sym, ap, subst, ◌∙◌, arith, option_map, option_and_then, unwrap_or}
-use Rattle.graph_run.proofs.Common.{Node, Kind, Reference, parameters, ObjectValue, ImageObject, new_image, U8, NamedObject, object_at, skeleton, image_value, image_held, names_cell, In, or_left, writes, Verified, IsPlan, PlanView, slot_index_of}
+use Rattle.std.proofs.Common.{◌≡◌, ◌≤◌, ◌+◌, ℕ, true, List, [], ◌∷◌, Option, Some, None, inl, inr, refl, sym, ap, subst, ◌∙◌, arith, option_map, option_and_then, unwrap_or}
+use Rattle.graph_run.proofs.Common.{Description, Node, Kind, Reference, parameters, ObjectValue, ImageObject, new_image, U8, NamedObject, object_at, skeleton, image_value, image_held, names_cell, In, or_left, writes, Verified, IsPlan, PlanView}
 use Rattle.vx_base.specs.declared.kind.Kind.TheVariants as kind
 use Rattle.node_rows.specs.Radius.{matrix_in}
 use Rattle.graph_verify.specs.Links.{reads}
 use Rattle.graph_steps.specs.Steps.{step_radius}
 use Rattle.graph_run.specs.declared.schedule.Schedule.{Schedule}
-use Rattle.graph_run.specs.Program.{client_cells, radius_of}
+use Rattle.graph_run.specs.Program.{radius_of}
 use Rattle.graph_run.specs.Schedule.{IsSchedule}
-use Rattle.graph_run.specs.Tasks.{graph_cells, tally_after, tasks_by, tasks_from}
+use Rattle.graph_run.specs.Tasks.{client_cells, virtual_description, graph_plane, tally_after, tasks_by, tasks_from}
 use Rattle.graph_run.proofs.LinkLaws.{All-from_In, In-from_All, reads_second}
 use Rattle.graph_run.proofs.ReadyLemmas.{client_by, image_operand}
 use Rattle.graph_run.proofs.VerifiedLemmas.{operand_named}
@@ -34,11 +34,11 @@ told_alike tells told one other same = sym (told one) ∙ ap tells same ∙ told
 
 -- ---- tasks with the same radii
 
-module _ (cells : List Reference) (slots : List ℕ) (one two : Node → ℕ) where
-  by_alike : (at tally : ℕ) (n : Node) (k : Kind) → one n ≡ two n → tasks_by cells slots one at tally n k ≡ tasks_by cells slots two at tally n k
+module _ (plane : Reference → ℕ) (describes : Reference → Option Description) (one two : Node → ℕ) where
+  by_alike : (at tally : ℕ) (n : Node) (k : Kind) → one n ≡ two n → tasks_by plane describes one at tally n k ≡ tasks_by plane describes two at tally n k
   by_alike at tally n k same = grind (arith, same)
 
-  tasks_alike : (nodes : List Node) (at tally : ℕ) → ((n : Node) → In n nodes → one n ≡ two n) → tasks_from cells slots one at tally nodes ≡ tasks_from cells slots two at tally nodes
+  tasks_alike : (nodes : List Node) (at tally : ℕ) → ((n : Node) → In n nodes → one n ≡ two n) → tasks_from plane describes one at tally nodes ≡ tasks_from plane describes two at tally nodes
   tasks_alike [] at tally same = refl
   tasks_alike (n ∷ nodes) at tally same =
       let k = (parameters n.function).output in
@@ -66,9 +66,7 @@ module _ (before after : List NamedObject) (v : Verified) (p : PlanView) (plan :
   schedule_stays s h =
       record {
         cells = h.cells;
-        slots = h.slots;
-        tasks = h.tasks ∙ tasks_alike (graph_cells v.steps v.virtual_outputs) (map (slot_index_of p) v.virtual_outputs) (radius_of before s.high) (radius_of after s.high) v.steps 0 0 (radius_stays s.high);
-        halo_count = h.halo_count;
+        tasks = h.tasks ∙ tasks_alike (graph_plane v.steps v.virtual_outputs p) (virtual_description v.virtual_outputs) (radius_of before s.high) (radius_of after s.high) v.steps 0 0 (radius_stays s.high);
         enough = h.enough;
         some = h.some;
         forward = h.forward;

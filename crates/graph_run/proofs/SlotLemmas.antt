@@ -66,7 +66,7 @@ module _ (steps : List Node) (outs : List VirtualOutput) (p : PlanView) (plan : 
   pub has_slot : (o : VirtualOutput) → In o outs → HasSlot p o
   has_slot o i = grind (arith, any-from_In)
 
-  home_at : (o : VirtualOutput) (h : HasSlot p o) → slot_index_of p o ≡ slot_index p o.desc.format h.slot
+  pub home_at : (o : VirtualOutput) (h : HasSlot p o) → slot_index_of p o ≡ slot_index p o.desc.format h.slot
   home_at o h = ap (λ s. slot_index p o.desc.format (unwrap_or s 0)) h.is
 
   -- images at the same index share a slot

@@ -124,6 +124,13 @@ module _ {objects : List NamedObject} {v : Verified} {s : Schedule} (g : CanRunB
       (In-from_All (λ m. All (λ operand. StandsFor (is operand.0) operand.1) (operands m)) g.nodes g.ready.kinds n i)
       (λ cell named. (at_its_turn work is g.nodes g.ready.runs.1 objects g.ready.cells before within).found n cell i named)
 
+  pub last_stands : CellsStand known g.nodes last
+  last_stands = subst (λ (l : List NamedObject). CellsStand known g.nodes l) (sym in_order) (at_its_turn work is g.nodes g.ready.runs.1 objects g.ready.cells v.steps in_nodes)
+
+  -- each node can run on the objects that the run leaves
+  pub last_can : (n : Node) → In n v.steps → CanRunNow last n
+  last_can n i = subst (λ (l : List NamedObject). CanRunNow l n) (sym in_order) (can_at v.steps in_nodes n (in_nodes n i))
+
   pub first_stands : CellsStand known g.nodes first
   first_stands = at_its_turn work is g.nodes g.ready.runs.1 objects g.ready.cells [] (λ m i. absurd i)
 
@@ -132,7 +139,7 @@ module _ {objects : List NamedObject} {v : Verified} {s : Schedule} (g : CanRunB
   first_kinds n i = In-from_All (HoldsKind first) (operands n) (can_at [] (λ m j. absurd j) n (in_nodes n i)).kinds
 
   pub last_kinds : (n : Node) → In n v.steps → (operand : Reference × Kind) → In operand (operands n) → HoldsKind last operand
-  last_kinds n i = In-from_All (HoldsKind last) (operands n) (subst (λ (l : List NamedObject). CanRunNow l n) (sym in_order) (can_at v.steps in_nodes n (in_nodes n i))).kinds
+  last_kinds n i = In-from_All (HoldsKind last) (operands n) (last_can n i).kinds
 
   begun_is : (o : NamedObject) → In o objects → IsObject (named_at_start known g.nodes o).object
   begun_is o i =

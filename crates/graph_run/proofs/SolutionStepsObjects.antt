@@ -1,22 +1,18 @@
 -- The objects written back to a table after a run over planes are the result of the graph's run.
 use Rattle.std.proofs.Common.{◌≡◌, ◌≢◌, ℕ, ◌+◌, ◌<◌, ◌≤◌, true, false, List, [], ◌∷◌, ◌++◌, map, length, drop, get_or, refl, sym, ap, subst, ◌∙◌, inl, inr, arith, Option, Some, None, ◌⊎◌, unwrap_or, option_map, option_and_then}
-use Rattle.std.proofs.lemmas.List.{get_or-drop, length-append, length-drop, length-map}
-use Rattle.graph_run.proofs.Common.{cases_Bool, Reference, objects_at_end, form_of, object_at, image_held, ImageObject, ImageValue, In, in_slot, In-append, In-at, In-from_any, In-from_same, In-left, In-right, is_virtual_object, is_written, Kind, label_of, Lasts, NamedObject, optional_cells, Operand, Node, node_output, First, object_held, object_kind, ObjectValue, operand_held, option_or, outputs, parameters, slot_index_of, resolved_operand, run_of_graph, Verified, VirtualOutput, with_written, writes, operand_of}
+use Rattle.std.proofs.lemmas.List.{get_or-drop, length-drop}
+use Rattle.graph_run.proofs.Common.{cases_Bool, Reference, objects_at_end, form_of, object_at, image_held, ImageObject, ImageValue, In, in_slot, In-append, In-at, In-from_any, In-from_same, In-left, In-right, is_virtual_object, is_written, Kind, label_of, Lasts, NamedObject, optional_cells, Operand, Node, node_output, First, object_held, object_kind, ObjectValue, operand_held, option_or, outputs, parameters, description_of, has_twice, once_after, resolved_operand, run_of_graph, Verified, with_written, writes, operand_of}
 use Rattle.vx_base.specs.declared.kind.Kind.TheVariants as kind
 use Rattle.vx_base.specs.PartialDescription.{PartialDescription}
 use Rattle.graph_verify.specs.declared.operand.Operand.TheVariants.{Virtual}
-use Rattle.pixel_pool.specs.Block.{BlockValue}
 use Rattle.graph_steps.specs.declared.tally.Tally.{Tally}
-use Rattle.graph_steps.specs.Planes.{PlaneValue, block_image, block_images, no_plane}
-use Rattle.graph_steps.specs.Program.{KeepsBlock, SolvesSteps}
-use Rattle.graph_steps.specs.Tallies.{IsNew, tally_at, tally_of}
+use Rattle.graph_steps.specs.Planes.{IsWhole, PlaneValue, block_image, no_plane, plane}
+use Rattle.graph_steps.specs.Tallies.{tally_at, tally_of}
 use Rattle.graph_run.specs.declared.schedule.Schedule.{Schedule}
 use Rattle.graph_run.specs.Bind.{plane_objects}
-use Rattle.graph_run.specs.Cells.{index_of}
-use Rattle.graph_run.specs.Program.{node_tallies, planes_of, radius_of, tables_of, tallies_of, tally_by}
-use Rattle.graph_run.specs.Results.{Leaves, images_in, tally_cells, tally_object, tally_objects}
-use Rattle.graph_run.specs.Schedule.{ArePlanes, CanRunBy}
-use Rattle.graph_run.specs.Tasks.{graph_tasks}
+use Rattle.graph_run.specs.Program.{node_tallies, tallies_of, tally_by}
+use Rattle.graph_run.specs.Results.{tally_cells, tally_object, tally_objects}
+use Rattle.graph_run.specs.Schedule.{CanRunBy}
 use Rattle.graph_run.proofs.BegunLaws.{both_held, kept_virtual, labels-forgotten, object_held-forgotten}
 use Rattle.graph_run.proofs.HeldLaws.{AreWrites, labels-with_written, last_to, seen, seen-with_written}
 use Rattle.graph_run.proofs.IndexLemmas.{cells_parts, index_at}
@@ -25,13 +21,13 @@ use Rattle.graph_run.proofs.ObjectLaws.{is_delay, shown}
 use Rattle.graph_run.proofs.OperandLaws.{declared_of_virtual, virtual_there}
 use Rattle.graph_run.proofs.ProgramLemmas.{image_named}
 use Rattle.graph_run.proofs.SolutionStepsEnds.{first_real, in_nodes, in_steps, is, is_node_of, last_labels, last_lasts, solves, unwritten_seen}
-use Rattle.graph_run.proofs.SolutionStepsImages.{ShowImages, cell_there, cells, cells_once, client_image, client_there, clients, ends, ends_held, have, holds_output, image_real, show_images, solution, starts, tally_kept, virtual, virtual_by, virtual_is, virtual_or, whole_at}
-use Rattle.graph_run.proofs.SolutionStepsReturns.{counted_kind, forgotten_are, forgotten_lasting, image_back, image_comes, kept_real, last_known, last_none, last_some, tally_back, tally_comes, tally_is_new, tally_output}
+use Rattle.graph_run.proofs.SolutionStepsImages.{cell_there, cells, cells_once, client_image, client_there, clients, ends, ends_held, holds_output, image_real, starts, tally_kept, virtual, virtual_by, virtual_is, virtual_or}
+use Rattle.graph_run.proofs.SolutionStepsReturns.{counted_kind, forgotten_are, forgotten_lasting, image_back, image_comes, kept_real, last_known, last_none, last_some, tally_back, tally_comes, tally_output}
 use Rattle.graph_run.proofs.SolutionStepsTasks.{image_or, one_output, tally_count, tally_there}
-use Rattle.graph_run.proofs.TallySteps.{reduction_there, tallied}
-use Rattle.graph_run.proofs.TaskLemmas.{turns_kept}
+use Rattle.graph_run.proofs.TallySteps.{Each, each_both, each_tally, node_of}
+use Rattle.graph_run.proofs.TurnSteps.{Counted, whole}
+use Rattle.graph_run.proofs.PlaneSteps.{client_at, plane_at, slots}
 use Rattle.graph_run.proofs.VerifiedLemmas.{named_by_output, pairs_of}
-use Rattle.graph_run.proofs.WithinLemmas.{turns}
 
 -- a tally's object is no delay
 tally_plain : (t : Tally) → is_delay (tally_object t) ≡ false
@@ -45,6 +41,14 @@ own_tally : (objects : List NamedObject) (n : Node) (c : Reference) (old : Objec
     → node_tallies objects n ≡ new ∷ [] → tally_by (object_kind old) old ≡ new ∷ []
 own_tally objects n c old new out there is own = rw is (rw (out, there) at own)
 
+-- what a run leaves in the planes and the tallies
+pub record Leaves {objects : List NamedObject} {v : Verified} {s : Schedule} (g : CanRunBy objects v s) (after : List PlaneValue) (counted : List Tally) : Type 0 where
+  pub images : (c : Reference) → In c (clients g) → block_image (plane after (plane_at g c)) ≡ whole g c
+  pub planes : (c : Reference) → In c (clients g) → IsWhole (plane after (plane_at g c)) × ((plane after (plane_at g c)).desc ≡ description_of (image_held objects c))
+  pub counts : Each (Counted g (tallies_of objects v.steps) counted) 0 v.steps
+  pub planes_count : length after ≡ slots g + length (clients g)
+  pub tallies_count : length counted ≡ length (tallies_of objects v.steps)
+
 module _ {objects : List NamedObject} {v : Verified} {s : Schedule} (g : CanRunBy objects v s) where
   -- the run leaves objects, and of each what lasts
   pub run_lasts : Lasts objects (run_of_graph (resolved_operand (operand_held objects) g.nodes) g.nodes objects)
@@ -55,14 +59,7 @@ module _ {objects : List NamedObject} {v : Verified} {s : Schedule} (g : CanRunB
         lasting = forgotten_lasting (resolved_operand (operand_held objects) g.nodes) g.nodes objects _ l.lasting;
       }
 
-  module _ {blocks : List BlockValue} {first_planes : List PlaneValue} (t : ArePlanes objects v s blocks first_planes) {after : List PlaneValue} {counted : List Tally}
-      (leaves : Leaves (tables_of objects v.steps) (graph_tasks v.steps v.virtual_outputs g.slots (radius_of objects s.high)) (planes_of objects v.steps v.virtual_outputs t.virtuals) (tallies_of objects v.steps) after counted) where
-    abbrev radius : Node → ℕ
-    radius = radius_of objects s.high
-
-    abbrev pub all : List Reference
-    all = cells g
-
+  module _ {after : List PlaneValue} {counted : List Tally} (leaves : Leaves g after counted) where
     abbrev pub theirs : List Reference
     theirs = clients g
 
@@ -72,21 +69,6 @@ module _ {objects : List NamedObject} {v : Verified} {s : Schedule} (g : CanRunB
     abbrev pub first : List NamedObject
     first = starts g
 
-    abbrev pub planes : List PlaneValue
-    planes = planes_of objects v.steps v.virtual_outputs t.virtuals
-
-    abbrev pub whole : ℕ → ImageValue
-    whole = images_in last all (block_images planes)
-
-    pub show_all : ShowImages g planes
-    show_all = show_images g t
-
-    solved : SolvesSteps (tables_of objects v.steps) (length planes) (graph_tasks v.steps v.virtual_outputs g.slots radius) (block_images planes) whole
-    solved = solution g planes show_all
-
-    whole_of : (c : Reference) → In c all → whole (index_of all c) ≡ image_held last c
-    whole_of c i = whole_at g planes show_all c i
-
     -- the values written back are the result of the run, and not virtual images
     pub record IsLeft (w : Reference × ObjectValue) : Type 0 where
       pub left : object_at last w.0 ≡ Some w.1
@@ -95,30 +77,21 @@ module _ {objects : List NamedObject} {v : Verified} {s : Schedule} (g : CanRunB
 
     -- ---- images
 
-    pub theirs_count : length v.virtual_outputs + length theirs ≡ length all
-    theirs_count =
-        omega (arith, ap length (cells_parts v.steps v.virtual_outputs), length-append (map (λ (o : VirtualOutput). o.cell) v.virtual_outputs) theirs, length-map v.virtual_outputs (λ (o : VirtualOutput). o.cell))
+    theirs_once : has_twice theirs ≡ false
+    theirs_once = once_after (virtual g) theirs (ap has_twice (sym (cells_parts v.steps v.virtual_outputs)) ∙ cells_once g)
 
-    pub theirs_keep : (k : ℕ) → k < length theirs → KeepsBlock (length planes) (graph_tasks v.steps v.virtual_outputs g.slots radius) (length v.virtual_outputs + k)
-    theirs_keep k below =
-        turns_kept (map (slot_index_of g.slots) v.virtual_outputs) (graph_tasks v.steps v.virtual_outputs g.slots radius) (turns v.steps v.virtual_outputs g.slots _ (have g) radius) (length planes) (length v.virtual_outputs + k)
-        (omega (arith, length-map v.virtual_outputs (slot_index_of g.slots))) (omega (arith, below, theirs_count, show_all.count))
+    pub theirs_at : (k : ℕ) (d : Reference) → k < length theirs → plane_at g (get_or theirs k d) ≡ slots g + k
+    theirs_at k d below = client_at g (get_or theirs k d) (In-at theirs k d below) ∙ ap (λ n. slots g + n) (index_at theirs k d theirs_once below)
 
-    pub theirs_index : (k : ℕ) (d : Reference) → k < length theirs → index_of all (get_or theirs k d) ≡ length v.virtual_outputs + k
-    theirs_index k d below =
-        let within : length v.virtual_outputs + k < length all = omega (arith, below, theirs_count) in
-        ap (index_of all) (get_or-drop (length v.virtual_outputs) all k d) ∙ index_at all (length v.virtual_outputs + k) d (cells_once g) within
-
-    image_left : (w : Reference × ObjectValue) → In w (plane_objects theirs (drop (length v.virtual_outputs) after)) → IsLeft w
+    image_left : (w : Reference × ObjectValue) → In w (plane_objects theirs (drop (slots g) after)) → IsLeft w
     image_left w i =
-        let r = image_back theirs (drop (length v.virtual_outputs) after) w i in
+        let r = image_back theirs (drop (slots g) after) w i in
         let k : ℕ = r.0 in
-        let at : ℕ = length v.virtual_outputs + k in
         let c : Reference = get_or theirs k w.0 in
         let inside : In c theirs = In-at theirs k w.0 r.1 in
-        let among : In c all = client_there g c inside in
-        let image : block_image (get_or (drop (length v.virtual_outputs) after) k no_plane) ≡ image_held last c =
-        ap block_image (get_or-drop (length v.virtual_outputs) after k no_plane) ∙ leaves.images whole solved at (theirs_keep k r.1) ∙ ap whole (sym (theirs_index k w.0 r.1)) ∙ whole_of c among in
+        let among : In c (cells g) = client_there g c inside in
+        let image : block_image (get_or (drop (slots g) after) k no_plane) ≡ image_held last c =
+        ap block_image (get_or-drop (slots g) after k no_plane) ∙ ap (λ n. block_image (plane after n)) (sym (theirs_at k w.0 r.1)) ∙ leaves.images c inside in
         let is_w : w ≡ (c, ImageObject (image_held last c)) = r.2 ∙ ap (λ (a : ImageValue). let pair : Reference × ObjectValue = (c, ImageObject a) in pair) image in
         subst IsLeft (sym is_w)
         (record { left = ends_held g c among; real = image_real objects c (client_image g c inside); plain = refl })
@@ -140,37 +113,40 @@ module _ {objects : List NamedObject} {v : Verified} {s : Schedule} (g : CanRunB
       pub own : tally_by (object_kind old) old ≡ tally_at (tallies_of objects v.steps) place ∷ []
       pub tallied : tally_at counted place ≡ tally_of (image_held last node.in1) (tally_at (tallies_of objects v.steps) place)
 
+    -- each node's tally is new, and counted from it
+    abbrev OwnAndCounted : ℕ → Node → Type 0
+    OwnAndCounted k n = (node_tallies objects n ≡ tally_at (tallies_of objects v.steps) k ∷ []) × Counted g (tallies_of objects v.steps) counted k n
+
+    both_each : Each OwnAndCounted 0 v.steps
+    both_each =
+        each_both (λ k n. node_tallies objects n ≡ tally_at (tallies_of objects v.steps) k ∷ []) (Counted g (tallies_of objects v.steps) counted) 0 v.steps
+        (each_tally (λ k n. node_tallies objects n ≡ tally_at (tallies_of objects v.steps) k ∷ []) objects v.steps [] (tallies_of objects v.steps) refl
+        (λ n k x i other own below at. own ∙ ap (λ (y : Tally). y ∷ []) (sym at)))
+        leaves.counts
+
     pub tally_facts : (place : ℕ) → place < length (tally_cells v.steps) → IsTallied place
     tally_facts place below =
-        let slots : List ℕ = map (slot_index_of g.slots) v.virtual_outputs in
-        let found = reduction_there all slots radius objects v.steps 0 0 place (omega (arith, below, tally_count objects v.steps)) in
-        let r = (tallied all slots radius objects v.steps 0 0).1 found.0 found.1 in
+        let r = node_of OwnAndCounted v.steps 0 place both_each below in
         let n : Node = r.node in
         let out = one_output n (is_node_of g n r.inside).shape r.other in
         let c : Reference = out.0 in
-        let index : found.0.tally ≡ place = omega (arith, found.2) in
-        let same : r.place ≡ place = omega (arith, r.is, found.2) in
+        let none : 0 + place ≡ place = omega arith in
+        let holds = subst (λ k. OwnAndCounted k n) none r.holds in
         let kept = tally_kept g n r.inside r.other c out.1 in
         let old = some_kind (object_at objects c) (parameters n.function).output kept.1 in
-        let first_tally : r.tally ≡ tally_at (tallies_of objects v.steps) place = sym (r.there _) ∙ ap (tally_at (tallies_of objects v.steps)) same in
-        let own : tally_by (object_kind old.0) old.0 ≡ tally_at (tallies_of objects v.steps) place ∷ [] = own_tally objects n c old.0 _ out.1 old.1 old.2 (rw first_tally at r.tally_is) in
-        let new : IsNew (tally_at (tallies_of objects v.steps) found.0.tally) = rw index (tally_is_new (object_kind old.0) old.0 (tally_at (tallies_of objects v.steps) place) own) in
-        let counted_at : tally_at counted place ≡ tally_of (whole (index_of all n.in1)) (tally_at (tallies_of objects v.steps) place) = (rw (index, r.input) at (leaves.reductions whole solved found.0 found.1 new)) in
         record {
           node = n;
           inside = r.inside;
           other = r.other;
           cell = c;
           out = out.1;
-          at = λ d. ap (λ (k : ℕ). get_or (tally_cells v.steps) k d) (sym same) ∙ r.cell d ∙ ap (λ (o : Option Reference). unwrap_or o n.in1) out.1;
+          at = λ d. r.cell d ∙ ap (λ (o : Option Reference). unwrap_or o n.in1) out.1;
           real = kept.0;
           old = old.0;
           held_before = old.1;
           kind_is = old.2;
-          own = own;
-          tallied =
-              counted_at
-              ∙ ap (λ (b : ImageValue). tally_of b (tally_at (tallies_of objects v.steps) place)) (whole_of n.in1 (cell_there g n r.inside n.in1 (inl refl)));
+          own = own_tally objects n c old.0 _ out.1 old.1 old.2 holds.0;
+          tallied = holds.1;
         }
 
     tally_left : (w : Reference × ObjectValue) → In w (tally_objects (tally_cells v.steps) counted) → IsLeft w
@@ -192,7 +168,7 @@ module _ {objects : List NamedObject} {v : Verified} {s : Schedule} (g : CanRunB
     -- ---- all that is written back
 
     abbrev pub images : List (Reference × ObjectValue)
-    images = plane_objects theirs (drop (length v.virtual_outputs) after)
+    images = plane_objects theirs (drop (slots g) after)
 
     abbrev pub tallies : List (Reference × ObjectValue)
     tallies = tally_objects (tally_cells v.steps) counted
@@ -237,8 +213,8 @@ module _ {objects : List NamedObject} {v : Verified} {s : Schedule} (g : CanRunB
       | inl image ↦ elim (virtual_or g c (cell_there g n i c (image_named n c image j))) [
         | inl old ↦ absurd (virtual_object c old real)
         | inr client ↦
-            (let enough : length theirs ≤ length (drop (length v.virtual_outputs) after) = omega (arith, length-drop (length v.virtual_outputs) after, theirs_count, leaves.planes_count, show_all.count) in
-            let x = image_comes theirs (drop (length v.virtual_outputs) after) c enough client in
+            (let enough : length theirs ≤ length (drop (slots g) after) = omega (arith, length-drop (slots g) after, leaves.planes_count) in
+            let x = image_comes theirs (drop (slots g) after) c enough client in
             (x.0, In-left (c, x.0) images tallies x.1))
       ]
       | inr other ↦

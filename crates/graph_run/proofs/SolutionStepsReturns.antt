@@ -1,10 +1,10 @@
 -- Images and tallies written back to a table give the objects after the run of a graph.
 use Rattle.std.proofs.Common.{◌≡◌, ◌≢◌, ℕ, suc, ◌<◌, ◌≤◌, false, List, [], ◌∷◌, map, length, get_or, refl, ap, ◌∙◌, inl, inr, arith, All, Option, Some, None, ◌⊎◌, if◌then◌else◌}
-use Rattle.graph_run.proofs.Common.{Reference, ImageObject, ImageValue, In, NamedObject, ObjectValue, objects_at_end, is_virtual_object, node_output, Node, Output, object_kind, same_cell-true, same_cell-refl, lasting_named, named_at_start, Operand, IsObject, Kind, Function, parameters}
+use Rattle.graph_run.proofs.Common.{Reference, ImageObject, ImageValue, In, NamedObject, ObjectValue, objects_at_end, is_virtual_object, node_output, Node, Output, object_kind, same_cell-true, same_cell-refl, lasting_named, named_at_start, Operand, IsObject, Function, parameters}
 use Rattle.vx_base.specs.declared.kind.Kind.TheVariants as kind
 use Rattle.graph_steps.specs.declared.tally.Tally.{Tally}
 use Rattle.graph_steps.specs.Planes.{PlaneValue, block_image, no_plane}
-use Rattle.graph_steps.specs.Tallies.{IsNew, tally_at, tally_of}
+use Rattle.graph_steps.specs.Tallies.{tally_at, tally_of}
 use Rattle.graph_run.specs.Bind.{plane_objects}
 use Rattle.graph_run.specs.Program.{tally_by}
 use Rattle.graph_run.specs.Results.{tally_object, tally_objects}
@@ -52,9 +52,6 @@ last_some c x [] i none = absurd i
 last_some c x (w ∷ ws) i none = grind (arith, last_some c x ws, or_none (last_to c ws) _ none, same_cell-refl c)
 
 -- ---- tallies as objects
-
-pub tally_is_new : (wanted : Kind) (object : ObjectValue) (t : Tally) → tally_by wanted object ≡ t ∷ [] → IsNew t
-tally_is_new wanted object t e = grind arith
 
 -- a node without an output image writes the tally of its input
 pub tally_output : (n : Node) (which : Output) (a : ImageValue) (second : Option ObjectValue) (old : ObjectValue) (t : Tally) → (object_kind old ≡ kind.Distribution) ⊎ (object_kind old ≡ kind.Extremes) → tally_by (object_kind old) old ≡ t ∷ []

@@ -1,20 +1,20 @@
 -- The table of a graph's objects while the samples of its images are in planes, and when they move back.
-use Rattle.std.proofs.Common.{◌≡◌, ◌≢◌, ℕ, suc, ◌+◌, ◌<◌, ◌≤◌, List, [], ◌∷◌, length, drop, get_or, refl, sym, ap, subst, ◌∙◌, inl, inr, arith, Option, Some, None, ◌⊎◌, IfSome, unwrap_or, option_map, option_and_then}
+use Rattle.std.proofs.Common.{◌≡◌, ◌≢◌, ℕ, suc, ◌<◌, ◌≤◌, List, [], ◌∷◌, length, drop, get_or, refl, sym, ap, subst, ◌∙◌, inl, inr, arith, Option, Some, None, ◌⊎◌, IfSome, unwrap_or, option_map, option_and_then}
 use Rattle.std.proofs.lemmas.List.{get_or-drop, length-drop}
 use Rattle.graph_run.proofs.Common.{Reference, Function, object_at, HoldsImage, HoldsKind, image_held, ImageObject, ImageValue, In, In-at, Kind, kind_in, NamedObject, Node, object_kind, ObjectValue, operand_held, option_or, resolved_operand, run_of_graph, second_kind, Verified, with_written, description_of, parameters, DistributionObject, ExtremesObject}
 use Rattle.vx_base.specs.declared.kind.Kind.TheVariants as kind
 use Rattle.vx_base.specs.Description.{sample_count}
-use Rattle.pixel_pool.specs.Block.{BlockValue, IsAllOrNone}
+use Rattle.pixel_pool.specs.Block.{IsAllOrNone}
 use Rattle.graph_steps.specs.declared.tally.Tally.{Tally}
 use Rattle.graph_steps.specs.Tallies.{tally_at, tally_of}
 use Rattle.graph_steps.specs.Planes.{PlaneValue, no_plane, plane}
 use Rattle.graph_run.specs.declared.schedule.Schedule.{Schedule}
 use Rattle.graph_run.specs.Bind.{AreFor, HoldImages, bare_images, plane_objects, without_samples}
 use Rattle.graph_run.specs.Bound.{AreTalliesFor, IsLent, IsTallyFor, KeepTallies, KeepsTally, LendTables}
-use Rattle.graph_run.specs.Program.{client_cells, node_table, planes_of, radius_of, table_by, tables_of, tallies_of, tally_by}
-use Rattle.graph_run.specs.Results.{Leaves, last_objects, tally_cells, tally_objects}
-use Rattle.graph_run.specs.Schedule.{ArePlanes, CanRunBy}
-use Rattle.graph_run.specs.Tasks.{graph_tasks}
+use Rattle.graph_run.specs.Program.{node_table, table_by, tables_of, tallies_of, tally_by}
+use Rattle.graph_run.specs.Results.{last_objects, tally_cells, tally_objects}
+use Rattle.graph_run.specs.Schedule.{CanRunBy}
+use Rattle.graph_run.specs.Tasks.{client_cells}
 use Rattle.graph_run.proofs.BindLemmas.{bare_written, out_and_back, planes_written}
 use Rattle.graph_run.proofs.OutputLemmas.{length-histogram}
 use Rattle.graph_run.proofs.OperandLaws.{no_delay_written}
@@ -26,9 +26,10 @@ use Rattle.graph_run.proofs.ProgramPlanes.{map_alike}
 use Rattle.graph_run.proofs.ReadyLemmas.{second_operand}
 use Rattle.graph_run.proofs.RunLemmas.{second_no_delay, with_written-append}
 use Rattle.graph_run.proofs.SolutionLaws.{unshown}
-use Rattle.graph_run.proofs.SolutionStepsImages.{client_image, client_plane, one_kind, table_stays, tally_kept}
+use Rattle.graph_run.proofs.SolutionStepsImages.{client_image, one_kind, table_stays, tally_kept}
 use Rattle.graph_run.proofs.SolutionStepsEnds.{is_node_of, last_kinds}
-use Rattle.graph_run.proofs.SolutionStepsObjects.{IsTallied, returns, show_all, tally_facts, theirs_count, theirs_index, theirs_keep}
+use Rattle.graph_run.proofs.PlaneSteps.{plane_at, slots}
+use Rattle.graph_run.proofs.SolutionStepsObjects.{IsTallied, Leaves, returns, tally_facts, theirs_at}
 use Rattle.graph_run.proofs.SolutionStepsReturns.{counted_kind, image_back, last_known, last_none, last_some}
 use Rattle.graph_run.proofs.VerifiedLemmas.{pairs_of}
 
@@ -169,14 +170,9 @@ tallies_each l cells tallies enough each = grind arith
 
 -- ---- moving back
 
-module _ {objects : List NamedObject} {v : Verified} {s : Schedule} (g : CanRunBy objects v s)
-    {blocks : List BlockValue} {planes : List PlaneValue} (t : ArePlanes objects v s blocks planes) {after : List PlaneValue} {counted : List Tally}
-    (leaves : Leaves (tables_of objects v.steps) (graph_tasks v.steps v.virtual_outputs g.slots (radius_of objects s.high)) (planes_of objects v.steps v.virtual_outputs t.virtuals) (tallies_of objects v.steps) after counted) where
-  abbrev first_client : ℕ
-  first_client = length v.virtual_outputs
-
+module _ {objects : List NamedObject} {v : Verified} {s : Schedule} (g : CanRunBy objects v s) {after : List PlaneValue} {counted : List Tally} (leaves : Leaves g after counted) where
   abbrev back : List PlaneValue
-  back = drop first_client after
+  back = drop (slots g) after
 
   abbrev clients : List Reference
   clients = theirs g
@@ -188,8 +184,7 @@ module _ {objects : List NamedObject} {v : Verified} {s : Schedule} (g : CanRunB
   came = with_written out (plane_objects clients back)
 
   enough_back : length clients ≤ length back
-  enough_back =
-      omega (arith, length-drop first_client after, theirs_count g t leaves, leaves.planes_count, (show_all g t leaves).count)
+  enough_back = omega (arith, length-drop (slots g) after, leaves.planes_count)
 
   planes_for : AreFor objects clients back
   planes_for = for_each objects clients back enough_back each
@@ -198,17 +193,12 @@ module _ {objects : List NamedObject} {v : Verified} {s : Schedule} (g : CanRunB
           → ((get_or back k no_plane).desc ≡ description_of (image_held objects (get_or clients k d))) × ((get_or back k no_plane).format ≡ (get_or back k no_plane).desc.format)
           × IsAllOrNone (sample_count (get_or back k no_plane).desc) (length (get_or back k no_plane).samples)
       each k d below =
-          let at : ℕ = first_client + k in
           let c : Reference = get_or clients k d in
-          let there : get_or back k no_plane ≡ plane after at = get_or-drop first_client after k no_plane in
-          let index = theirs_index g t leaves k d below in
-          let keeps = theirs_keep g t leaves k below in (
-            ap (λ (q : PlaneValue). q.desc) there
-                ∙ leaves.descs at
-                ∙ ap (λ (m : ℕ). (plane (planes_of objects v.steps v.virtual_outputs t.virtuals) m).desc) (sym index)
-                ∙ ap (λ (q : PlaneValue). q.desc) (client_plane g t c (In-at clients k d below)),
-            subst (λ (q : PlaneValue). q.format ≡ q.desc.format) (sym there) (leaves.whole at keeps).format,
-            subst (λ (q : PlaneValue). IsAllOrNone (sample_count q.desc) (length q.samples)) (sym there) (inr (leaves.whole at keeps).size),
+          let there : get_or back k no_plane ≡ plane after (plane_at g c) = get_or-drop (slots g) after k no_plane ∙ ap (plane after) (sym (theirs_at g leaves k d below)) in
+          let p = leaves.planes c (In-at clients k d below) in (
+            ap (λ (q : PlaneValue). q.desc) there ∙ p.1,
+            subst (λ (q : PlaneValue). q.format ≡ q.desc.format) (sym there) p.0.format,
+            subst (λ (q : PlaneValue). IsAllOrNone (sample_count q.desc) (length q.samples)) (sym there) (inr p.0.size),
           )
 
   -- the images come back to cells that hold images of theirs
@@ -222,7 +212,7 @@ module _ {objects : List NamedObject} {v : Verified} {s : Schedule} (g : CanRunB
   came_is = out_and_back objects clients back (pairs_of objects g.names) (hold g) planes_for
 
   -- the tallies are of objects that are still there
-  tally_held : (k : ℕ) → (below : k < length (tally_cells v.steps)) → (r : IsTallied g t leaves k) → object_at came r.cell ≡ Some r.old
+  tally_held : (k : ℕ) → (below : k < length (tally_cells v.steps)) → (r : IsTallied g leaves k) → object_at came r.cell ≡ Some r.old
   tally_held k below r =
       ap (λ (l : List NamedObject). object_at l r.cell) came_is
       ∙ same_elsewhere objects (plane_objects clients back) (planes_written objects clients back (hold g) planes_for) r.cell
@@ -239,7 +229,7 @@ module _ {objects : List NamedObject} {v : Verified} {s : Schedule} (g : CanRunB
   pub back_tallies : AreTalliesFor came (tally_cells v.steps) counted
   back_tallies =
       tallies_each came (tally_cells v.steps) counted (omega (arith, leaves.tallies_count, tally_count objects v.steps)) (λ k d below.
-      (let r = tally_facts g t leaves k below in
+      (let r = tally_facts g leaves k below in
       subst (λ (c : Reference). IsTallyFor came c (tally_at counted k)) (sym (r.at d))
       (tally_for came r.cell r.old (image_held (last_objects objects g.nodes) r.node.in1) (tally_at (tallies_of objects v.steps) k) (tally_at counted k) (tally_held k below r)
       (subst (λ (x : Kind). (x ≡ kind.Distribution) ⊎ (x ≡ kind.Extremes)) (sym r.kind_is) (counted_kind r.node.function r.other)) r.own r.tallied)))
@@ -249,4 +239,4 @@ module _ {objects : List NamedObject} {v : Verified} {s : Schedule} (g : CanRunB
   value =
       ap (λ (l : List NamedObject). with_written l (tally_objects (tally_cells v.steps) counted)) came_is
       ∙ sym (with_written-append objects (plane_objects clients back) (tally_objects (tally_cells v.steps) counted))
-      ∙ returns g t leaves
+      ∙ returns g leaves

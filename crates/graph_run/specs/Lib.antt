@@ -14,4 +14,3 @@ pub mod Program
 pub mod Blocks
 pub mod Bound
 pub mod Schedule
-pub mod OutputPlanes

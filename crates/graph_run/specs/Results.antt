@@ -1,23 +1,16 @@
 -- The results of a run over planes, as objects of the table.
-use Rattle.std.specs.Prelude.{ℕ, ◌≡◌, nat_lt, if◌then◌else◌, List, [], ◌∷◌, length, map, slice_index_or, unwrap_or, Option}
+use Rattle.std.specs.Prelude.{List, [], ◌∷◌, length, map, unwrap_or}
 use Rattle.std.specs.List.{flat_map}
 use Rattle.vx_base.specs.declared.kind.Kind.{Kind}
 use Rattle.vx_base.specs.declared.kind.Kind.TheVariants as kind
 use Rattle.vx_base.specs.declared.node.Node.{Node}
-use Rattle.vx_base.specs.Reference.{Reference, reference_to}
+use Rattle.vx_base.specs.Reference.{Reference}
 use Rattle.vx_base.specs.Function.{parameters}
-use Rattle.vx_base.specs.Image.{ImageValue}
 use Rattle.vx_base.specs.Object.{ObjectValue, DistributionObject, ExtremesObject}
 use Rattle.object_table.specs.NamedObject.{NamedObject}
-use Rattle.object_table.specs.Table.{image_held}
 use Rattle.graph_verify.specs.PartialDescriptions.{resolved_operand}
-use Rattle.graph_steps.specs.declared.step.Reduction.{Reduction}
-use Rattle.graph_steps.specs.declared.step.Task.{Task}
 use Rattle.graph_steps.specs.declared.tally.Tally.{Tally}
 use Rattle.graph_steps.specs.declared.tally.Tally.TheVariants as tally
-use Rattle.graph_steps.specs.Planes.{PlaneValue, plane, block_image, block_images, IsWhole}
-use Rattle.graph_steps.specs.Program.{KeepsBlock, Reduces, SolvesSteps}
-use Rattle.graph_steps.specs.Tallies.{IsNew, tally_at, tally_of}
 use Rattle.graph_run.specs.Graph.{named_at_start, rounds_of_nodes}
 use Rattle.graph_run.specs.Operands.{operand_held}
 
@@ -31,11 +24,6 @@ first_objects objects nodes = map (named_at_start (resolved_operand (operand_hel
 -- samples
 abbrev pub last_objects : List NamedObject → List Node → List NamedObject
 last_objects objects nodes = rounds_of_nodes nodes (length nodes) (first_objects objects nodes)
-
--- the images that these references name, at the references' indices; the images of `others` at all
--- later indices
-abbrev pub images_in : List NamedObject → List Reference → (ℕ → ImageValue) → ℕ → ImageValue
-images_in objects cells others k = if nat_lt k (length cells) then image_held objects (slice_index_or cells k (reference_to 0)) else others k
 
 -- ---- tallies
 
@@ -59,18 +47,3 @@ abbrev pub tally_objects : List Reference → List Tally → List (Reference × 
 tally_objects [] tallies = []
 tally_objects (c ∷ cells) [] = []
 tally_objects (c ∷ cells) (t ∷ tallies) = (c, tally_object t) ∷ tally_objects cells tallies
-
--- ---- runs
-
--- the results of a run of tasks, compared with any solution. Each plane that has one block of its
--- own throughout the run has the solution's image. If a reduction's tally was new, it becomes the
--- tally of the reduction's input image in the solution.
-pub record Leaves (tables : ℕ → Option ObjectValue) (tasks : List Task) (planes : List PlaneValue) (tallies : List Tally) (after : List PlaneValue) (counted : List Tally) : Type 0 where
-  pub images : (whole : ℕ → ImageValue) → SolvesSteps tables (length planes) tasks (block_images planes) whole
-      → (c : ℕ) → KeepsBlock (length planes) tasks c → block_image (plane after c) ≡ whole c
-  pub reductions : (whole : ℕ → ImageValue) → SolvesSteps tables (length planes) tasks (block_images planes) whole
-      → (r : Reduction) → Reduces r tasks → IsNew (tally_at tallies r.tally) → tally_at counted r.tally ≡ tally_of (whole r.input) (tally_at tallies r.tally)
-  pub whole : (c : ℕ) → KeepsBlock (length planes) tasks c → IsWhole (plane after c)
-  pub descs : (c : ℕ) → (plane after c).desc ≡ (plane planes c).desc
-  pub planes_count : length after ≡ length planes
-  pub tallies_count : length counted ≡ length tallies

@@ -17,6 +17,10 @@ slot_index p U32 k = p.slot_count U8 + p.slot_count S16 + k
 abbrev pub slot_index_of : PlanView → VirtualOutput → ℕ
 slot_index_of p o = slot_index p o.desc.format (unwrap_or (p.slot_of o.cell) 0)
 
+-- the number of slots of all formats
+abbrev pub slot_total : PlanView → ℕ
+slot_total p = p.slot_count U8 + p.slot_count S16 + p.slot_count U32
+
 -- for each of a plan's slots of this format: the format and the slot's size
 abbrev pub capacities_for : PlanView → Format → List (Format × ℕ)
 capacities_for p format = map (λ k. (format, p.slot_samples format k)) (range_with_len 0 (p.slot_count format))

@@ -35,7 +35,7 @@ pub fn take_out(table: &mut Table, cells: &[ObjRef], planes: &mut Vec<Plane>)
 }
 
 /// Moves the samples of an image from the table to a new plane.
-fn take_image(table: &mut Table, cell: ObjRef) -> Plane
+pub fn take_image(table: &mut Table, cell: ObjRef) -> Plane
     requires { HoldsImage table.old.objects cell }
     ensures plane { result ≡ image_plane (image_held table.old.objects cell) }
     ensures left { table.new ≡ with_objects table.old (with_object table.old.objects cell

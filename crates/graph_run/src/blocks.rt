@@ -1,54 +1,34 @@
 //! Pool blocks that the virtual images of a graph share, by the slots of the graph's plan.
 ghost use Rattle.std.specs.Prelude.{◌≡◌, ◌≤◌, ◌<◌, ◌+◌, ◌++◌, ◌^◌, [], length, map};
-ghost use Rattle.std.specs.Prelude.{IfOk, OnOk, OnErr, if◌then◌else◌, max, vec_capacity};
+ghost use Rattle.std.specs.Prelude.{IfOk, OnOk, OnErr, vec_capacity};
 ghost use Rattle.vx_base.specs.declared.format.Format.{Format as SampleFormat};
 ghost use Rattle.pixel_pool.specs.Pool.{KeepsLent, KeepsBlockCounts, blocks_of};
 ghost use Rattle.object_table.specs.Blocks.{LendsAtLeast, LendsMore, LendsLess};
 ghost use Rattle.buffer_plan.specs.Places.{plan_view};
-ghost use Rattle.buffer_plan.specs.Plan.{IsPlan};
 ghost use Rattle.graph_run.specs.Blocks.{band_plan, band_samples, blocks_of_format, block_size};
-ghost use Rattle.graph_run.specs.Blocks.{capacity_count, lent_size, samples_from};
+ghost use Rattle.graph_run.specs.Blocks.{capacity_count, lent_size, samples_for, task_samples};
 ghost use Rattle.graph_run.specs.Slots.{slot_index_of, planned_capacities, capacities_for};
-ghost use Rattle.graph_run.specs.Slots.{slot_index};
+ghost use Rattle.graph_run.specs.Slots.{slot_index, slot_total};
 
 use buffer_plan::Plan;
-use graph_verify::{Verified, VirtualOutput};
+use graph_steps::Task;
+use graph_verify::VirtualOutput;
 use pixel_pool::{Block, Pool};
 use std::alloc::{AllocError, Global};
 use vx_base::{Desc, Format};
 
-/// The data that determine the sizes of a plan's blocks.
-#[derive(Clone, Copy)]
-pub struct Demand<'a> {
-    /// The number of rows of a band.
-    pub size: u16,
-    /// The halo of each plane; the planes of the virtual images come first.
-    pub halos: &'a [u16],
-    pub images: &'a [VirtualOutput],
-    /// The slots of these images, as indices among the slots of all formats.
-    pub slots: &'a [usize],
-}
-
 // ---- slots
 
-/// Returns the slots of the virtual images that a graph writes, as indices among the slots of all
-/// formats.
-pub fn slots_of(alloc: Global, plan: &Plan, verified: &Verified) -> Result<Vec<usize>, AllocError>
-    requires { IsPlan verified.now.steps verified.now.virtual_outputs
-        (plan_view plan.now) }
-    ensures { IfOk result (λ slots. slots.items
-        ≡ map (slot_index_of (plan_view plan.now)) verified.now.virtual_outputs) }
+/// Returns the number of slots of all formats.
+pub fn slot_total(plan: &Plan) -> usize
+    requires { slot_total (plan_view plan.now) < 2 ^ 64 }
+    ensures { result ≡ slot_total (plan_view plan.now) }
 {
-    let images = verified.virtual_outputs();
-    let mut slots = Vec::with_capacity(alloc, images.len())?;
-    for at in 0..images.len() {
-        slots.push(slot_of(plan, &images[at]))?;
-    }
-    Ok(slots)
+    plan.slot_count(Format::U8) + plan.slot_count(Format::S16) + plan.slot_count(Format::U32)
 }
 
 /// Returns the slot of a virtual image, as an index among the slots of all formats.
-fn slot_of(plan: &Plan, image: &VirtualOutput) -> usize
+pub fn slot_of(plan: &Plan, image: &VirtualOutput) -> usize
     requires { slot_index_of (plan_view plan.now) image.now < 2 ^ 64 }
     ensures { result ≡ slot_index_of (plan_view plan.now) image.now }
 {
@@ -59,22 +39,20 @@ fn slot_of(plan: &Plan, image: &VirtualOutput) -> usize
 // ---- capacities
 
 /// Returns the format and the number of samples of each slot's block. The block is large enough for
-/// a band, with halo, of any image in the slot.
+/// a band, with halo, of any image that the tasks write to the slot.
 pub fn capacities_of(
     alloc: Global,
     plan: &Plan,
-    demand: &Demand<'_>,
+    size: u16,
+    tasks: &[Task],
 ) -> Result<Vec<(Format, usize)>, AllocError>
-    requires slots { length demand.now.slots.now ≡ length demand.now.images.now }
-    requires halos { length demand.now.images.now ≤ length demand.now.halos.now }
-    ensures { IfOk result (λ capacities. capacities.items ≡ planned_capacities (band_plan
-        demand.now.size demand.now.halos.now demand.now.images.now demand.now.slots.now
-        (plan_view plan.now))) }
+    ensures { IfOk result (λ capacities. capacities.items ≡ planned_capacities (band_plan size
+        tasks.now (plan_view plan.now))) }
 {
     let mut capacities = Vec::new(alloc);
-    add_capacities(&mut capacities, plan, demand, Format::U8)?;
-    add_capacities(&mut capacities, plan, demand, Format::S16)?;
-    add_capacities(&mut capacities, plan, demand, Format::U32)?;
+    add_capacities(&mut capacities, plan, size, tasks, Format::U8)?;
+    add_capacities(&mut capacities, plan, size, tasks, Format::S16)?;
+    add_capacities(&mut capacities, plan, size, tasks, Format::U32)?;
     Ok(capacities)
 }
 
@@ -84,49 +62,48 @@ pub fn capacities_of(
 fn add_capacities(
     capacities: &mut Vec<(Format, usize)>,
     plan: &Plan,
-    demand: &Demand<'_>,
+    size: u16,
+    tasks: &[Task],
     format: Format,
 ) -> Result<(), AllocError>
-    requires behind { length capacities.old.items ≡ slot_index (plan_view plan.now) format 0 }
-    requires slots { length demand.now.slots.now ≡ length demand.now.images.now }
-    requires halos { length demand.now.images.now ≤ length demand.now.halos.now }
+    requires { length capacities.old.items ≡ slot_index (plan_view plan.now) format 0 }
     ensures { OnOk result (capacities.new.items ≡ capacities.old.items ++ capacities_for (band_plan
-        demand.now.size demand.now.halos.now demand.now.images.now demand.now.slots.now
-        (plan_view plan.now)) format) }
+        size tasks.now (plan_view plan.now)) format) }
 {
     let count = plan.slot_count(format);
     capacities.reserve(count)?;
     for _k in 0..count {
-        let samples = samples_for(demand, capacities.len());
+        let samples = samples_for(tasks, size, capacities.len());
         capacities.push_reserved((format, samples));
     }
     Ok(())
 }
 
-/// Returns the number of samples that a slot needs: the most that any of its images needs.
-fn samples_for(demand: &Demand<'_>, wanted: usize) -> usize
-    requires slots { length demand.now.slots.now ≡ length demand.now.images.now }
-    requires halos { length demand.now.images.now ≤ length demand.now.halos.now }
-    ensures { result ≡ samples_from demand.now.size demand.now.halos.now 0 demand.now.images.now
-        demand.now.slots.now wanted }
+/// Returns the number of samples that a slot needs: the most that any task needs.
+fn samples_for(tasks: &[Task], size: u16, slot: usize) -> usize
+    ensures { result ≡ samples_for size slot tasks.now }
 {
     let mut most = 0;
-    for k in 0..demand.images.len() {
-        let (image, slot, halo) = (demand.images[k], demand.slots[k], demand.halos[k]);
-        most = most_of(
-            most,
-            slot == wanted,
-            band_samples(demand.size, halo, image.desc),
-        );
+    let mut rest = tasks;
+    while let Some((task, later)) = rest.split_first() {
+        most = most.max(task_samples(task, size, slot));
+        rest = later;
     }
     most
 }
 
-/// Returns the greater of `most` and `samples` if `counts` is true, and `most` if not.
-fn most_of(most: usize, counts: bool, samples: usize) -> usize
-    ensures { result ≡ (if counts then max most samples else most) }
+/// Returns the number of samples that a task needs in a slot: those of a band, with halo, of the
+/// virtual image that it writes to the slot.
+fn task_samples(task: &Task, size: u16, slot: usize) -> usize
+    ensures { result ≡ task_samples size slot task.now }
 {
-    if counts { most.max(samples) } else { most }
+    match task {
+        Task::Write(step) => match step.describes {
+            Some(desc) if step.output == slot => band_samples(size, step.halo, desc),
+            _ => 0,
+        },
+        Task::Reduce(_) => 0,
+    }
 }
 
 /// Returns the number of samples in a band of `size` rows of an image, with `halo` rows above and

@@ -1,7 +1,6 @@
 //! Runs nodes and graphs on a table of objects. OpenVX 1.3, "Graphs".
 //!
-//! - `lend_outputs` moves the output images of a single node to planes. `run_lent` then runs the
-//!   node and moves the images back. `return_outputs` moves them back without a run.
+//! - `run_once` runs a single node.
 //! - `verify_in` verifies a graph.
 //! - `run` runs a verified graph.
 //! - `schedule_of` makes the schedule of a verified graph. `run_scheduled` runs the graph by its
@@ -12,16 +11,15 @@
 //!
 //! - `operand`: objects as operands
 //! - `once`: runs a single node
-//! - `output_planes`: planes for the output images of a single node
 //! - `verify`: the verdict on a graph, and an order in which its nodes can run
 //! - `runs`: runs a graph
-//! - `schedule`: the planes, slots, tasks, halos and bands of a run
+//! - `schedule`: the planes, slots, tasks and bands of a run
 //! - `workspace`: lists of planes, blocks and tallies, for any number of runs
-//! - `cells`: references to the planes' images, and the index of each reference
+//! - `cells`: references to a graph's images, and the index of each reference
 //! - `task_list`: the tasks of a graph
-//! - `sizes`: the halos of the planes, and the number of rows of a band
+//! - `sizes`: the halos of the steps, and the number of rows of a band
 //! - `blocks`: pool blocks that virtual images share
-//! - `virtual_planes`: planes of virtual images, over these blocks
+//! - `slot_planes`: planes of the slots, over these blocks
 //! - `bind`: moves the client's images to planes and back
 //! - `tables`: the lookup tables, thresholds and matrices that nodes read
 //! - `tallies`: histograms and extremes
@@ -36,20 +34,18 @@ pub mod examples;
 pub mod laws;
 mod once;
 mod operand;
-mod output_planes;
 mod runs;
 mod schedule;
 mod sizes;
+mod slot_planes;
 mod tables;
 mod tallies;
 mod task_list;
 mod verify;
-mod virtual_planes;
 mod workspace;
 
-pub use once::run_lent;
+pub use once::run_once;
 pub use operand::{operand_in, operand_of};
-pub use output_planes::{OutputPlanes, lend_outputs, return_outputs};
 pub use runs::{run, run_scheduled};
 pub use schedule::{Schedule, schedule_of};
 pub use verify::verify_in;

@@ -12,73 +12,55 @@ ghost use Rattle.object_table.specs.Context.{with_objects};
 ghost use Rattle.object_table.specs.NamedObject.{object_at, with_written};
 ghost use Rattle.object_table.specs.Table.{cell_object};
 ghost use Rattle.graph_run.specs.Lasting.{Lasts};
-ghost use Rattle.graph_run.specs.OutputPlanes.{AreInPlanes, HasPlaneFor, HavePlanes, IsInPlane};
-ghost use Rattle.graph_run.specs.OutputPlanes.{IsInPlaneIf, with_plane, with_planes};
 ghost use Rattle.graph_run.specs.Steps.{HasInputs, RunsTo, with_output_object};
 ghost use Rattle.graph_run.specs.Turns.{CanRunNow};
 
-use crate::bind::put_image;
-use crate::output_planes::OutputPlanes;
+use crate::bind::{put_image, take_image};
 use crate::tables::table_of;
 use crate::tallies::{set_tally, tally_for};
-use graph_steps::{Kernel, Plane, Step};
+use graph_steps::{Kernel, Step};
 use image_core::{Band, SecondInput};
 use object_table::Table;
 use vx_base::{Kind, Node, ObjRef, Output};
 
-/// Runs a node on the objects that it names, and moves its output images from planes back to the
-/// table. The node's verdict must be `None`. Allocates nothing.
-#[tactic(auto, using(crate::proofs::OnceLemmas::lent_planes))]
-pub fn run_lent(table: &mut Table, node: &Node, planes: OutputPlanes)
-    requires taken { AreInPlanes table.old.objects node.now planes }
-    requires planes { HavePlanes node.now planes }
-    requires objects { All (λ o. IsObject o.object)
-        (with_planes table.old.objects node.now planes) }
+/// Runs a node on the objects that it names. The node's verdict must be `None`. Allocates nothing.
+#[tactic(auto, using(crate::proofs::OnceLemmas::both_outputs))]
+pub fn run_once(table: &mut Table, node: &Node)
+    requires objects { All (λ o. IsObject o.object) table.old.objects }
     requires names { IsStrictlyIncreasing (map (λ o. o.name) table.old.objects) }
-    requires runs { CanRunNow (with_planes table.old.objects node.now planes) node.now }
-    ensures value { let before = with_planes table.old.objects node.now planes in
-        table.new ≡ with_objects table.old (with_written before
-        (written_by node.now (object_at before))) }
-    ensures lasts { Lasts (with_planes table.old.objects node.now planes) table.new.objects }
+    requires runs { CanRunNow table.old.objects node.now }
+    ensures value { table.new ≡ with_objects table.old (with_written table.old.objects
+        (written_by node.now (object_at table.old.objects))) }
+    ensures lasts { Lasts table.old.objects table.new.objects }
 {
-    run_to(table, node, Output::First, node.out1, planes.first);
-    run_to(table, node, Output::Second, node.out2, planes.second);
+    run_to(table, node, Output::First, node.out1);
+    run_to(table, node, Output::Second, node.out2);
 }
 
-/// Writes one of a node's outputs, if the output is given. If the output is an image, its samples
-/// must be in `plane`.
-fn run_to(
-    table: &mut Table,
-    node: &Node,
-    which: Output,
-    output: Option<ObjRef>,
-    plane: Option<Plane>,
-)
-    requires taken { IsInPlaneIf table.old.objects output plane }
-    requires plane { HasPlaneFor (parameters node.now.function).output output plane }
-    requires runs { IfSome output (RunsTo (with_plane table.old.objects output plane) node.now) }
-    ensures { table.new ≡ with_objects table.old (with_output_object
-        (with_plane table.old.objects output plane) node.now which output) }
+/// Writes one of a node's outputs, if the output is given.
+fn run_to(table: &mut Table, node: &Node, which: Output, output: Option<ObjRef>)
+    requires { IfSome output (RunsTo table.old.objects node.now) }
+    ensures { table.new ≡ with_objects table.old
+        (with_output_object table.old.objects node.now which output) }
 {
-    match (output, plane) {
-        (Some(output), Some(plane)) => write_to(table, node, which, output, plane),
-        (Some(output), None) => {
-            reduce_to(table, node, node.function.parameters().output, output);
+    if let Some(output) = output {
+        match node.function.parameters().output {
+            Kind::Image => write_to(table, node, which, output),
+            wanted => reduce_to(table, node, wanted, output),
         }
-        (None, _) => {}
     }
 }
 
-/// Writes an output image, whose samples are in a plane, and moves the samples to the table. The
-/// node's inputs must be in the table.
-#[tactic(auto, using(crate::proofs::OnceLemmas::lent_output))]
-fn write_to(table: &mut Table, node: &Node, which: Output, output: ObjRef, mut plane: Plane)
-    requires taken { IsInPlane table.old.objects output plane }
-    requires runs { RunsTo (with_plane table.old.objects (Some output) (Some plane)) node.now
-        output }
-    ensures { table.new ≡ with_objects table.old (with_output_object
-        (with_plane table.old.objects (Some output) (Some plane)) node.now which (Some output)) }
+/// Writes an output image. Meanwhile the image's samples are in a plane, and the node's inputs stay
+/// in the table.
+#[tactic(auto, using(crate::proofs::OnceLemmas::image_output))]
+fn write_to(table: &mut Table, node: &Node, which: Output, output: ObjRef)
+    requires runs { RunsTo table.old.objects node.now output }
+    requires kind { (parameters node.now.function).output ≡ kind.Image }
+    ensures { table.new ≡ with_objects table.old
+        (with_output_object table.old.objects node.now which (Some output)) }
 {
+    let mut plane = take_image(table, output);
     let step = Step::of_lent(*node, which);
     let first = table.image(node.in1).image();
     let second = second_of(table, node);

@@ -1,8 +1,8 @@
 //! Runs a verified graph over planes. The samples of the client's images move from the table of
 //! objects to planes, and the graph's tasks run. Then the samples move back, and the tallies are
 //! written to objects of the table.
-ghost use Rattle.std.specs.Prelude.{◌≡◌, ◌≤◌, ◌<◌, ◌+◌, ℕ, [], List, drop, length, map};
-ghost use Rattle.std.specs.Prelude.{vec_capacity, All, None, OnErr, OnOk, Some};
+ghost use Rattle.std.specs.Prelude.{◌≡◌, ◌≤◌, ◌+◌, [], List, length, map};
+ghost use Rattle.std.specs.Prelude.{vec_capacity, All, OnErr, OnOk};
 ghost use Rattle.std.specs.List.Sorted.{IsStrictlyIncreasing};
 ghost use Rattle.vx_base.specs.declared.format.Format.{Format as SampleFormat};
 ghost use Rattle.vx_base.specs.declared.node.Node.{Node as NodeFields};
@@ -20,30 +20,28 @@ ghost use Rattle.object_table.specs.Context.{with_objects};
 ghost use Rattle.object_table.specs.NamedObject.{with_written};
 ghost use Rattle.graph_steps.specs.Program.{IsProgram};
 ghost use Rattle.graph_steps.specs.Runs.{CanReduceBand};
-ghost use Rattle.graph_steps.specs.Steps.{capacities, capacity};
-ghost use Rattle.graph_run.specs.Bind.{AreAllApart, AreFor, HoldImages, plane_objects};
-ghost use Rattle.graph_run.specs.Blocks.{block_size, block_capacity, capacity_count, lent_size};
+ghost use Rattle.graph_steps.specs.Planes.{block_images};
+ghost use Rattle.graph_run.specs.Blocks.{block_size, capacity_count, lent_size};
 ghost use Rattle.graph_run.specs.Bound.{LendTables};
 ghost use Rattle.graph_run.specs.Program.{tables_of, tallies_of};
 ghost use Rattle.graph_run.specs.Results.{tally_objects};
 ghost use Rattle.graph_run.specs.Schedule.{ArePlanes, CanReturn, CanRunBy, IsSchedule};
 ghost use Rattle.graph_run.specs.Schedule.{bare_objects, schedule_objects};
-ghost use Rattle.graph_run.specs.Tasks.{last_in};
 
 use crate::bind::{put_back, take_out};
 use crate::blocks::{give_back, take_blocks};
 use crate::schedule::{Schedule, clients_of, schedule_of};
+use crate::slot_planes::{add_slots, return_blocks};
 use crate::tables::NodeTables;
 use crate::tallies::{begin_tallies, set_tallies};
-use crate::virtual_planes::{add_virtual, return_blocks};
 use crate::workspace::Workspace;
 use buffer_plan::Plan;
 use graph_steps::{Plane, Tally};
-use graph_verify::{Verified, VirtualOutput};
+use graph_verify::Verified;
 use object_table::Table;
 use pixel_pool::{Block, Pool};
 use std::alloc::{AllocError, Global};
-use vx_base::{Node, ObjRef};
+use vx_base::Node;
 
 /// Runs a verified graph on the objects that its nodes name. OpenVX 1.3, "Graphs", vxProcessGraph.
 ///
@@ -125,10 +123,10 @@ pub fn run_scheduled(
     let (planes, blocks) = (&mut lists.planes, &mut lists.blocks);
     begin_tallies(&mut lists.tallies, table, verified.steps())?;
     planes.clear();
-    planes.reserve(schedule.cells.len())?;
+    planes.reserve(schedule.capacities.len() + schedule.cells.len())?;
     take_blocks(blocks, pool, &schedule.capacities)?;
     let slots = blocks.as_mut_slice();
-    fill_planes(alloc, verified, schedule, table, slots, planes);
+    fill_planes(verified, schedule, table, slots, planes);
     let planes = planes.as_mut_slice();
     let tallies = lists.tallies.as_mut_slice();
     let tables = NodeTables {
@@ -138,7 +136,6 @@ pub fn run_scheduled(
     graph_steps::run(
         &tables,
         &schedule.tasks,
-        &schedule.halos,
         schedule.high,
         schedule.size,
         planes,
@@ -160,11 +157,10 @@ fn prove_descriptions(verified: &Verified)
     }
 }
 
-/// Fills the list of planes, which must be empty: first the planes of virtual images, which get the
+/// Fills the list of planes, which must be empty: first the planes of the slots, which get the
 /// slots' blocks, then the planes of the client's images. The samples of the client's images are
 /// taken from the table. The tasks can then run.
 fn fill_planes(
-    alloc: Global,
     verified: &Verified,
     schedule: &Schedule,
     table: &mut Table,
@@ -174,28 +170,27 @@ fn fill_planes(
     requires runs { CanRunBy table.old.objects verified.now schedule.now }
     requires sizes { map block_size blocks.old ≡ schedule.now.capacities.items }
     requires none { planes.old.items ≡ [] }
-    requires room { length schedule.now.cells.items ≤ vec_capacity planes.old }
+    requires room { length blocks.old + length schedule.now.cells.items ≤ vec_capacity planes.old }
     ensures planes { ArePlanes table.old.objects verified.now schedule.now blocks.old
         planes.new.items }
     ensures lent { LendTables table.new.objects verified.now.steps }
     ensures program { IsProgram (tables_of table.new.objects verified.now.steps)
-        schedule.now.high schedule.now.size schedule.now.halos.items
-        schedule.now.tasks.items planes.new.items }
-    ensures reduces { CanReduceBand 0 schedule.now.tasks.items planes.new.items
+        schedule.now.high schedule.now.size (length blocks.old) schedule.now.tasks.items
+        planes.new.items }
+    ensures reduces { CanReduceBand (tables_of table.new.objects verified.now.steps) 0
+        schedule.now.tasks.items (block_images planes.new.items)
         (tallies_of table.old.objects verified.now.steps) }
     ensures lent_sizes { map lent_size blocks.new ≡ map lent_size blocks.old }
-    ensures unused { (s : ℕ) → last_in s schedule.now.slots.items ≡ None →
-        block_capacity blocks.new s ≡ block_capacity blocks.old s }
     ensures left { table.new ≡ with_objects table.old
         (bare_objects table.old.objects verified.now schedule.now) }
 {
-    let images = verified.virtual_outputs();
-    add_virtual(alloc, images, &schedule.slots, blocks, planes);
-    take_out(table, clients_of(&schedule.cells, images.len()), planes);
+    add_slots(blocks, planes);
+    let clients = clients_of(&schedule.cells, verified.virtual_outputs().len());
+    take_out(table, clients, planes);
 }
 
-/// Moves the blocks of the virtual images back to their slots. Moves the samples of the client's
-/// images back to the table, and writes the tallies to objects of the table.
+/// Moves the blocks of the slots back. Moves the samples of the client's images back to the table,
+/// and writes the tallies to objects of the table.
 fn empty_planes(
     verified: &Verified,
     schedule: &Schedule,
@@ -208,35 +203,12 @@ fn empty_planes(
         tallies.now }
     ensures value { table.new ≡ with_objects table.old (with_written
         (with_written table.old.objects
-        (schedule_objects verified.now schedule.now planes.old))
+        (schedule_objects verified.now schedule.now (length blocks.old) planes.old))
         (tally_objects schedule.now.tally_cells.items tallies.now)) }
-    ensures back { (s k : ℕ) → last_in s schedule.now.slots.items ≡ Some k →
-        block_capacity blocks.new s ≡ capacity (capacities planes.old) k }
-    ensures unused { (s : ℕ) → last_in s schedule.now.slots.items ≡ None →
-        block_capacity blocks.new s ≡ block_capacity blocks.old s }
     ensures lent_sizes { map lent_size blocks.new ≡ map lent_size blocks.old }
 {
-    return_blocks(&schedule.slots, blocks, planes);
-    put_behind(
-        table,
-        verified.virtual_outputs().len(),
-        &schedule.cells,
-        planes,
-    );
+    return_blocks(blocks, planes);
+    let clients = clients_of(&schedule.cells, verified.virtual_outputs().len());
+    put_back(table, clients, &mut planes[blocks.len()..]);
     set_tallies(table, &schedule.tally_cells, tallies);
-}
-
-/// Moves the client's images back to the table. Their planes come after the planes of the virtual
-/// images.
-fn put_behind(table: &mut Table, virtuals: usize, cells: &[ObjRef], planes: &mut [Plane])
-    requires cells { virtuals ≤ length cells.now }
-    requires planes { virtuals ≤ length planes.old }
-    requires images { HoldImages table.old.objects (drop virtuals cells.now) }
-    requires apart { AreAllApart (drop virtuals cells.now) }
-    requires back { AreFor table.old.objects (drop virtuals cells.now)
-        (drop virtuals planes.old) }
-    ensures { table.new ≡ with_objects table.old (with_written table.old.objects
-        (plane_objects (drop virtuals cells.now) (drop virtuals planes.old))) }
-{
-    put_back(table, clients_of(cells, virtuals), &mut planes[virtuals..]);
 }

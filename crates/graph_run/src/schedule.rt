@@ -4,13 +4,11 @@ ghost use Rattle.vx_base.specs.declared.node.Node.{Node as NodeFields};
 ghost use Rattle.buffer_plan.specs.Places.{plan_view};
 ghost use Rattle.buffer_plan.specs.Plan.{IsPlan};
 ghost use Rattle.graph_run.specs.Operands.{IsReady};
-ghost use Rattle.graph_run.specs.Program.{radius_of};
 ghost use Rattle.graph_run.specs.Schedule.{IsSchedule};
-ghost use Rattle.graph_run.specs.Tasks.{tasks_of};
 
-use crate::blocks::{Demand, capacities_of, slots_of};
+use crate::blocks::{capacities_of, slot_total};
 use crate::cells::cells_of;
-use crate::sizes::{band_size, halos_of, high_of};
+use crate::sizes::{band_size, find_all_halos, high_of};
 use crate::tallies::tally_cells;
 use crate::task_list::{Binding, tasks_of};
 use buffer_plan::Plan;
@@ -24,13 +22,10 @@ use vx_base::{Format, ObjRef};
 /// until the graph's nodes change, because images and matrices keep their sizes.
 #[derive(Drop)]
 pub struct Schedule {
-    /// References to the images of the planes: first the virtual images, then the client's images.
+    /// References to the graph's images: first the virtual images, then the client's images. The
+    /// client's images have planes of their own, after the planes of the slots.
     pub(crate) cells: Vec<ObjRef>,
-    /// The slots of the virtual images, as indices among the slots of all formats.
-    pub(crate) slots: Vec<usize>,
     pub(crate) tasks: Vec<Task>,
-    /// The halo of each plane.
-    pub(crate) halos: Vec<u16>,
     /// The height of the tallest image.
     pub(crate) high: u16,
     /// The number of rows of a band.
@@ -43,7 +38,6 @@ pub struct Schedule {
 
 /// Returns the schedule of a verified graph, with the slots of a plan. An error means that there is
 /// no memory for the schedule.
-#[tactic(auto, using(crate::proofs::WithinLemmas::virtuals_below))]
 pub fn schedule_of(
     alloc: Global,
     table: &Table,
@@ -57,24 +51,25 @@ pub fn schedule_of(
 {
     let images = verified.virtual_outputs();
     let cells = cells_of(alloc, verified)?;
-    let slots = slots_of(alloc, plan, verified)?;
-    let high = high_of(table, images, clients_of(&cells, images.len()));
-    let tasks = tasks_for(alloc, table, verified, high, &cells, &slots)?;
-    let halos = halos_of(alloc, high, &tasks, cells.len())?;
-    let size = band_size(high, table, verified, &tasks, &halos);
-    let demand = Demand {
-        size,
-        halos: &halos,
+    let clients = clients_of(&cells, images.len());
+    let high = high_of(table, images, clients);
+    let binding = Binding {
+        table,
+        high,
         images,
-        slots: &slots,
+        plan,
+        slots: slot_total(plan),
+        clients,
     };
-    let capacities = capacities_of(alloc, plan, &demand)?;
+    let mut tasks = tasks_of(alloc, &binding, verified.steps())?;
+    let count = binding.slots + clients.len();
+    let needs = find_all_halos(alloc, high, tasks.as_mut_slice(), count)?;
+    let size = band_size(high, table, verified, &tasks, &needs);
+    let capacities = capacities_of(alloc, plan, size, &tasks)?;
     let tally_cells = tally_cells(alloc, verified.steps())?;
     Ok(Schedule {
         cells,
-        slots,
         tasks,
-        halos,
         high,
         size,
         capacities,
@@ -89,25 +84,4 @@ pub fn clients_of(cells: &[ObjRef], virtuals: usize) -> &[ObjRef]
     ensures { result.now ≡ drop virtuals cells.now }
 {
     &cells[virtuals..]
-}
-
-/// Returns the tasks of a verified graph, over the planes of the images that `cells` refers to.
-fn tasks_for(
-    alloc: Global,
-    table: &Table,
-    verified: &Verified,
-    high: u16,
-    cells: &[ObjRef],
-    slots: &[usize],
-) -> Result<Vec<Task>, AllocError>
-    ensures { IfOk result (λ tasks. tasks.items ≡ tasks_of cells.now slots.now
-        (radius_of table.now.objects high) verified.now.steps) }
-{
-    let binding = Binding {
-        table,
-        high,
-        cells,
-        slots,
-    };
-    tasks_of(alloc, &binding, verified.steps())
 }

@@ -1,11 +1,11 @@
-//! The height of a graph's tallest image, the halos of its planes, and the number of rows of a
-//! band.
-ghost use Rattle.std.specs.Prelude.{◌≡◌, ◌≤◌, ◌<◌, ℕ, All, true, length, None, IfOk, IfSome};
+//! The height of a graph's tallest image, the halos of its steps, and the number of rows of a band.
+ghost use Rattle.std.specs.Prelude.{◌≡◌, ◌≤◌, ◌<◌, All, true, map, None, OnOk, IfSome};
 ghost use Rattle.object_table.specs.Table.{image_held};
 ghost use Rattle.graph_steps.specs.declared.step.Step.{Step as StepValue};
 ghost use Rattle.graph_steps.specs.declared.step.Task.TheVariants.{Write};
-ghost use Rattle.graph_steps.specs.Program.{AreInOrder, IsStepOf, Suffice, halo};
-ghost use Rattle.graph_steps.specs.Steps.{ReadsPlane, reads_output};
+ghost use Rattle.graph_steps.specs.Halos.{NamesBelow, without_halo};
+ghost use Rattle.graph_steps.specs.Program.{AreEnough, IsStepOf};
+ghost use Rattle.graph_steps.specs.Steps.{reads_output};
 ghost use Rattle.graph_run.specs.Bind.{HoldImages};
 ghost use Rattle.graph_run.specs.Program.{AddOnce};
 
@@ -82,46 +82,45 @@ fn highest_virtual(images: &[VirtualOutput]) -> u16
 
 // ---- halos
 
-/// Returns the halo of each of the `count` planes, for images of at most `high` rows.
-pub fn halos_of(
+/// Finds the halo of each task, over `count` planes with images of at most `high` rows. Returns the
+/// number of rows that the tasks need of each client's image above a band; they need as many below.
+pub fn find_all_halos(
     alloc: Global,
     high: u16,
-    tasks: &[Task],
+    tasks: &mut [Task],
     count: usize,
 ) -> Result<Vec<u16>, AllocError>
-    requires order { AreInOrder tasks.now }
-    requires reads { (s : StepValue) → IsStepOf s tasks.now → (c : ℕ) → ReadsPlane s c →
-        c < count }
-    requires output { (s : StepValue) → IsStepOf s tasks.now → s.output < count }
-    ensures enough { IfOk result (λ halos. Suffice high halos.items tasks.now) }
-    ensures count { IfOk result (λ halos. length halos.items ≡ count) }
+    requires { All (NamesBelow count) tasks.old }
+    ensures enough { OnOk result (AreEnough high tasks.new) }
+    ensures same { OnOk result (map without_halo tasks.new ≡ map without_halo tasks.old) }
 {
-    let mut halos = vec![in alloc; 0; count]?;
-    find_halos(high, tasks, halos.as_mut_slice());
-    Ok(halos)
+    let mut needs = vec![in alloc; 0; count]?;
+    find_halos(high, tasks, needs.as_mut_slice());
+    Ok(needs)
 }
 
 // ---- bands
 
 /// Returns the number of rows of a band. The number is `high` if bands gain nothing, or if
-/// `add_once` returns false. There is then one band, with all rows.
+/// `add_once` returns false. There is then one band, with all rows. `needs` has the rows that are
+/// needed of each client's image above and below a band.
 pub fn band_size(
     high: u16,
     table: &Table,
     verified: &Verified,
     tasks: &[Task],
-    halos: &[u16],
+    needs: &[u16],
 ) -> u16
     requires { 0 < high }
     ensures forward { 0 < result }
-    ensures once { AddOnce high result halos.now tasks.now }
+    ensures once { AddOnce high result tasks.now }
 {
     let rows = match first_desc(table, verified) {
-        Some(desc) => rows_of(desc, greatest_halo(halos)),
+        Some(desc) => rows_of(desc, greatest_of(needs)),
         None => None,
     };
     match rows {
-        Some(rows) if add_once(tasks, halos) => rows,
+        Some(rows) if add_once(tasks) => rows,
         _ => high,
     }
 }
@@ -138,11 +137,11 @@ fn first_desc(table: &Table, verified: &Verified) -> Option<Desc> {
     }
 }
 
-/// Returns the greatest halo, or 0 if there are none.
-fn greatest_halo(halos: &[u16]) -> u16 {
+/// Returns the greatest of these numbers, or 0 if there are none.
+fn greatest_of(numbers: &[u16]) -> u16 {
     let mut most = 0;
-    for halo in halos {
-        most = most.max(*halo);
+    for number in numbers {
+        most = most.max(*number);
     }
     most
 }
@@ -175,15 +174,14 @@ fn wanted_rows(desc: Desc, halo: u16) -> u16
 }
 
 /// Returns whether the steps that read their own output (accumulations and integral images) write
-/// each row once, to a block of all rows.
-fn add_once(tasks: &[Task], halos: &[u16]) -> bool
+/// each row once, to a client's image.
+fn add_once(tasks: &[Task]) -> bool
     ensures { result ≡ true → (s : StepValue) → IsStepOf s tasks.now →
-        reads_output s.node.function ≡ true →
-        (halo halos.now s.output ≡ 0) × (s.takes ≡ None) }
+        reads_output s.node.function ≡ true → (s.halo ≡ 0) × (s.describes ≡ None) }
 {
     let mut rest = tasks;
     while let Some((task, later)) = rest.split_first() {
-        if !adds_once(task, halos) {
+        if !adds_once(task) {
             return false;
         }
         rest = later;
@@ -191,27 +189,13 @@ fn add_once(tasks: &[Task], halos: &[u16]) -> bool
     true
 }
 
-/// Returns whether a task, if it reads its own output, writes each row once, to a block of all
-/// rows.
-fn adds_once(task: &Task, halos: &[u16]) -> bool
+/// Returns whether a task, if it reads its own output, writes each row once, to a client's image.
+fn adds_once(task: &Task) -> bool
     ensures { result ≡ true → (s : StepValue) → task.now ≡ Write s →
-        reads_output s.node.function ≡ true →
-        (halo halos.now s.output ≡ 0) × (s.takes ≡ None) }
+        reads_output s.node.function ≡ true → (s.halo ≡ 0) × (s.describes ≡ None) }
 {
     match task {
-        Task::Write(step) if step.reads_output() => {
-            step.takes.is_none() && is_without_halo(step.output, halos)
-        }
+        Task::Write(step) if step.reads_output() => step.describes.is_none() && step.halo == 0,
         _ => true,
-    }
-}
-
-/// Returns whether a plane has no halo.
-fn is_without_halo(plane: usize, halos: &[u16]) -> bool
-    ensures { result ≡ true → halo halos.now plane ≡ 0 }
-{
-    match halos.get(plane) {
-        Some(halo) => *halo == 0,
-        None => true,
     }
 }

@@ -1,22 +1,24 @@
 //! The tasks of a graph. The operands of a task are indices of planes.
-ghost use Rattle.std.specs.Prelude.{◌≡◌, ◌+◌, ◌++◌, ◌≤◌, ◌<◌, ◌^◌, length, IfOk, OnOk};
+ghost use Rattle.std.specs.Prelude.{◌≡◌, ◌+◌, ◌++◌, ◌∷◌, [], ◌<◌, ◌^◌, IfOk};
 ghost use Rattle.std.specs.Option.{option_and_then, option_copied};
 ghost use Rattle.vx_base.specs.Function.{parameters};
 ghost use Rattle.vx_base.specs.Node.{second_kind};
 ghost use Rattle.object_table.specs.NamedObject.{object_at};
 ghost use Rattle.node_rows.specs.Radius.{matrix_in};
-ghost use Rattle.graph_run.specs.Cells.{index_of};
-ghost use Rattle.graph_run.specs.Blocks.{step_tasks};
+ghost use Rattle.buffer_plan.specs.Places.{plan_view};
 ghost use Rattle.graph_run.specs.Program.{radius_of};
-ghost use Rattle.graph_run.specs.Tasks.{holder, last_in, source, step_for, previous_holder};
-ghost use Rattle.graph_run.specs.Tasks.{tally_after};
+ghost use Rattle.graph_run.specs.Tasks.{HasIndices, virtual_description, plane_of, virtual_output};
+ghost use Rattle.graph_run.specs.Tasks.{source, step_for, tally_after};
 ghost use Rattle.graph_run.specs.Tasks.{tasks_by, tasks_of, write_given};
 
+use crate::blocks::slot_of;
 use crate::cells::index_of;
+use buffer_plan::Plan;
 use graph_steps::{Reduction, SecondSource, Step, Task, step_radius};
+use graph_verify::VirtualOutput;
 use object_table::{Content, Table};
 use std::alloc::{AllocError, Global};
-use vx_base::{Convolution, Kind, Node, ObjRef, Output};
+use vx_base::{Convolution, Desc, Kind, Node, ObjRef, Output};
 
 /// The data that determine the indices and radii in a graph's tasks.
 #[derive(Clone, Copy)]
@@ -25,10 +27,43 @@ pub struct Binding<'a> {
     pub table: &'a Table,
     /// The height of the tallest image.
     pub high: u16,
-    /// References to the planes' images.
-    pub cells: &'a [ObjRef],
-    /// The slots of the virtual images, whose planes come first.
-    pub slots: &'a [usize],
+    /// The virtual images that the nodes write.
+    pub images: &'a [VirtualOutput],
+    /// The plan of the slots of these images.
+    pub plan: &'a Plan,
+    /// The number of slots. Their planes come first.
+    pub slots: usize,
+    /// References to the client's images, whose planes follow.
+    pub clients: &'a [ObjRef],
+}
+
+/// Returns the index of the plane of an image: the plane of a virtual image's slot, or the plane of
+/// a client's image.
+fn plane_of(binding: &Binding<'_>, cell: ObjRef) -> usize
+    requires { HasIndices (plan_view binding.now.plan.now) binding.now.images.now
+        binding.now.slots binding.now.clients.now }
+    ensures { result ≡ plane_of (plan_view binding.now.plan.now) binding.now.images.now
+        binding.now.slots binding.now.clients.now cell }
+{
+    match virtual_output(binding.images, cell) {
+        Some(image) => slot_of(binding.plan, &image),
+        None => binding.slots + index_of(binding.clients, cell),
+    }
+}
+
+/// Returns the virtual image with this reference, or `None` if the nodes write no such image.
+fn virtual_output(images: &[VirtualOutput], cell: ObjRef) -> Option<VirtualOutput>
+    ensures { result ≡ virtual_output images.now cell }
+{
+    images.iter().copied().find(|image| image.cell == cell)
+}
+
+/// Returns the description of a virtual image that the nodes write, or `None` for any other object.
+fn virtual_description(images: &[VirtualOutput], cell: ObjRef) -> Option<Desc>
+    ensures { result ≡ virtual_description images.now cell }
+{
+    let image = virtual_output(images, cell)?;
+    Some(image.desc)
 }
 
 /// Returns the tasks of all nodes, in the order of the nodes.
@@ -37,43 +72,47 @@ pub fn tasks_of(
     binding: &Binding<'_>,
     steps: &[Node],
 ) -> Result<Vec<Task>, AllocError>
-    ensures { IfOk result (λ tasks. tasks.items ≡ tasks_of binding.now.cells.now
-        binding.now.slots.now (radius_of binding.now.table.now.objects binding.now.high)
-        steps.now) }
+    requires { HasIndices (plan_view binding.now.plan.now) binding.now.images.now
+        binding.now.slots binding.now.clients.now }
+    ensures { IfOk result (λ tasks. tasks.items
+        ≡ tasks_of (plane_of (plan_view binding.now.plan.now) binding.now.images.now
+        binding.now.slots binding.now.clients.now) (virtual_description binding.now.images.now)
+        (radius_of binding.now.table.now.objects binding.now.high) steps.now) }
 {
     let mut tasks = Vec::with_capacity(alloc, steps.len())?;
     let mut tally = 0;
     for at in 0..steps.len() {
-        add_tasks(&mut tasks, binding, at, tally, &steps[at])?;
+        tasks = with_tasks(tasks, binding, at, tally, &steps[at])?;
         tally = tally_after(tally, &steps[at]);
     }
     Ok(tasks)
 }
 
-/// Adds the tasks of a node, which has index `at` in the order of the nodes. `tally` is the index
-/// of the next tally.
-fn add_tasks(
-    tasks: &mut Vec<Task>,
+/// Returns the list with the tasks of a node added, which has index `at` in the order of the nodes.
+/// `tally` is the index of the next tally.
+fn with_tasks(
+    tasks: Vec<Task>,
     binding: &Binding<'_>,
     at: usize,
     tally: usize,
     node: &Node,
-) -> Result<(), AllocError>
-    ensures { OnOk result (tasks.new.items ≡ tasks.old.items ++ tasks_by binding.now.cells.now
-        binding.now.slots.now (radius_of binding.now.table.now.objects binding.now.high) at tally
-        node.now (parameters node.now.function).output) }
+) -> Result<Vec<Task>, AllocError>
+    requires { HasIndices (plan_view binding.now.plan.now) binding.now.images.now
+        binding.now.slots binding.now.clients.now }
+    ensures { IfOk result (λ added. added.items ≡ tasks.items
+        ++ tasks_by (plane_of (plan_view binding.now.plan.now) binding.now.images.now
+        binding.now.slots binding.now.clients.now) (virtual_description binding.now.images.now)
+        (radius_of binding.now.table.now.objects binding.now.high)
+        at tally node.now (parameters node.now.function).output) }
 {
     match node.function.parameters().output {
         Kind::Image => {
-            let first = step_given(binding, at, node, Output::First, node.out1);
-            let second = step_given(binding, at, node, Output::Second, node.out2);
-            add_step(tasks, first)?;
-            add_step(tasks, second)
+            let tasks = with_step(tasks, binding, at, node, Output::First, node.out1)?;
+            with_step(tasks, binding, at, node, Output::Second, node.out2)
         }
         _ => {
-            let input = index_of(binding.cells, node.in1);
-            tasks.push(Task::Reduce(Reduction { input, tally }))?;
-            Ok(())
+            let input = plane_of(binding, node.in1);
+            with_task(tasks, Task::Reduce(Reduction { input, tally }))
         }
     }
 }
@@ -90,59 +129,73 @@ fn tally_after(tally: usize, node: &Node) -> usize
     }
 }
 
-/// Adds a step, if there is one.
-fn add_step(tasks: &mut Vec<Task>, step: Option<Step>) -> Result<(), AllocError>
-    ensures { OnOk result (tasks.new.items ≡ tasks.old.items ++ step_tasks step) }
+/// Returns the list with a task added. The prover refuses a plain `push(task)`: it finds the types
+/// of a step's fields only where there is a step.
+fn with_task(mut tasks: Vec<Task>, task: Task) -> Result<Vec<Task>, AllocError>
+    ensures { IfOk result (λ added. added.items ≡ tasks.items ++ task ∷ []) }
 {
-    if let Some(step) = step {
-        tasks.push(Task::Write(step))?;
+    match task {
+        Task::Write(step) => tasks.push(Task::Write(step))?,
+        Task::Reduce(reduction) => tasks.push(Task::Reduce(reduction))?,
     }
-    Ok(())
+    Ok(tasks)
 }
 
-/// Returns the step that writes a node's output, or `None` if the output isn't given.
-fn step_given(
+/// Returns the list with the step added that writes a node's output, if the output is given.
+fn with_step(
+    tasks: Vec<Task>,
     binding: &Binding<'_>,
     at: usize,
     node: &Node,
     which: Output,
     output: Option<ObjRef>,
-) -> Option<Step>
-    ensures { step_tasks result ≡ write_given binding.now.cells.now
-        binding.now.slots.now (radius_of binding.now.table.now.objects binding.now.high) at
-        node.now which output }
+) -> Result<Vec<Task>, AllocError>
+    requires { HasIndices (plan_view binding.now.plan.now) binding.now.images.now
+        binding.now.slots binding.now.clients.now }
+    ensures { IfOk result (λ added. added.items ≡ tasks.items
+        ++ write_given (plane_of (plan_view binding.now.plan.now) binding.now.images.now
+        binding.now.slots binding.now.clients.now) (virtual_description binding.now.images.now)
+        (radius_of binding.now.table.now.objects binding.now.high)
+        at node.now which output) }
 {
     match output {
-        Some(cell) => Some(step_for(binding, at, node, which, cell)),
-        None => None,
+        Some(cell) => with_task(tasks, Task::Write(step_for(binding, at, node, which, cell))),
+        None => Ok(tasks),
     }
 }
 
 /// Returns the step that writes an output of a node.
 fn step_for(binding: &Binding<'_>, at: usize, node: &Node, which: Output, output: ObjRef) -> Step
-    ensures { result ≡ step_for binding.now.cells.now binding.now.slots.now
-        (radius_of binding.now.table.now.objects binding.now.high) at node.now which output }
+    requires { HasIndices (plan_view binding.now.plan.now) binding.now.images.now
+        binding.now.slots binding.now.clients.now }
+    ensures { result ≡ step_for (plane_of (plan_view binding.now.plan.now) binding.now.images.now
+        binding.now.slots binding.now.clients.now) (virtual_description binding.now.images.now)
+        (radius_of binding.now.table.now.objects binding.now.high)
+        at node.now which output }
 {
-    let index = index_of(binding.cells, output);
     Step {
         node: *node,
         which,
-        first: index_of(binding.cells, node.in1),
-        second: source(binding.cells, at, node),
-        output: index,
-        takes: taken(binding.slots, index),
+        first: plane_of(binding, node.in1),
+        second: source(binding, at, node),
+        output: plane_of(binding, output),
+        describes: virtual_description(binding.images, output),
         radius: radius_of(binding.table, binding.high, node),
+        halo: 0,
     }
 }
 
 /// Returns the source of a node's second input.
-fn source(cells: &[ObjRef], at: usize, node: &Node) -> SecondSource
-    ensures { result ≡ source cells.now at (second_kind node.now) node.now.in2 }
+fn source(binding: &Binding<'_>, at: usize, node: &Node) -> SecondSource
+    requires { HasIndices (plan_view binding.now.plan.now) binding.now.images.now
+        binding.now.slots binding.now.clients.now }
+    ensures { result ≡ source (plane_of (plan_view binding.now.plan.now) binding.now.images.now
+        binding.now.slots binding.now.clients.now) at (second_kind node.now) node.now.in2 }
 {
     let kind = node.function.parameters().second_input;
     match (node.in2, kind.unwrap_or(Kind::Image)) {
         (None, _) => SecondSource::Nothing,
-        (Some(cell), Kind::Image) => SecondSource::Plane(index_of(cells, cell)),
+        (Some(cell), Kind::Image) => SecondSource::Plane(plane_of(binding, cell)),
         (Some(_), _) => SecondSource::Table(at),
     }
 }
@@ -170,44 +223,4 @@ fn matrix_of<'a>(table: &'a Table, node: &Node) -> Option<&'a Convolution>
         Content::Convolution(matrix) => Some(matrix),
         _ => None,
     }
-}
-
-// ---- slots
-
-/// Returns the index of the image from which the image at index `at` takes its block. `None` for a
-/// client's image, which takes no block.
-fn taken(slots: &[usize], at: usize) -> Option<usize>
-    ensures { result ≡ previous_holder slots.now at }
-{
-    if at < slots.len() {
-        holder(slots, slots[at], at)
-    } else {
-        None
-    }
-}
-
-/// Returns the index of the virtual image that has a slot's block after the first `count` virtual
-/// images are written in a band. If none of these images is in the slot, the slot's last image has
-/// the block, from the previous band or from the start of the run.
-fn holder(slots: &[usize], slot: usize, count: usize) -> Option<usize>
-    requires { count ≤ length slots.now }
-    ensures { result ≡ holder slots.now slot count }
-{
-    match last_in(slot, &slots[..count]) {
-        Some(at) => Some(at),
-        None => last_in(slot, slots),
-    }
-}
-
-/// Returns the index of the last image in a slot.
-fn last_in(slot: usize, slots: &[usize]) -> Option<usize>
-    ensures { result ≡ last_in slot slots.now }
-{
-    let mut found = None;
-    for at in 0..slots.len() {
-        if slots[at] == slot {
-            found = Some(at);
-        }
-    }
-    found
 }

@@ -1,12 +1,12 @@
--- The rows that a band writes agree with whole images that solve the steps' equations.
-use Rattle.std.proofs.Common.{◌≡◌, ◌≢◌, ℕ, ℤ, ◌+◌, ◌-◌, ◌<◌, ◌≤◌, min, true, List, [], ◌∷◌, length, Option, Some, None, IfSome, refl, sym, ◌∙◌, pos, ◌*◌, ◌==◌, false, get_or, unsigned_abs, ap, subst, inl, inr, arith, cond}
-use Rattle.graph_steps.proofs.Common.{AgreeInRows, Band, CanRunBand, CanStep, Covers, Description, Format, HaveOneWriter, ImageObject, ImageValue, IsImage, IsInRows, IsLive, IsObject, IsStepOf, Node, Nothing, ObjectValue, Output, Plane, PlaneValue, ReadsPlane, Rectangle, Reduce, Reduction, SecondSource, SecondsAgree, Step, Suffice, Table, Task, Write, accumulates, after_step, after_tasks, at-made, at-made_outside, band_rows, blank_image, block_images, cases_Bool, description_of, formula_of_two, from_two, halo, has_pixel, has_row, image_from, is_integral, matrix_in, meet_of, nat_tests, node_image, pixel_at, plane, plane_image, read_images, rows_image, scan_image, second_in, second_plane, step_image, sum_on, sum_to, sums_above, sums_in, window_radius, with_halo, with_output_block, with_read_rows, zero_outside, ◌⊎◌}
+-- The rows that a band writes agree with the whole images.
+use Rattle.std.proofs.Common.{◌≡◌, ℕ, ℤ, ◌+◌, ◌-◌, ◌<◌, ◌≤◌, min, true, List, [], ◌∷◌, length, Option, Some, None, refl, sym, ◌∙◌, pos, ◌*◌, ◌==◌, false, get_or, unsigned_abs, ap, subst, inl, inr, arith, cond}
+use Rattle.graph_steps.proofs.Common.{AgreeInRows, AreAlike, AreEnough, Band, CanRunBand, CanStep, Covers, Description, Format, ImageObject, ImageValue, IsClients, IsImage, IsInRows, IsNeeded, IsStepOf, IsUnwritten, Node, Nothing, ObjectValue, Output, Plane, PlaneValue, ReadsPlane, Rectangle, Reduce, Reduction, SecondSource, SecondsAgree, Step, Table, Task, Write, accumulates, after_step, after_tasks, at-made, at-made_outside, band_rows, output_plane, block_images, cases_Bool, description_of, formula_of_two, from_two, has_pixel, has_row, image_from, images_after, images_at_end, is_integral, matrix_in, meet_of, nat_tests, node_image, output_desc, own_by, pixel_at, plane, plane_image, read_images, rows_image, scan_image, second_in, step_image, sum_on, sum_to, sums_above, sums_in, whole_image, window_radius, with_halo, with_read_rows, zero_outside, ◌⊎◌}
 use Rattle.stat_kernels.proofs.ScanLaws.{scan_agrees}
 use Rattle.node_rows.proofs.RowLaws.{agree_fewer, agree_in_all, node_rows}
 use Rattle.graph_steps.proofs.KernelLaws.{integral_is, integral_second, same_sides}
 use Rattle.graph_steps.proofs.PlaneLaws.{SameSides, sides_of, held_agrees, read_at}
-use Rattle.graph_steps.proofs.StepLaws.{same_or_other, IsReady, ready_is, object_told, kind_told, matrix_told, second_same, image_desc, after_desc, after_output, after_others, after_image, after_count}
-use Rattle.graph_steps.proofs.BandLaws.{skip_next, step_fits, step_next}
+use Rattle.graph_steps.proofs.StepLaws.{same_or_other, object_told, matrix_alike, made_is, second_same, image_desc, objects, out_desc, out_own, takes, after_desc, after_output, after_image, after_count}
+use Rattle.graph_steps.proofs.BandLaws.{image_there, image_elsewhere, client_output, other_output, output_is, skip_next, stays, step_fits, step_next}
 
 -- ---- images that agree
 
@@ -92,290 +92,325 @@ integral_image n which format a second own scans none =
 
 -- ---- rows of a band and its halo
 
-in_halo : (more height : ℕ) (band : Band) (y : ℕ) → 1 ≤ band.count → band.start - more ≤ y → y ≤ band.start + band.count - 1 + more → y < height → has_row (with_halo more height band) y ≡ true
-in_halo more height band y some from to low = grind (arith, nat_tests)
-
 pub halo_has : (more height : ℕ) (band : Band) (y : ℕ) → has_row (with_halo more height band) y ≡ true → (band.start - more ≤ y) × (y < height) × (y < band.start + band.count + more)
 halo_has more height band y there = (grind (arith, nat_tests), grind (arith, nat_tests), grind (arith, nat_tests))
 
+pub in_halo : (more height : ℕ) (band : Band) (y : ℕ) → band.start - more ≤ y → y < height → y < band.start + band.count + more → has_row (with_halo more height band) y ≡ true
+in_halo more height band y from low to = grind (arith, nat_tests)
+
+-- ---- images that no step writes
+
+pub unwritten_stays : (tables : ℕ → Option ObjectValue) (tasks : List Task) (images : ℕ → ImageValue) (c : ℕ) → IsUnwritten tasks c → images_at_end tables tasks images c ≡ images c
+unwritten_stays tables [] images c none = refl
+unwritten_stays tables (Write s ∷ later) images c none =
+    unwritten_stays tables later (images_after tables (Write s) images) c (λ t i. none t (inr i))
+    ∙ image_elsewhere s.output (whole_image tables s images) images c (λ e. none s (inl refl) (sym e))
+unwritten_stays tables (Reduce r ∷ later) images c none = unwritten_stays tables later images c none
+
+-- what is needed in the end alone needs no halo
+pub needed_by : (kept : ℕ → Type 0) (high : ℕ) (tasks : List Task) (c more : ℕ) → IsNeeded kept high tasks c more → IsNeeded (λ c. ⊥) high tasks c more ⊎ (more ≡ 0)
+needed_by kept high [] c more n = inr n.1
+needed_by kept high (Write s ∷ later) c more n = elim n [
+  | inl read ↦ inl (inl read)
+  | inr (other, rest) ↦ elim (needed_by kept high later c more rest) [ inl i ↦ inl (inr (other, i)) | inr none ↦ inr none ]
+]
+needed_by kept high (Reduce r ∷ later) c more n = elim n [
+  | inl read ↦ inl (inl read)
+  | inr rest ↦ elim (needed_by kept high later c more rest) [ inl i ↦ inl (inr i) | inr none ↦ inr none ]
+]
+
 -- ---- one step
 
--- the rows that a band needs of a plane are there
-pub record Knows (halos : List ℕ) (band : Band) (whole : ℕ → ImageValue) (planes : List PlaneValue) (c : ℕ) : Type 0 where
-  pub agrees : AgreeInRows (band.start - halo halos c) (band.start + band.count - 1 + halo halos c) (read_images planes c) (whole c)
-  pub covers : (y : ℕ) → has_row (band_rows planes halos band c) y ≡ true → has_row (plane planes c).rows y ≡ true
+-- the plane's readable rows are those of the image
+pub record Knows (image : ImageValue) (p : PlaneValue) : Type 0 where
+  pub alike : AreAlike (plane_image p) image
+  pub samples : (x y : ℕ) → x < p.desc.width → y < p.desc.height → has_row p.rows y ≡ true → pixel_at (plane_image p) x y ≡ pixel_at image x y
 
--- if the step accumulates, the rows to be written are as before the run; the valid rectangle is as before or already the solution's
-pub record IsOwn (halos : List ℕ) (band : Band) (origin whole : ℕ → ImageValue) (planes : List PlaneValue) (s : Step) : Type 0 where
-  pub row : (x y : ℕ) → x < (plane planes s.output).desc.width → has_row (band_rows planes halos band s.output) y ≡ true → pixel_at (block_images planes s.output) x y ≡ pixel_at (origin s.output) x y
-  pub valid : ((plane planes s.output).valid ≡ (origin s.output).valid) ⊎ ((plane planes s.output).valid ≡ (whole s.output).valid)
+-- the plane's readable rows are those of a band with its halo, at least
+abbrev pub Reaches : Band → ℕ → PlaneValue → Type 0
+Reaches band more p = (y : ℕ) → has_row (with_halo more p.desc.height band) y ≡ true → has_row p.rows y ≡ true
 
--- if the output continues from the row above, that row is the solution's, if there is one
-abbrev pub HasRowAbove : List ℕ → Band → (ℕ → ImageValue) → List PlaneValue → Step → Type 0
-HasRowAbove halos band whole planes s =
-    (band.start - halo halos s.output ≡ 0)
-    ⊎ ((s.takes ≡ None)
-    × ((x y : ℕ) → x < (plane planes s.output).desc.width → y < band.start - halo halos s.output → y < (plane planes s.output).desc.height → pixel_at (block_images planes s.output) x y ≡ pixel_at (whole s.output) x y))
+-- if the step accumulates, the rows to be written are those of the image before the run; the valid rectangle is as before or already as in the end
+pub record IsOwn (band : Band) (images end : ℕ → ImageValue) (planes : List PlaneValue) (s : Step) : Type 0 where
+  pub row : (x y : ℕ) → x < (plane planes s.output).desc.width → has_row (band_rows s band planes) y ≡ true → pixel_at (block_images planes s.output) x y ≡ pixel_at (images s.output) x y
+  pub valid : ((plane planes s.output).valid ≡ (images s.output).valid) ⊎ ((plane planes s.output).valid ≡ (end s.output).valid)
 
--- the planes when a band comes to a step
-pub record Meets (high : ℕ) (origin : ℕ → ImageValue) (count : ℕ) (planes : List PlaneValue) : Type 0 where
-  pub length_is : length planes ≡ count
-  pub desc : (c : ℕ) → description_of (origin c) ≡ (plane planes c).desc
-  pub tall : (c : ℕ) → (plane planes c).desc.height ≤ high
+-- if the output continues from the row above, that row is as in the end, if there is one
+abbrev pub HasRowAbove : Band → (ℕ → ImageValue) → List PlaneValue → Step → Type 0
+HasRowAbove band end planes s =
+    (band.start - s.halo ≡ 0)
+    ⊎ ((s.describes ≡ None)
+    × ((x y : ℕ) → x < (plane planes s.output).desc.width → y < band.start - s.halo → y < (plane planes s.output).desc.height → pixel_at (block_images planes s.output) x y ≡ pixel_at (end s.output) x y))
 
--- the planes when a band comes to these tasks
-pub record Known (tables : ℕ → Option ObjectValue) (high : ℕ) (halos : List ℕ) (band : Band) (kept : ℕ → Type 0) (origin whole : ℕ → ImageValue) (count : ℕ) (tasks : List Task) (planes : List PlaneValue) : Type 0 where
-  pub can : CanRunBand tables high halos band kept tasks planes
-  pub meets : Meets high origin count planes
-  pub enough : Suffice high halos tasks
-  pub one : HaveOneWriter tasks
-  pub solves : (s : Step) → IsStepOf s tasks → whole s.output ≡ step_image tables s whole (origin s.output)
-  pub was : (s : Step) → IsStepOf s tasks → accumulates s.node.function ≡ true → IsOwn halos band origin whole planes s
-  pub above : (s : Step) → IsStepOf s tasks → is_integral s.node.function ≡ true → HasRowAbove halos band whole planes s
-  pub known : (c : ℕ) → IsLive kept tasks c → Knows halos band whole planes c
+-- the planes when a band comes to these tasks. `end` has the whole images after the run.
+pub record Known (tables : ℕ → Option ObjectValue) (high slots : ℕ) (band : Band) (end : ℕ → ImageValue) (tasks : List Task) (images : ℕ → ImageValue) (planes : List PlaneValue) : Type 0 where
+  pub can : CanRunBand tables high slots band tasks images planes
+  pub enough : AreEnough high tasks
+  pub ends : (c : ℕ) → IsClients slots (length planes) c → images_at_end tables tasks images c ≡ end c
+  pub was : (s : Step) → IsStepOf s tasks → accumulates s.node.function ≡ true → IsOwn band images end planes s
+  pub above : (s : Step) → IsStepOf s tasks → is_integral s.node.function ≡ true → HasRowAbove band end planes s
+  pub known : (c more : ℕ) → IsNeeded (IsClients slots (length planes)) high tasks c more → IsImage (images c) × Knows (images c) (plane planes c) × Reaches band more (plane planes c)
 
-module _ {tables : ℕ → Option ObjectValue} {high : ℕ} {halos : List ℕ} {band : Band} (some : 1 ≤ band.count) (below : band.start < high) {kept : ℕ → Type 0} {origin whole : ℕ → ImageValue} {count : ℕ} (are : (c : ℕ) → c < count → IsImage (whole c)) where
-  module _ (s : Step) (later : List Task) (planes : List PlaneValue) (can : CanRunBand tables high halos band kept (Write s ∷ later) planes) (meets : Meets high origin count planes)
-      (enough : (c : ℕ) → ReadsPlane s c → min high (halo halos s.output + s.radius) ≤ halo halos c) (known : (c : ℕ) → ReadsPlane s c → Knows halos band whole planes c)
-      (solves : whole s.output ≡ step_image tables s whole (origin s.output)) (own_is : accumulates s.node.function ≡ true → IsOwn halos band origin whole planes s)
-      (above_is : is_integral s.node.function ≡ true → HasRowAbove halos band whole planes s) where
+module _ {tables : ℕ → Option ObjectValue} {high slots : ℕ} {band : Band} (some : 1 ≤ band.count) (below : band.start < high) {end : ℕ → ImageValue} where
+  module _ (s : Step) (later : List Task) (images : ℕ → ImageValue) (planes : List PlaneValue) (k : Known tables high slots band end (Write s ∷ later) images planes) where
     abbrev rows : Band
-    rows = band_rows planes halos band s.output
+    rows = band_rows s band planes
 
     abbrev first : ℕ
-    first = band.start - halo halos s.output
+    first = band.start - s.halo
 
     abbrev last : ℕ
-    last = band.start + band.count - 1 + halo halos s.output
+    last = band.start + band.count - 1 + s.halo
 
-    fits : CanStep tables high s rows planes
-    fits = step_fits s later planes can
+    fits : CanStep tables s rows planes
+    fits = step_fits s later images planes k.can
 
-    abbrev ready : List PlaneValue
-    ready = with_output_block s.takes s.output rows.start planes
+    abbrev after : List PlaneValue
+    after = after_step tables s rows planes
+
+    abbrev next : ℕ → ImageValue
+    next = images_after tables (Write s) images
 
     abbrev out : PlaneValue
-    out = plane ready s.output
+    out = output_plane s.describes rows.start (plane planes s.output)
 
     abbrev own : ImageValue
     own = plane_image (with_read_rows rows out)
 
-    is : IsReady s rows planes ready
-    is = ready_is fits
+    abbrev before : ImageValue
+    before = own_by s.describes (images s.output)
+
+    abbrev whole : ImageValue
+    whole = whole_image tables s images
+
+    input : (c : ℕ) → ReadsPlane s c → IsImage (images c) × Knows (images c) (plane planes c) × Reaches band (min high (s.halo + s.radius)) (plane planes c)
+    input c reads = k.known c (min high (s.halo + s.radius)) (inl (reads, refl))
 
     -- an input agrees in the rows within the radius
-    near : (c : ℕ) → ReadsPlane s c → AgreeInRows (first - s.radius) (last + s.radius) (read_images planes c) (whole c)
+    near : (c : ℕ) → ReadsPlane s c → AgreeInRows (first - s.radius) (last + s.radius) (read_images planes c) (images c)
     near c reads =
-        let k = (known c reads).agrees in
-        let e = enough c reads in
-        let h = meets.tall c in
+        let i = input c reads in
+        let h = k.can.runs.0.tall c reads in
+        let sides = sides_of i.1.alike.description in
         record {
-          alike = k.alike;
-          samples = λ x y across low from to. k.samples x y across low (omega arith) (omega arith);
+          alike = i.1.alike;
+          samples = λ x y across low from to.
+              i.1.samples x y across low (i.2 y (in_halo (min high (s.halo + s.radius)) (plane planes c).desc.height band y (omega arith) low (omega (arith, sides.tall))));
         }
 
-    input_image : (c : ℕ) → ReadsPlane s c → IsImage (read_images planes c)
-    input_image c reads = (fits.reads c reads).3.image
-
-    -- if a function reads all rows, its inputs are those of the solution
-    all_same : high ≤ s.radius → (c : ℕ) → ReadsPlane s c → read_images planes c ≡ whole c
+    -- if a function reads all rows, its inputs are the whole images
+    all_same : high ≤ s.radius → (c : ℕ) → ReadsPlane s c → read_images planes c ≡ images c
     all_same far c reads =
-        let h = meets.tall c in
-        agree_in_all (read_images planes c) (whole c) (input_image c reads) (are c (let n = meets.length_is in let b = (fits.reads c reads).0 in omega arith))
-        (agree_fewer (first - s.radius) 0 (read_images planes c).height (last + s.radius) (read_images planes c) (whole c) (omega arith) (omega arith) (near c reads))
+        let i = input c reads in
+        let h = k.can.runs.0.tall c reads in
+        let sides = sides_of i.1.alike.description in
+        agree_in_all (read_images planes c) (images c) (fits.reads c reads).2.image i.0
+        (agree_fewer (first - s.radius) 0 (read_images planes c).height (last + s.radius) (read_images planes c) (images c) (omega arith) (omega (arith, sides.tall)) (near c reads))
 
-    elsewhere : SecondsAgree first last (second_in tables (read_images planes) s.second) (second_in tables whole s.second)
+    elsewhere : SecondsAgree first last (second_in tables (read_images planes) s.second) (second_in tables images s.second)
     elsewhere = by_source s.second (λ c e. near c (inr e))
       where
-        by_source : (source : SecondSource) → ((c : ℕ) → source ≡ Plane c → AgreeInRows (first - s.radius) (last + s.radius) (read_images planes c) (whole c)) → SecondsAgree first last (second_in tables (read_images planes) source) (second_in tables whole source)
+        by_source : (source : SecondSource) → ((c : ℕ) → source ≡ Plane c → AgreeInRows (first - s.radius) (last + s.radius) (read_images planes c) (images c)) → SecondsAgree first last (second_in tables (read_images planes) source) (second_in tables images source)
         by_source Nothing image = refl
-        by_source (Plane c) image = agree_fewer (first - s.radius) first last (last + s.radius) (read_images planes c) (whole c) (omega arith) (omega arith) (image c refl)
-        by_source (Table k) image = elsewhere_itself first last (second_in tables whole (Table k))
+        by_source (Plane c) image = agree_fewer (first - s.radius) first last (last + s.radius) (read_images planes c) (images c) (omega arith) (omega arith) (image c refl)
+        by_source (Table k) image = elsewhere_itself first last (second_in tables images (Table k))
 
-    objects : IfSome (second_in tables (read_images planes) s.second) IsObject
-    objects = object_told tables (plane planes (second_plane s.second)).desc (read_images planes) s high (plane planes s.first).desc (plane planes s.output).desc fits.suits (λ c e. input_image c (inr e))
+    own_format : own.format ≡ before.format
+    own_format = ap (λ (d : Description). d.format) (out_desc fits ∙ output_is s later images planes k.can)
 
-    same_format : own.format ≡ (origin s.output).format
-    same_format = ap (λ (d : Description). d.format) (is.desc s.output ∙ sym (meets.desc s.output))
+    first_near : AgreeInRows first last (read_images planes s.first) (images s.first)
+    first_near = agree_fewer (first - s.radius) first last (last + s.radius) (read_images planes s.first) (images s.first) (omega arith) (omega arith) (near s.first (inl refl))
 
     -- a node that doesn't accumulate
     plain_agrees : is_integral s.node.function ≡ false → AgreeInRows first last (node_image s.node s.which own.format (read_images planes s.first) (second_in tables (read_images planes) s.second))
-        (node_image s.node s.which own.format (whole s.first) (second_in tables whole s.second))
+        (node_image s.node s.which own.format (images s.first) (second_in tables images s.second))
     plain_agrees other = by_reach (window_radius s.node.function (matrix_in (second_in tables (read_images planes) s.second))) refl
-        (subst (λ m. Covers (window_radius s.node.function m) s.radius high) (matrix_told tables (plane planes (second_plane s.second)).desc (read_images planes) s.second)
-        (subst (λ b. Covers (cond b (Some 0) (window_radius s.node.function (matrix_in (second_in tables (λ _. blank_image (plane planes (second_plane s.second)).desc) s.second)))) s.radius high) other fits.suits.near))
+        (subst (λ m. Covers (window_radius s.node.function m) s.radius high) (matrix_alike tables images (read_images planes) s.second)
+        (subst (λ b. Covers (cond b (Some 0) (window_radius s.node.function (matrix_in (second_in tables images s.second)))) s.radius high) other k.can.runs.0.near))
       where
         by_reach : (o : Option ℕ) → window_radius s.node.function (matrix_in (second_in tables (read_images planes) s.second)) ≡ o → Covers o s.radius high
             → AgreeInRows first last (node_image s.node s.which own.format (read_images planes s.first) (second_in tables (read_images planes) s.second))
-            (node_image s.node s.which own.format (whole s.first) (second_in tables whole s.second))
+            (node_image s.node s.which own.format (images s.first) (second_in tables images s.second))
         by_reach (Some far) e covers =
-            node_rows s.node s.which own.format (read_images planes s.first) (whole s.first) (second_in tables (read_images planes) s.second) (second_in tables whole s.second) far first last
-            (input_image s.first (inl refl)) objects e
-            (agree_fewer (first - s.radius) (first - far) (last + far) (last + s.radius) (read_images planes s.first) (whole s.first) (omega arith) (omega arith) (near s.first (inl refl)))
+            node_rows s.node s.which own.format (read_images planes s.first) (images s.first) (second_in tables (read_images planes) s.second) (second_in tables images s.second) far first last
+            (fits.reads s.first (inl refl)).2.image (objects fits) e
+            (agree_fewer (first - s.radius) (first - far) (last + far) (last + s.radius) (read_images planes s.first) (images s.first) (omega arith) (omega arith) (near s.first (inl refl)))
             elsewhere
         by_reach None e covers =
             agree_same first last _ _
             (ap (λ i. node_image s.node s.which own.format i (second_in tables (read_images planes) s.second)) (all_same covers s.first (inl refl))
-            ∙ ap (node_image s.node s.which own.format (whole s.first)) (second_same tables s.second (read_images planes) whole (λ c q. all_same covers c (inr q))))
+            ∙ ap (node_image s.node s.which own.format (images s.first)) (second_same tables s.second (read_images planes) images (λ c q. all_same covers c (inr q))))
+
+    -- the image of a client that the step writes
+    whole_end : s.describes ≡ None → end s.output ≡ whole
+    whole_end none =
+        sym (k.ends s.output (client_output s later images planes k.can none))
+        ∙ unwritten_stays tables later next s.output (k.can.one_writer.0 none)
+        ∙ image_there s.output whole images
+
+    before_is : s.describes ≡ None → before ≡ images s.output
+    before_is none = ap (λ o. own_by o (images s.output)) none
 
     -- a node that accumulates
-    sums_are : accumulates s.node.function ≡ true → AgreeInRows first last (from_two own.format (formula_of_two s.node.function own.format s.node.policy s.node.amount) (read_images planes s.first) own)
-        (from_two own.format (formula_of_two s.node.function own.format s.node.policy s.node.amount) (whole s.first) (origin s.output))
-    sums_are sums =
-        let o = own_is sums in
-        let none = (can.within s (inl refl)).own sums in
-        let same : out ≡ plane planes s.output = is.own none in
-        let a = near s.first (inl refl) in
-        let sides = same_sides (plane planes s.output).desc (plane planes s.first).desc fits.suits.makes.size in
-        sums_agree own.format (formula_of_two s.node.function own.format s.node.policy s.node.amount) (read_images planes s.first) (whole s.first) own (origin s.output) first last
-        (agree_fewer (first - s.radius) first last (last + s.radius) (read_images planes s.first) (whole s.first) (omega arith) (omega arith) a)
-        (ap (λ r. meet_of r own.valid) a.alike.valid ∙ ap (λ (p : PlaneValue). meet_of (whole s.first).valid p.valid) same ∙ met sums o.valid)
-        (λ x y across low from to.
-        let there = in_halo (halo halos s.output) (plane planes s.output).desc.height band y some from to (omega arith) in
-        ap (λ p. pixel_at (plane_image (with_read_rows rows p)) x y) same
-        ∙ read_at (plane planes s.output) (fits.whole none) rows fits.within x y (omega arith) there
-        ∙ o.row x y (omega arith) there)
-      where
-        met : accumulates s.node.function ≡ true → ((plane planes s.output).valid ≡ (origin s.output).valid) ⊎ ((plane planes s.output).valid ≡ (whole s.output).valid)
-            → meet_of (whole s.first).valid (plane planes s.output).valid ≡ meet_of (whole s.first).valid (origin s.output).valid
-        met sums (inl e) = ap (meet_of (whole s.first).valid) e
-        met sums (inr e) =
-            let f : (whole s.output).valid ≡ meet_of (whole s.first).valid (origin s.output).valid = rw (solves, sums) in
-            ap (meet_of (whole s.first).valid) (e ∙ f) ∙ meet_again (whole s.first).valid (origin s.output).valid
+    abbrev sum : ℤ → ℤ → ℤ
+    sum = formula_of_two s.node.function own.format s.node.policy s.node.amount
 
-    made_agrees : is_integral s.node.function ≡ false → AgreeInRows first last (step_image tables s (read_images planes) own) (step_image tables s whole (origin s.output))
+    sums_are : accumulates s.node.function ≡ true → AgreeInRows first last (from_two own.format sum (read_images planes s.first) own) (from_two own.format sum (images s.first) before)
+    sums_are sums =
+        let o = k.was s (inl refl) sums in
+        let none = (k.can.names s (inl refl)).own sums in
+        let same : out ≡ plane planes s.output = out_own fits none in
+        let height : output_desc s planes ≡ (plane planes s.output).desc = sym (out_desc fits) ∙ ap (λ (p : PlaneValue). p.desc) same in
+        let a = first_near in
+        let sides = same_sides (output_desc s planes) (plane planes s.first).desc fits.makes.size in
+        subst (λ i. AgreeInRows first last (from_two own.format sum (read_images planes s.first) own) (from_two own.format sum (images s.first) i)) (sym (before_is none))
+        (sums_agree own.format sum (read_images planes s.first) (images s.first) own (images s.output) first last a
+        (ap (λ r. meet_of r own.valid) a.alike.valid ∙ ap (λ (p : PlaneValue). meet_of (images s.first).valid p.valid) same ∙ met none o.valid)
+        (λ x y across low from to.
+        let there = in_halo s.halo (output_desc s planes).height band y from (omega (arith, sides.tall)) (omega arith) in
+        ap (λ p. pixel_at (plane_image (with_read_rows rows p)) x y) same
+        ∙ read_at (plane planes s.output) (fits.whole none) rows (subst (λ (d : Description). IsInRows d.height rows) height fits.within) x y (omega (arith, sides.wide, ap (λ (d : Description). d.width) height)) there
+        ∙ o.row x y (omega (arith, sides.wide, ap (λ (d : Description). d.width) height)) there))
+      where
+        met : s.describes ≡ None → ((plane planes s.output).valid ≡ (images s.output).valid) ⊎ ((plane planes s.output).valid ≡ (end s.output).valid)
+            → meet_of (images s.first).valid (plane planes s.output).valid ≡ meet_of (images s.first).valid (images s.output).valid
+        met none (inl e) = ap (meet_of (images s.first).valid) e
+        met none (inr e) =
+            let w : whole ≡ step_image tables s images (images s.output) = ap (λ o. step_image tables s images (own_by o (images s.output))) none in
+            let f : (step_image tables s images (images s.output)).valid ≡ meet_of (images s.first).valid (images s.output).valid = rw sums refl in
+            ap (meet_of (images s.first).valid) (e ∙ ap (λ (i : ImageValue). i.valid) (whole_end none ∙ w) ∙ f) ∙ meet_again (images s.first).valid (images s.output).valid
+
+    made_agrees : is_integral s.node.function ≡ false → AgreeInRows first last (step_image tables s (read_images planes) own) whole
     made_agrees other = elim (cases_Bool (accumulates s.node.function)) [
-      | inl sums ↦ rw (sums, ← same_format) (sums_are sums)
-      | inr plain ↦ rw (plain, ← same_format) (plain_agrees other)
+      | inl sums ↦ rw (sums, ← own_format) (sums_are sums)
+      | inr plain ↦ rw (plain, ← own_format) (plain_agrees other)
     ]
 
     -- an integral image
-    abbrev wide : ℕ
-    wide = (plane planes s.output).desc.width
+    is_sums : (scans : is_integral s.node.function ≡ true) → whole ≡ sums_in before.format (images s.first)
+    is_sums scans =
+        integral_image s.node s.which before.format (images s.first) (second_in tables images s.second) (Some (ImageObject before)) scans
+        (integral_second s.node.function (second_in tables images s.second) scans k.can.runs.0.makes.kind)
 
-    -- no second input
-    alone : is_integral s.node.function ≡ true → second_in tables whole s.second ≡ None
-    alone scans =
-        integral_second s.node.function (second_in tables whole s.second) scans
-        (kind_told tables (plane planes (second_plane s.second)).desc whole s.node s.second fits.suits.makes.kind)
-
-    is_sums : (scans : is_integral s.node.function ≡ true) → step_image tables s whole (origin s.output) ≡ sums_in (origin s.output).format (whole s.first)
-    is_sums scans = integral_image s.node s.which (origin s.output).format (whole s.first) (second_in tables whole s.second) (Some (ImageObject (origin s.output))) scans (alone scans)
-
-    scan_is_near : (scans : is_integral s.node.function ≡ true) → AgreeInRows first last (scan_image rows.start (read_images planes s.first) out) (sums_in out.desc.format (whole s.first))
+    scan_is_near : (scans : is_integral s.node.function ≡ true) → AgreeInRows first last (scan_image rows.start (read_images planes s.first) out) (sums_in out.desc.format (images s.first))
     scan_is_near scans =
-        scans_agree out.desc.format (read_images planes s.first) (whole s.first) rows.start (sums_above out.desc.width out.top rows.start out.samples) first last
-        (agree_fewer (first - s.radius) first last (last + s.radius) (read_images planes s.first) (whole s.first) (omega arith) (omega arith) (near s.first (inl refl)))
+        scans_agree out.desc.format (read_images planes s.first) (images s.first) rows.start (sums_above out.desc.width out.top rows.start out.samples) first last first_near
         (λ y from low. omega (arith, sides.tall))
-        (λ x across zero_start. at_top x (omega (arith, is.output.top)))
-        (λ x across some. elim (above_is scans) [
+        (λ x across zero_start. at_top x (omega (arith, (takes fits).top)))
+        (λ x across some. elim (k.above s (inl refl) scans) [
           | inl none ↦ absurd (omega arith)
           | inr (none, above) ↦ row_above x (omega (arith, sides.wide)) some none above
         ])
       where
-        sides : SameSides (plane planes s.output).desc (plane planes s.first).desc
-        sides = same_sides (plane planes s.output).desc (plane planes s.first).desc fits.suits.makes.size
+        sides : SameSides (output_desc s planes) (plane planes s.first).desc
+        sides = same_sides (output_desc s planes) (plane planes s.first).desc fits.makes.size
 
         at_top : (x : ℕ) → rows.start ≡ out.top → sums_above out.desc.width out.top rows.start out.samples x ≡ 0
         at_top x same = let e : (rows.start == out.top) ≡ true = grind (arith, nat_tests) in
             ap (λ b. cond b 0 (unsigned_abs (get_or out.samples ((rows.start - out.top - 1) * out.desc.width + x) (pos 0)))) e
 
-        row_above : (x : ℕ) → x < wide → 1 ≤ rows.start → s.takes ≡ None
-            → ((x y : ℕ) → x < wide → y < first → y < (plane planes s.output).desc.height → pixel_at (block_images planes s.output) x y ≡ pixel_at (whole s.output) x y)
-            → sums_above out.desc.width out.top rows.start out.samples x ≡ unsigned_abs (zero_outside (whole s.first).valid (sum_to (whole s.first)) x (rows.start - 1))
+        row_above : (x : ℕ) → x < (output_desc s planes).width → 1 ≤ rows.start → s.describes ≡ None
+            → ((x y : ℕ) → x < (plane planes s.output).desc.width → y < first → y < (plane planes s.output).desc.height → pixel_at (block_images planes s.output) x y ≡ pixel_at (end s.output) x y)
+            → sums_above out.desc.width out.top rows.start out.samples x ≡ unsigned_abs (zero_outside (images s.first).valid (sum_to (images s.first)) x (rows.start - 1))
         row_above x across some none above =
-            let same : out ≡ plane planes s.output = is.own none in
+            let same : out ≡ plane planes s.output = out_own fits none in
+            let own_sides = sides_of (sym (out_desc fits) ∙ ap (λ (p : PlaneValue). p.desc) same) in
             let top = (fits.whole none).top in
             let e : (rows.start == (plane planes s.output).top) ≡ false = grind (arith, nat_tests) in
             let in_rows = fits.within in
-            let a = near s.first (inl refl) in
-            let input = sides_of a.alike.description in
+            let input = sides_of first_near.alike.description in
+            let wide : ℕ = (plane planes s.output).desc.width in
             ap (λ (p : PlaneValue). sums_above p.desc.width p.top rows.start p.samples x) same
             ∙ ap (λ b. cond b 0 (unsigned_abs (get_or (plane planes s.output).samples ((rows.start - (plane planes s.output).top - 1) * wide + x) (pos 0)))) e
             ∙ ap (λ n. unsigned_abs (get_or (plane planes s.output).samples (n * wide + x) (pos 0))) (let up : rows.start - (plane planes s.output).top - 1 ≡ rows.start - 1 = omega arith in up)
             ∙ ap unsigned_abs
-            (above x (rows.start - 1) across (omega arith) (omega arith)
-            ∙ ap (λ i. pixel_at i x (rows.start - 1)) (solves ∙ is_sums scans)
-            ∙ made_at (whole s.first).width (whole s.first).height (origin s.output).format (whole s.first).valid (sum_to (whole s.first)) x (rows.start - 1) (omega (arith, sides.wide)) (omega (arith, sides.tall)))
+            (above x (rows.start - 1) (omega (arith, own_sides.wide)) (omega arith) (omega (arith, own_sides.tall))
+            ∙ ap (λ i. pixel_at i x (rows.start - 1)) (whole_end none ∙ is_sums scans)
+            ∙ made_at (images s.first).width (images s.first).height before.format (images s.first).valid (sum_to (images s.first)) x (rows.start - 1) (omega (arith, sides.wide)) (omega (arith, sides.tall)))
 
-    rows_agree : AgreeInRows first last (rows_image tables s rows (read_images planes) out) (step_image tables s whole (origin s.output))
+    rows_agree : AgreeInRows first last (rows_image tables s rows (read_images planes) out) whole
     rows_agree = elim (cases_Bool (is_integral s.node.function)) [
-      | inl scans ↦ rw (scans, is_sums scans, ← same_format) (scan_is_near scans)
+      | inl scans ↦ rw (scans, is_sums scans, ← own_format) (scan_is_near scans)
       | inr other ↦ rw other (made_agrees other)
     ]
 
-    pub step_agrees : AgreeInRows first last (read_images (after_step tables s rows planes) s.output) (whole s.output)
+    step_agrees : AgreeInRows first last (read_images after s.output) whole
     step_agrees =
         let image : ImageValue = rows_image tables s rows (read_images planes) out in
-        let d : description_of image ≡ (plane planes s.output).desc = image_desc fits ∙ is.desc s.output in
-        let h : image.height ≡ (plane planes s.output).desc.height = ap (λ (e : Description). e.height) d in
+        let d : description_of image ≡ output_desc s planes = image_desc fits ∙ out_desc fits in
+        let h : image.height ≡ (output_desc s planes).height = ap (λ (e : Description). e.height) d in
         agree_trans first last _ _ _
         (subst (λ i. AgreeInRows first last i image) (sym (after_image fits))
         (held_agrees image rows first last (subst (λ n. IsInRows n rows) (sym h) fits.within) (omega arith) (omega arith)))
-        (subst (AgreeInRows first last image) (sym solves) rows_agree)
+        rows_agree
+
+    -- after the step, its rows are those of the whole image
+    own_knows : (more : ℕ) → more ≤ s.halo → IsImage (next s.output) × Knows (next s.output) (plane after s.output) × Reaches band more (plane after s.output)
+    own_knows more few =
+        let there : (plane after s.output).rows ≡ rows = ap (λ (p : PlaneValue). p.rows) (after_output fits) in
+        let tall : (plane after s.output).desc.height ≡ (output_desc s planes).height = ap (λ (d : Description). d.height) (after_desc fits) in
+        let made = made_is s (images s.first) (second_in tables images s.second) (description_of before) before k.can.runs.0.makes refl (input s.first (inl refl)).0
+        (object_told tables s.second images k.can.runs.0.table (λ c e. (input c (inr e)).0)) in (
+          subst IsImage (sym (image_there s.output whole images)) made,
+          subst (λ i. Knows i (plane after s.output)) (sym (image_there s.output whole images)) (record {
+            alike = record { description = step_agrees.alike.description; valid = step_agrees.alike.valid };
+            samples = λ x y across low has.
+                let h = halo_has s.halo (output_desc s planes).height band y (ap (λ r. has_row r y) (sym there) ∙ has) in
+                step_agrees.samples x y across low h.0 (let to = h.2 in omega arith);
+          }),
+          (λ y has.
+              let h = halo_has more (plane after s.output).desc.height band y has in
+              ap (λ r. has_row r y) there ∙ in_halo s.halo (output_desc s planes).height band y (let from = h.0 in omega arith) (let low = h.1 in omega arith) (let to = h.2 in omega arith)),
+        )
 
     -- after the step, the rows that later steps need are there
-    pub step_knows : (c : ℕ) → (c ≢ s.output → s.takes ≢ Some c) → (c ≢ s.output → Knows halos band whole planes c) → Knows halos band whole (after_step tables s rows planes) c
-    step_knows c untaken others = elim (same_or_other c s.output) [
-      | inl e ↦
-          rw e (record {
-            agrees = step_agrees;
-            covers = λ y there.
-                let d = after_desc fits s.output in
-                let r = ap (λ (p : PlaneValue). p.rows) (after_output fits) in
-                subst (λ (b : Band). has_row b y ≡ true) (sym r) (subst (λ (d : Description). has_row (with_halo (halo halos s.output) d.height band) y ≡ true) d there);
-          })
-      | inr other ↦
-          let same = after_others fits c other (untaken other) in
-          let k = others other in
-          record { agrees = rw same k.agrees; covers = rw same k.covers }
-    ]
+    pub known_next : Known tables high slots band end later next after
+    known_next =
+        let count = after_count fits in
+        let unchanged : (t : Step) → IsStepOf t later → t.describes ≡ None → (plane after t.output ≡ plane planes t.output) × (next t.output ≡ images t.output) =
+        λ t i none. stays s later images planes k.can t.output (other_output s later images planes k.can t i none) in
+        record {
+          can = step_next s later images planes k.can;
+          enough = k.enough.1;
+          ends = λ c i. k.ends c (subst (λ n. IsClients slots n c) count i);
+          was = λ t i sums.
+              let none = (k.can.names t (inr i)).own sums in
+              let same = unchanged t i none in
+              let o = k.was t (inr i) sums in
+              record { row = rw (same.0, same.1) o.row; valid = rw (same.0, same.1) o.valid };
+          above = λ t i scans. elim (k.above t (inr i) scans) [
+            | inl none ↦ inl none
+            | inr (none, row) ↦ (let same = unchanged t i none in inr (none, rw same.0 row))
+          ];
+          known = λ c more needed. elim (same_or_other c s.output) [
+            | inl e ↦
+                subst (λ d. IsNeeded (IsClients slots (length after)) high later d more → IsImage (next d) × Knows (next d) (plane after d) × Reaches band more (plane after d)) (sym e)
+                (λ n. own_knows more (enough_rows more n)) needed
+            | inr other ↦
+                let same = stays s later images planes k.can c other in
+                rw (same.0, same.1) (k.known c more (inr (other, subst (λ n. IsNeeded (IsClients slots n) high later c more) count needed)))
+          ];
+        }
+      where
+        enough_rows : (more : ℕ) → IsNeeded (IsClients slots (length after)) high later s.output more → more ≤ s.halo
+        enough_rows more needed = elim (needed_by (IsClients slots (length after)) high later s.output more needed) [
+          | inl i ↦ k.enough.0 more i
+          | inr none ↦ omega arith
+        ]
 
   -- ---- all tasks of a band
 
-  pub known_next : (s : Step) (later : List Task) (planes : List PlaneValue) → Known tables high halos band kept origin whole count (Write s ∷ later) planes → Known tables high halos band kept origin whole count later (after_step tables s (band_rows planes halos band s.output) planes)
-  known_next s later planes k =
-      let can = k.can in
-      let rows : Band = band_rows planes halos band s.output in
-      let fits : CanStep tables high s rows planes = step_fits s later planes can in
-      let after : List PlaneValue = after_step tables s rows planes in
-      let desc = after_desc fits in
-      let stays : (t : Step) → IsStepOf t later → t.takes ≡ None → plane after t.output ≡ plane planes t.output =
-      λ t i none. after_others fits t.output (λ e. k.one.0 t i e) (λ e. (can.keeps t.output (can.written t (inr i) none) s (inl refl) t.output e).0 refl) in
-      record {
-        can = step_next s later planes can;
-        meets = record {
-          length_is = after_count fits ∙ k.meets.length_is;
-          desc = λ c. k.meets.desc c ∙ sym (desc c);
-          tall = λ c. rw (desc c) (k.meets.tall c);
-        };
-        enough = λ t i. k.enough t (inr i);
-        one = k.one.1;
-        solves = λ t i. k.solves t (inr i);
-        was = λ t i sums.
-            let same = stays t i ((can.within t (inr i)).own sums) in
-            let o = k.was t (inr i) sums in
-            record { row = rw same o.row; valid = rw same o.valid };
-        above = λ t i scans. elim (k.above t (inr i) scans) [
-          | inl none ↦ inl none
-          | inr (none, row) ↦ (let same = stays t i none in inr (none, rw same row))
-        ];
-        known = λ d live. step_knows s later planes can k.meets (k.enough s (inl refl)) (λ e r. k.known e (inl r)) (k.solves s (inl refl)) (k.was s (inl refl)) (k.above s (inl refl)) d (λ other e. can.free.0 d e other live) (λ other. k.known d (inr (other, live)));
-      }
-
-  pub known_skip : (r : Reduction) (later : List Task) (planes : List PlaneValue) → Known tables high halos band kept origin whole count (Reduce r ∷ later) planes → Known tables high halos band kept origin whole count later planes
-  known_skip r later planes k = record {
-    can = skip_next r later planes k.can;
-    meets = k.meets;
+  pub known_skip : (r : Reduction) (later : List Task) (images : ℕ → ImageValue) (planes : List PlaneValue) → Known tables high slots band end (Reduce r ∷ later) images planes → Known tables high slots band end later images planes
+  known_skip r later images planes k = record {
+    can = skip_next r later images planes k.can;
     enough = k.enough;
-    one = k.one;
-    solves = k.solves;
+    ends = k.ends;
     was = k.was;
     above = k.above;
-    known = λ c live. k.known c (inr live);
+    known = λ c more needed. k.known c more (inr needed);
   }
 
-  pub band_knows : (tasks : List Task) (planes : List PlaneValue) → Known tables high halos band kept origin whole count tasks planes → (c : ℕ) → kept c → Knows halos band whole (after_tasks tables halos band tasks planes) c
-  band_knows [] planes k c is_kept = k.known c is_kept
-  band_knows (Write s ∷ later) planes k c is_kept = band_knows later (after_step tables s (band_rows planes halos band s.output) planes) (known_next s later planes k) c is_kept
-  band_knows (Reduce r ∷ later) planes k c is_kept = band_knows later planes (known_skip r later planes k) c is_kept
+  pub band_knows : (tasks : List Task) (images : ℕ → ImageValue) (planes : List PlaneValue) → Known tables high slots band end tasks images planes → Known tables high slots band end [] (images_at_end tables tasks images) (after_tasks tables band tasks planes)
+  band_knows [] images planes k = k
+  band_knows (Write s ∷ later) images planes k = band_knows later (images_after tables (Write s) images) (after_step tables s (band_rows s band planes) planes) (known_next s later images planes k)
+  band_knows (Reduce r ∷ later) images planes k = band_knows later images planes (known_skip r later images planes k)

@@ -1,9 +1,9 @@
 -- The names that several proofs cite, passed on from one place. Declares nothing.
-pub use Rattle.graph_steps.specs.Planes.{IsReadable, IsWhole, PlaneValue, TakesRows, block_image, block_images, no_plane, plane, plane_image, read_images, rows_of_block, with_block, with_halo, with_read_rows, with_rows, without_block, written_among}
-pub use Rattle.graph_steps.specs.Program.{AreFilled, AreInOrder, HaveCapacity, HaveOneWriter, HoldsRows, IsClient, IsLive, IsProgram, IsStepOf, IsUnread, IsUnwritten, IsWritten, KeepsBlock, NamesPlanes, Reduces, SolvesSteps, Suffice, after_task, after_tasks, band_rows, blocks_after_tasks, halo, steps_in_turn, with_image}
+pub use Rattle.graph_steps.specs.Planes.{IsReadable, IsWhole, PlaneValue, TakesRows, block_image, block_images, with_description, no_plane, plane, plane_image, read_images, rows_of_block, with_halo, with_read_rows, with_rows, without_block, written_among}
+pub use Rattle.graph_steps.specs.Program.{AreEnough, HaveOneWriter, HaveRoom, HoldsRows, IsClient, IsClients, IsNeeded, IsProgram, IsStepOf, IsUnwritten, NamesPlanes, Reduces, RunsInTurn, after_task, after_tasks, band_rows, images_after, images_at_end, with_image}
 pub use Rattle.graph_steps.specs.Runs.{CanDo, CanReduceBand, CanRunBand}
-pub use Rattle.graph_steps.specs.Steps.{CanMake, CanStep, CanWrite, Covers, ReadsPlane, Suits, SuitsPlanes, after_step, blank_image, blocks_after_step, blocks_with_move, capacities, capacity, held_image, image_from_inputs, is_integral, kernel_image, reads_output, rows_image, scan_image, second_in, second_plane, step_image, sums_above, with_moved_block, with_output_block}
-pub use Rattle.graph_steps.specs.Tallies.{CanAdd, CanReduce, IsBounded, IsNew, TakesFormat, after_reduction, all_tallies_after, tallies_after, tally_at, tally_of, with_rows_added, with_rows_counted}
+pub use Rattle.graph_steps.specs.Steps.{CanMake, CanStep, CanWrite, Covers, ReadsPlane, Suits, after_step, output_plane, blank_image, capacities, capacity, held_image, image_from_inputs, is_integral, kernel_image, output_desc, own_by, reads_output, rows_image, scan_image, second_in, step_image, step_radius, sums_above, whole_image}
+pub use Rattle.graph_steps.specs.Tallies.{AreNew, AreTallied, CanAdd, CanReduce, IsBounded, IsNew, ReduceInTurn, TakesFormat, after_reduction, all_tallies_after, tallies_after, tally_at, tally_of, with_rows_added, with_rows_counted}
 pub use Rattle.graph_steps.specs.contracts.plane.Plane.{the_view}
 pub use Rattle.graph_steps.specs.declared.step.Reduction.{Reduction}
 pub use Rattle.graph_steps.specs.declared.step.SecondSource.{SecondSource}

@@ -8,6 +8,5 @@ pub mod TallyLaws
 pub mod ReduceLaws
 pub mod RunLaws
 pub mod HaloLaws
-pub mod OrderLaws
 pub mod ExampleLaws
 pub mod SumLaws

@@ -1,11 +1,11 @@
 -- Band after band.
-use Rattle.std.proofs.Common.{◌≡◌, ℕ, ◌+◌, ◌-◌, ◌*◌, ◌<◌, ◌≤◌, ◌^◌, min, true, false, List, length, ◌||◌, refl, sym, ◌∙◌, ap, subst, inl, inr, arith, Option}
-use Rattle.graph_steps.proofs.Common.{AreAlike, Band, CanReduceBand, CanRunBand, Description, Function, HaveCapacity, ImageValue, IsClient, IsInRows, IsLive, IsNew, IsProgram, IsReadable, IsStepOf, IsUnwritten, IsWhole, KeepsBlock, ObjectValue, PlaneValue, Reduces, Reduction, SolvesSteps, Step, Tally, Task, accumulates, after_tasks, all_rows, all_tallies_after, band-same, band_rows, block_image, block_images, blocks_after_tasks, capacities, cases_Bool, halo, has_row, is_integral, nat_tests, pixel_at, plane, plane_image, read_images, reads_output, same_parts, samples_are_band, second_plane, tally_at, tally_of, with_halo, with_rows_added, ◌⊎◌}
-use Rattle.graph_steps.proofs.TallyLaws.{tally_above, added_above, none_above, all_above, bounded_more, bounded_less, format_kept}
-use Rattle.graph_steps.proofs.ReduceLaws.{Adds, AgreesWith, band_adds, band_adds_whole, tallies_length}
+use Rattle.std.proofs.Common.{◌≡◌, ℕ, ◌+◌, ◌-◌, ◌*◌, ◌<◌, ◌≤◌, ◌^◌, min, true, false, List, [], ◌∷◌, length, ◌||◌, refl, sym, ◌∙◌, ap, subst, inl, inr, arith, Option, None, unwrap_or}
+use Rattle.graph_steps.proofs.Common.{AreAlike, AreNew, AreTallied, Band, CanReduceBand, CanRunBand, Description, Function, HaveRoom, ImageValue, IsClient, IsClients, IsImage, IsInRows, IsNeeded, IsProgram, IsReadable, IsStepOf, IsUnwritten, IsWhole, NamesPlanes, ObjectValue, PlaneValue, Reduce, RunsInTurn, Step, Tally, Task, Write, accumulates, after_tasks, all_rows, all_tallies_after, band-same, block_image, block_images, capacities, cases_Bool, description_of, has_row, images_after, images_at_end, is_integral, nat_tests, output_desc, pixel_at, plane, plane_image, reads_output, same_parts, samples_are_band, tally_at, with_halo, ◌⊎◌}
+use Rattle.graph_steps.proofs.TallyLaws.{tally_above, none_above, all_above}
+use Rattle.graph_steps.proofs.ReduceLaws.{AboveInTurn, band_tallies}
 use Rattle.graph_steps.proofs.PlaneLaws.{sides_of, read_at, all_read}
-use Rattle.graph_steps.proofs.BandLaws.{Ran, room_less, halo_within, band_runs}
-use Rattle.graph_steps.proofs.AgreeLaws.{agree_same, halo_has, HasRowAbove, Known, Knows, IsOwn, band_knows}
+use Rattle.graph_steps.proofs.BandLaws.{Ran, room_less, band_runs}
+use Rattle.graph_steps.proofs.AgreeLaws.{HasRowAbove, IsOwn, Known, Knows, Reaches, band_knows, halo_has}
 
 -- a client's image can be read
 pub client_readable : (p : PlaneValue) → IsClient p → IsReadable p
@@ -39,305 +39,282 @@ pub record IsNext (high size : ℕ) (band : Band) : Type 0 where
 pub is_next : {high size : ℕ} {band : Band} → high < 2 ^ 16 → 0 < size → band.start < high → band.count ≡ min size (high - band.start) → (band.start ≡ 0) ⊎ (min size high ≤ band.start) → IsNext high size band
 is_next fit forward below is begun = record { fits = omega arith; less = omega arith; some = omega arith; ends = omega arith; wide = omega arith; begun = begun }
 
-module _ {tables : ℕ → Option ObjectValue} {high size : ℕ} {halos : List ℕ} {steps : List Task} {origin : List PlaneValue} (program : IsProgram tables high size halos steps origin) where
-  abbrev kept : ℕ → Type 0
-  kept = KeepsBlock (length origin) steps
+module _ {tables : ℕ → Option ObjectValue} {high size slots : ℕ} {tasks : List Task} {origin : List PlaneValue} (program : IsProgram tables high size slots tasks origin) where
+  abbrev Clients : ℕ → Type 0
+  Clients = IsClients slots (length origin)
+
+  abbrev images : ℕ → ImageValue
+  images = block_images origin
+
+  abbrev end : ℕ → ImageValue
+  end = images_at_end tables tasks images
 
   -- planes between two bands
   pub record Remains (planes : List PlaneValue) : Type 0 where
     pub count : length planes ≡ length origin
     pub blocks : capacities planes ≡ capacities origin
-    pub desc : (c : ℕ) → (plane planes c).desc ≡ (plane origin c).desc
-    pub whole : (c : ℕ) → KeepsBlock (length origin) steps c → IsWhole (plane planes c)
-    pub unwritten : (c : ℕ) → KeepsBlock (length origin) steps c → IsUnwritten steps c → plane planes c ≡ plane origin c
+    pub clients : (c : ℕ) → Clients c → IsWhole (plane planes c) × ((plane planes c).desc ≡ (plane origin c).desc)
+    pub unwritten : (c : ℕ) → Clients c → IsUnwritten tasks c → plane planes c ≡ plane origin c
 
   pub remains_first : Remains origin
-  remains_first = record {
-    count = refl;
-    blocks = refl;
-    desc = λ c. refl;
-    whole = λ c k. (program.clients c k).whole;
-    unwritten = λ c k u. refl;
-  }
+  remains_first = record { count = refl; blocks = refl; clients = λ c k. ((program.clients c k).whole, refl); unwritten = λ c k u. refl }
+
+  -- what tasks need as a band begins is as before the run
+  begins : (planes : List PlaneValue) → Remains planes → (c more : ℕ) → IsNeeded (IsClients slots (length planes)) high tasks c more → Clients c × IsUnwritten tasks c × (plane planes c ≡ plane origin c)
+  begins planes r c more needed =
+      let b = program.begins c more (subst (λ n. IsNeeded (IsClients slots n) high tasks c more) r.count needed) in
+      (b.1, b.0, r.unwritten c b.1 b.0)
 
   -- a band can run
-  pub can_run : (band : Band) (planes : List PlaneValue) → IsNext high size band → Remains planes → CanRunBand tables high halos band kept steps planes
+  pub can_run : (band : Band) (planes : List PlaneValue) → IsNext high size band → Remains planes → CanRunBand tables high slots band tasks images planes
   can_run band planes next r = record {
     fits = next.fits;
-    halo_count = program.halo_count ∙ sym r.count;
-    within = λ s i. rw r.count (program.within s i);
-    suits = λ s i. rw (r.desc s.first, r.desc (second_plane s.second), r.desc s.output) (program.suits s i);
-    reads = λ c live. let b = program.begins c live in rw (r.unwritten c b.1 b.0) (client_readable (plane origin c) (program.clients c b.1));
-    whole = r.whole;
-    written = program.written;
-    keeps = λ c k s i t e. k.1 s i t e;
-    free = program.free;
-    room =
-        subst (HaveCapacity band.count halos (λ c. (plane planes c).desc) steps) (sym r.blocks)
-        (room_less size band.count halos (λ c. (plane origin c).desc) (λ c. (plane planes c).desc) steps (capacities origin) next.less (λ c. sym (r.desc c)) program.room);
+    names = λ s i. subst (λ n. NamesPlanes slots n s) (sym r.count) (program.names s i);
+    inputs = λ q i. subst (λ n. q.input < n) (sym r.count) (program.inputs q i);
+    runs = program.runs;
+    one_writer = program.one_writer;
+    reads = λ c more needed.
+        let b = begins planes r c more needed in
+        rw b.2 (client_readable (plane origin c) (program.clients c b.0), refl);
+    clients = λ c k. r.clients c (subst (λ n. IsClients slots n c) r.count k);
+    room = subst (HaveRoom band.count tasks) (sym r.blocks) (room_less size band.count tasks (capacities origin) next.less program.room);
   }
 
-  pub remains_next : (band : Band) (planes : List PlaneValue) → IsNext high size band → Remains planes → Remains (after_tasks tables halos band steps planes)
+  pub remains_next : (band : Band) (planes : List PlaneValue) → IsNext high size band → Remains planes → Remains (after_tasks tables band tasks planes)
   remains_next band planes next r =
-      let ran = band_runs steps planes (can_run band planes next r) in
+      let ran = band_runs tasks images planes (can_run band planes next r) in
+      let now : (c : ℕ) → Clients c → IsClients slots (length planes) c = λ c k. subst (λ n. IsClients slots n c) (sym r.count) k in
       record {
         count = ran.count ∙ r.count;
-        blocks = ran.blocks ∙ ap (blocks_after_tasks steps) r.blocks ∙ program.again;
-        desc = λ c. ran.desc c ∙ r.desc c;
-        whole = ran.can.whole;
-        unwritten = λ c k u. ran.leaves c k u ∙ r.unwritten c k u;
+        blocks = ran.blocks ∙ r.blocks;
+        clients = λ c k. ((ran.can.clients c (subst (λ n. IsClients slots n c) (sym ran.count) (now c k))).0, ran.desc c (now c k) ∙ (r.clients c k).1);
+        unwritten = λ c k u. ran.leaves c (now c k) u ∙ r.unwritten c k u;
       }
 
-  -- ---- reductions
+  -- before the band that begins with row `first`: the rows above it of each client's image are as in the end, and where a step accumulates
+  -- the others are as before the run
+  pub record Stands (first : ℕ) (planes : List PlaneValue) : Type 0 where
+    pub alike : (c : ℕ) → Clients c → (first ≡ 0) ⊎ (AreAlike (block_image (plane planes c)) (end c) × IsImage (end c))
+    pub above : (c : ℕ) → Clients c → (x y : ℕ) → x < (plane origin c).desc.width → y < first → y < (plane origin c).desc.height → pixel_at (block_images planes c) x y ≡ pixel_at (end c) x y
+    pub own : (s : Step) → IsStepOf s tasks → accumulates s.node.function ≡ true → (x y : ℕ) → x < (plane origin s.output).desc.width → first ≤ y → y < (plane origin s.output).desc.height
+        → pixel_at (block_images planes s.output) x y ≡ pixel_at (images s.output) x y
+    pub own_valid : (s : Step) → IsStepOf s tasks → accumulates s.node.function ≡ true → ((plane planes s.output).valid ≡ (plane origin s.output).valid) ⊎ ((plane planes s.output).valid ≡ (end s.output).valid)
 
-  pub reduces_after : (band : Band) (planes : List PlaneValue) (tallies : List Tally) → IsNext high size band → Remains planes → CanReduceBand band.start steps planes tallies
-      → CanReduceBand (band.start + band.count) steps (after_tasks tables halos band steps planes) (all_tallies_after tables halos band steps planes tallies)
-  reduces_after band planes tallies next r reduces =
-      let can = can_run band planes next r in
-      record {
-        apart = reduces.apart;
-        reduces = λ q i.
-            let c = reduces.reduces q i in
-            let a = band_adds steps planes tallies can reduces q i in
-            let rows : Band = with_halo 0 (plane planes q.input).desc.height band in
-            record {
-              input = (let n = (band_runs steps planes can).count in let k = c.input in omega arith);
-              tally = (let n = tallies_length tables halos band steps planes tallies in let k = c.tally in omega arith);
-              format =
-                  rw (a.is, (band_runs steps planes can).desc q.input) (format_kept _ rows a.image (tally_at tallies q.tally) c.format);
-              bounded =
-                  rw a.is
-                  (bounded_less (band.start * 8192 + rows.count * 8192) ((band.start + band.count) * 8192) (with_rows_added rows a.image (tally_at tallies q.tally)) (omega arith)
-                  (bounded_more (band.start * 8192) rows a.image (tally_at tallies q.tally) a.holds c.bounded));
-            };
-      }
+  pub stands_first : Stands 0 origin
+  stands_first = record {
+    alike = λ c k. inl refl;
+    above = λ c k x y across below low. absurd (omega arith);
+    own = λ s i e x y across from low. refl;
+    own_valid = λ s i e. inl refl;
+  }
 
-  -- ---- a solution
+  -- the plane that a step writes, if the output is a client's image
+  client_of : (s : Step) → IsStepOf s tasks → s.describes ≡ None → Clients s.output
+  client_of s i none = let n = program.names s i in (n.client none, n.output)
 
-  module _ {whole : ℕ → ImageValue} (solves : SolvesSteps tables (length origin) steps (block_images origin) whole) where
-    -- before the band that begins with row `first`: the rows above it of each client's image are those of the solution, and where a step
-    -- accumulates the others are as before the run
-    pub record Stands (first : ℕ) (planes : List PlaneValue) : Type 0 where
-      pub alike : (c : ℕ) → KeepsBlock (length origin) steps c → (first ≡ 0) ⊎ AreAlike (block_image (plane planes c)) (whole c)
-      pub above : (c : ℕ) → KeepsBlock (length origin) steps c → (x y : ℕ) → x < (plane origin c).desc.width → y < first → y < (plane origin c).desc.height → pixel_at (block_images planes c) x y ≡ pixel_at (whole c) x y
-      pub own : (s : Step) → IsStepOf s steps → accumulates s.node.function ≡ true → (x y : ℕ) → x < (plane origin s.output).desc.width → first ≤ y → y < (plane origin s.output).desc.height
-          → pixel_at (block_images planes s.output) x y ≡ pixel_at (block_images origin s.output) x y
-      pub own_valid : (s : Step) → IsStepOf s steps → accumulates s.node.function ≡ true → ((plane planes s.output).valid ≡ (plane origin s.output).valid) ⊎ ((plane planes s.output).valid ≡ (whole s.output).valid)
+  module _ (band : Band) (planes : List PlaneValue) (is_next : IsNext high size band) (r : Remains planes) (stands : Stands band.start planes) where
+    below : band.start < high
+    below = omega arith
 
-    pub stands_first : Stands 0 origin
-    stands_first = record {
-      alike = λ c k. inl refl;
-      above = λ c k x y across below low. absurd (omega arith);
-      own = λ s i e x y across from low. refl;
-      own_valid = λ s i e. inl refl;
-    }
+    runs : CanRunBand tables high slots band tasks images planes
+    runs = can_run band planes is_next r
 
-    module _ (band : Band) (planes : List PlaneValue) (is_next : IsNext high size band) (r : Remains planes) (stands : Stands band.start planes) where
-      pub below : band.start < high
-      below = omega arith
+    abbrev next : List PlaneValue
+    next = after_tasks tables band tasks planes
 
-      runs : CanRunBand tables high halos band kept steps planes
-      runs = can_run band planes is_next r
+    now : (c : ℕ) → Clients c → IsClients slots (length planes) c
+    now c k = subst (λ n. IsClients slots n c) (sym r.count) k
 
-      abbrev next : List PlaneValue
-      next = after_tasks tables halos band steps planes
+    reads_own : (function : Function) → accumulates function ≡ true → reads_output function ≡ true
+    reads_own function sums = ap (λ b. b || is_integral function) sums
 
-      reads_own : (function : Function) → accumulates function ≡ true → reads_output function ≡ true
-      reads_own function sums = ap (λ b. b || is_integral function) sums
+    reads_above : (function : Function) → is_integral function ≡ true → reads_output function ≡ true
+    reads_above function scans = grind (arith, cases_Bool (accumulates function))
 
-      reads_above : (function : Function) → is_integral function ≡ true → reads_output function ≡ true
-      reads_above function scans = grind (arith, cases_Bool (accumulates function))
+    -- in a run of one band that is the first
+    alone : high ≤ size → band.start ≡ 0
+    alone one = elim is_next.begun [ inl z ↦ z | inr k ↦ absurd (omega arith) ]
 
-      -- in a run of one band that is the first
-      alone : high ≤ size → band.start ≡ 0
-      alone one = elim is_next.begun [ inl z ↦ z | inr k ↦ absurd (omega arith) ]
+    -- the output of a step that accumulates
+    own_of : (s : Step) → IsStepOf s tasks → accumulates s.node.function ≡ true → s.describes ≡ None
+    own_of s i e = (program.names s i).own e
 
-      -- a step that accumulates writes no row above the band, and none below it
-      once_from : (s : Step) → IsStepOf s steps → accumulates s.node.function ≡ true → (height y : ℕ) → has_row (with_halo (halo halos s.output) height band) y ≡ true → band.start ≤ y
-      once_from s i e height y near = elim (program.once s i (reads_own s.node.function e)) [
-        | inl (none, own) ↦ omega (arith, none, (halo_has (halo halos s.output) height band y near).0)
-        | inr one ↦ (let z = alone one in omega arith)
-      ]
+    desc_of : (s : Step) → IsStepOf s tasks → accumulates s.node.function ≡ true → (output_desc s planes ≡ (plane planes s.output).desc) × ((plane planes s.output).desc ≡ (plane origin s.output).desc)
+    desc_of s i e =
+        let none = own_of s i e in
+        (ap (λ o. unwrap_or o (plane planes s.output).desc) none, (r.clients s.output (client_of s i none)).1)
 
-      once_below : (s : Step) → IsStepOf s steps → accumulates s.node.function ≡ true → (height y : ℕ) → height ≤ high → y < height → band.start + band.count ≤ y → has_row (with_halo (halo halos s.output) height band) y ≡ false
-      once_below s i e height y tall low from = elim (program.once s i (reads_own s.node.function e)) [
-        | inl (none, own) ↦ past_last (halo halos s.output) none
-        | inr one ↦ absurd (let z = alone one in omega arith)
-      ]
-        where
-          past_last : (n : ℕ) → n ≡ 0 → has_row (with_halo n height band) y ≡ false
-          past_last n none = grind (arith, nat_tests)
+    -- a step that accumulates writes no row above the band, and none below it
+    once_from : (s : Step) → IsStepOf s tasks → accumulates s.node.function ≡ true → (height y : ℕ) → has_row (with_halo s.halo height band) y ≡ true → band.start ≤ y
+    once_from s i e height y near = elim (program.once s i (reads_own s.node.function e)) [
+      | inl (none, own) ↦ omega (arith, none, (halo_has s.halo height band y near).0)
+      | inr one ↦ (let z = alone one in omega arith)
+    ]
 
-      own_is : (s : Step) → IsStepOf s steps → accumulates s.node.function ≡ true → IsOwn halos band (block_images origin) whole planes s
-      own_is s i e =
-          let sides = sides_of (r.desc s.output) in
-          record {
-            row = λ x y across near.
-                let low = (halo_has (halo halos s.output) (plane planes s.output).desc.height band y near).1 in
-                let from = once_from s i e (plane planes s.output).desc.height y near in
-                stands.own s i e x y (omega arith) from (omega arith);
-            valid = stands.own_valid s i e;
-          }
-
-      above_is : (s : Step) → IsStepOf s steps → is_integral s.node.function ≡ true → HasRowAbove halos band whole planes s
-      above_is s i e = elim (program.once s i (reads_above s.node.function e)) [
-        | inr one ↦ inl (let z = alone one in omega arith)
-        | inl (none, own) ↦
-            inr (
-              own,
-              (λ x y across before low.
-                  let sides = sides_of (r.desc s.output) in
-                  stands.above s.output (program.written s i own) x y (omega arith) (omega arith) (omega arith)),
-            )
-      ]
-
-      knows : (c : ℕ) → IsLive kept steps c → Knows halos band whole planes c
-      knows c live =
-          let b = program.begins c live in
-          let same = r.unwritten c b.1 b.0 in
-          let client = program.clients c b.1 in
-          record {
-            agrees = agree_same (band.start - halo halos c) (band.start + band.count - 1 + halo halos c) (read_images planes c) (whole c)
-                (ap plane_image same ∙ all_read (plane origin c) client.whole client.rows ∙ sym (solves.others c b.0));
-            covers = λ y there.
-                let low = (halo_has (halo halos c) (plane planes c).desc.height band y there).1 in
-                let h : (plane planes c).desc.height ≡ (plane origin c).desc.height = ap (λ (p : PlaneValue). p.desc.height) same in
-                let all : (plane planes c).rows ≡ all_rows (plane origin c).desc.height = ap (λ (p : PlaneValue). p.rows) same ∙ client.rows in
-                subst (λ (b : Band). has_row b y ≡ true) (sym all) (in_all (plane origin c).desc.height y (omega arith));
-          }
-        where
-          in_all : (height y : ℕ) → y < height → has_row (all_rows height) y ≡ true
-          in_all height y low = grind (arith, nat_tests)
-
-      known : Known tables high halos band kept (block_images origin) whole (length origin) steps planes
-      known = record {
-        can = runs;
-        meets = record {
-          length_is = r.count;
-          desc = λ c. sym (r.desc c);
-          tall = λ c. subst (λ (d : Description). d.height ≤ high) (sym (r.desc c)) (program.tall c);
-        };
-        enough = program.enough;
-        one = program.one_writer;
-        solves = solves.written;
-        was = own_is;
-        above = above_is;
-        known = knows;
-      }
-
-      solved : (c : ℕ) → kept c → Knows halos band whole next c
-      solved = band_knows is_next.some below solves.images steps planes known
-
-      ran : Ran tables high halos band kept steps planes next
-      ran = band_runs steps planes runs
-
-      pub stands_next : Stands (band.start + band.count) next
-      stands_next = record {
-        alike = λ c k. inr (let a = (solved c k).agrees.alike in record { description = a.description; valid = a.valid });
-        above = λ c k x y across below low.
-            let d = ran.desc c ∙ r.desc c in
-            let sides = sides_of d in
-            let sides_before = sides_of (r.desc c) in
-            elim (cases_Bool (has_row (band_rows next halos band c) y)) [
-              | inl near ↦
-                  let k2 = solved c k in
-                  let readable = ran.can.reads c k in
-                  let has = halo_has (halo halos c) (plane next c).desc.height band y near in
-                  sym (read_at (plane next c) (ran.can.whole c k) (plane next c).rows readable.rows x y (omega arith) (k2.covers y near))
-                  ∙ k2.agrees.samples x y (omega arith) (omega arith) has.0 (omega (arith, has.2))
-              | inr elsewhere ↦
-                  let before = subst (λ (e : Description). has_row (with_halo (halo halos c) e.height band) y ≡ false) (ran.desc c) elsewhere in
-                  ran.keeps c k x y (omega arith) (omega arith) before
-                  ∙ stands.above c k x y across (above_first (halo halos c) (plane planes c).desc.height y before below (omega arith)) low
-            ];
-        own = λ s i e x y across from low.
-            let k = program.written s i ((program.within s i).own e) in
-            let sides_before = sides_of (r.desc s.output) in
-            let t = program.tall s.output in
-            ran.keeps s.output k x y (omega arith) (omega arith) (once_below s i e (plane planes s.output).desc.height y (omega arith) (omega arith) from)
-            ∙ stands.own s i e x y across (omega arith) low;
-        own_valid = λ s i e. inr (solved s.output (program.written s i ((program.within s i).own e))).agrees.alike.valid;
-      }
-        where
-          above_first : (more height y : ℕ) → has_row (with_halo more height band) y ≡ false → y < band.start + band.count → y < height → y < band.start
-          above_first more height y elsewhere below low = grind (arith, nat_tests)
-
-    -- the tallies before the band that begins with row `first`
-    pub record Tallied (first : ℕ) (old tallies : List Tally) : Type 0 where
-      pub height : (r : Reduction) → Reduces r steps → (first ≡ 0) ⊎ ((whole r.input).height ≡ (plane origin r.input).desc.height)
-      pub is : (r : Reduction) → Reduces r steps → IsNew (tally_at old r.tally) → tally_at tallies r.tally ≡ tally_above (min first (plane origin r.input).desc.height) (whole r.input) (tally_at old r.tally)
-
-    pub tallied_first : (old : List Tally) → Tallied 0 old old
-    tallied_first old = record {
-      height = λ r i. inl refl;
-      is = λ r i new. none_above (whole r.input) (tally_at old r.tally) new ∙ ap (λ n. tally_above n (whole r.input) (tally_at old r.tally)) {x = 0} {y = min 0 (plane origin r.input).desc.height} (omega arith);
-    }
-
-    module _ (band : Band) (planes : List PlaneValue) (is_next : IsNext high size band) (r : Remains planes) (stands : Stands band.start planes) where
-      pub tallied_next : (old tallies : List Tally) → CanReduceBand band.start steps planes tallies → Tallied band.start old tallies → Tallied (band.start + band.count) old (all_tallies_after tables halos band steps planes tallies)
-      tallied_next old tallies reduces before = record {
-        height = λ q i. inr (tall q i);
-        is = λ q i new.
-            let a = adds q i in
-            let height = (plane origin q.input).desc.height in
-            let rows : Band = with_halo 0 height band in
-            let same = ap (λ (d : Description). with_halo 0 d.height band) (r.desc q.input) in
-            a.is
-            ∙ ap (λ b. with_rows_added b a.image (tally_at tallies q.tally)) same
-            ∙ ap (with_rows_added rows a.image) (before.is q i new ∙ ap (λ n. tally_above n (whole q.input) (tally_at old q.tally)) (omega arith))
-            ∙ added_above rows (band.start - halo halos q.input) (band.start + band.count - 1 + halo halos q.input) a.image (whole q.input) (tally_at old q.tally)
-            (solves.images q.input (let k = (reduces.reduces q i).input in let n = r.count in omega arith)) a.holds (λ y from to. (omega arith, omega arith)) (subst (λ n. IsInRows n rows) (sym (tall q i)) (halo_within 0 height band))
-            ∙ ap (λ n. tally_above n (whole q.input) (tally_at old q.tally)) (omega arith);
-      }
-        where
-          adds : (q : Reduction) → Reduces q steps
-              → Adds band (AgreesWith halos band whole) planes tallies (all_tallies_after tables halos band steps planes tallies) q
-          adds q i = band_adds_whole is_next.some (below band planes is_next r stands) solves.images steps planes tallies (known band planes is_next r stands) reduces q i
-
-          tall : (q : Reduction) → Reduces q steps → (whole q.input).height ≡ (plane origin q.input).desc.height
-          tall q i = let a = adds q i in sym (ap (λ (d : Description). d.height) a.holds.alike.description) ∙ a.height ∙ ap (λ (d : Description). d.height) (r.desc q.input)
-
-    pub tallied_last : (first : ℕ) (old tallies : List Tally) → high ≤ first → Tallied first old tallies → (r : Reduction) → Reduces r steps → r.input < length origin → IsNew (tally_at old r.tally)
-        → tally_at tallies r.tally ≡ tally_of (whole r.input) (tally_at old r.tally)
-    tallied_last first old tallies end t r i there new =
-        t.is r i new
-        ∙ ap (λ n. tally_above n (whole r.input) (tally_at old r.tally)) (all_rows_are (t.height r i))
-        ∙ all_above (whole r.input) (tally_at old r.tally) (solves.images r.input there)
+    once_below : (s : Step) → IsStepOf s tasks → accumulates s.node.function ≡ true → (height y : ℕ) → height ≤ high → y < height → band.start + band.count ≤ y → has_row (with_halo s.halo height band) y ≡ false
+    once_below s i e height y tall low from = elim (program.once s i (reads_own s.node.function e)) [
+      | inl (none, own) ↦ past_last s.halo none
+      | inr one ↦ absurd (let z = alone one in omega arith)
+    ]
       where
-        all_rows_are : (first ≡ 0) ⊎ ((whole r.input).height ≡ (plane origin r.input).desc.height) → min first (plane origin r.input).desc.height ≡ (whole r.input).height
-        all_rows_are (inl z) = absurd (let f = program.some in omega arith)
-        all_rows_are (inr h) = let l = program.tall r.input in omega arith
+        past_last : (n : ℕ) → n ≡ 0 → has_row (with_halo n height band) y ≡ false
+        past_last n none = grind (arith, nat_tests)
 
-    -- after the last band
-    pub stands_last : (first : ℕ) (planes : List PlaneValue) → high ≤ first → Remains planes → Stands first planes → (c : ℕ) → kept c → block_image (plane planes c) ≡ whole c
-    stands_last first planes end r stands c k = same_image (plane planes c) (whole c) (r.whole c k).size (solves.images c k.0).size (elim (stands.alike c k) [ inl z ↦ absurd (let f = program.some in omega arith) | inr a ↦ a ])
-        (λ x y across low.
-        let sides = sides_of (r.desc c) in
-        let t = program.tall c in
-        stands.above c k x y (omega arith) (omega arith) (omega arith))
+    own_is : (s : Step) → IsStepOf s tasks → accumulates s.node.function ≡ true → IsOwn band images end planes s
+    own_is s i e =
+        let d = desc_of s i e in
+        let sides = sides_of d.1 in
+        record {
+          row = λ x y across near.
+              let there = ap (λ (d : Description). has_row (with_halo s.halo d.height band) y) (sym d.0) ∙ near in
+              let low = (halo_has s.halo (plane planes s.output).desc.height band y there).1 in
+              let from = once_from s i e (plane planes s.output).desc.height y there in
+              stands.own s i e x y (omega (arith, sides.wide)) from (omega (arith, sides.tall));
+          valid = stands.own_valid s i e;
+        }
+
+    above_is : (s : Step) → IsStepOf s tasks → is_integral s.node.function ≡ true → HasRowAbove band end planes s
+    above_is s i e = elim (program.once s i (reads_above s.node.function e)) [
+      | inr one ↦ inl (let z = alone one in omega arith)
+      | inl (none, own) ↦
+          inr (
+            own,
+            (λ x y across before low.
+                let k = client_of s i own in
+                let sides = sides_of (r.clients s.output k).1 in
+                stands.above s.output k x y (omega (arith, sides.wide)) (omega arith) (omega (arith, sides.tall))),
+          )
+    ]
+
+    knows : (c more : ℕ) → IsNeeded (IsClients slots (length planes)) high tasks c more → IsImage (images c) × Knows (images c) (plane planes c) × Reaches band more (plane planes c)
+    knows c more needed =
+        let b = begins planes r c more needed in
+        let client = program.clients c b.0 in
+        let image : plane_image (plane planes c) ≡ images c = ap plane_image b.2 ∙ all_read (plane origin c) client.whole client.rows in (
+          client.image,
+          record {
+            alike = record { description = ap description_of image; valid = ap (λ (i : ImageValue). i.valid) image };
+            samples = λ x y across low there. ap (λ i. pixel_at i x y) image;
+          },
+          (λ y there.
+              let low = (halo_has more (plane planes c).desc.height band y there).1 in
+              let h : (plane planes c).desc.height ≡ (plane origin c).desc.height = ap (λ (p : PlaneValue). p.desc.height) b.2 in
+              let all : (plane planes c).rows ≡ all_rows (plane origin c).desc.height = ap (λ (p : PlaneValue). p.rows) b.2 ∙ client.rows in
+              subst (λ (b : Band). has_row b y ≡ true) (sym all) (in_all (plane origin c).desc.height y (omega arith))),
+        )
+      where
+        in_all : (height y : ℕ) → y < height → has_row (all_rows height) y ≡ true
+        in_all height y low = grind (arith, nat_tests)
+
+    pub known : Known tables high slots band end tasks images planes
+    known = record {
+      can = runs;
+      enough = program.enough;
+      ends = λ c k. refl;
+      was = own_is;
+      above = above_is;
+      known = knows;
+    }
+
+    ran : Ran tables high slots band tasks images planes next
+    ran = band_runs tasks images planes runs
+
+    solved : (c : ℕ) → Clients c → IsImage (end c) × Knows (end c) (plane next c) × Reaches band 0 (plane next c)
+    solved c k = (band_knows is_next.some below tasks images planes known).known c 0 (subst (λ n. IsClients slots n c) (sym ran.count) (now c k), refl)
+
+    pub stands_next : Stands (band.start + band.count) next
+    stands_next = record {
+      alike = λ c k. inr (let s = solved c k in let a = s.1.alike in (record { description = a.description; valid = a.valid }, s.0));
+      above = λ c k x y across below low.
+          let d = ran.desc c (now c k) ∙ (r.clients c k).1 in
+          let sides = sides_of d in
+          let sides_before = sides_of (r.clients c k).1 in
+          let own = solved c k in
+          elim (cases_Bool (has_row (plane next c).rows y)) [
+            | inl near ↦
+                let readable = (ran.can.reads c 0 (subst (λ n. IsClients slots n c) (sym ran.count) (now c k), refl)).0 in
+                sym (read_at (plane next c) (ran.can.clients c (subst (λ n. IsClients slots n c) (sym ran.count) (now c k))).0 (plane next c).rows readable.rows x y (omega (arith, sides.wide)) near)
+                ∙ own.1.samples x y (omega (arith, sides.wide)) (omega (arith, sides.tall)) near
+            | inr elsewhere ↦
+                ran.keeps c (now c k) x y (omega (arith, sides_before.wide)) (omega (arith, sides_before.tall)) elsewhere
+                ∙ stands.above c k x y across (above_first (plane next c).desc.height (plane next c).rows y own.2 elsewhere below (omega (arith, sides.tall))) low
+          ];
+      own = λ s i e x y across from low.
+          let none = own_of s i e in
+          let k = client_of s i none in
+          let sides_before = sides_of (r.clients s.output k).1 in
+          let t = program.tall s.output k in
+          ran.keeps s.output (now s.output k) x y (omega (arith, sides_before.wide)) (omega (arith, sides_before.tall))
+          (ap (λ b. has_row b y) (ran.rows s i none) ∙ once_below s i e (plane planes s.output).desc.height y (omega (arith, sides_before.tall)) (omega (arith, sides_before.tall)) from)
+          ∙ stands.own s i e x y across (omega arith) low;
+      own_valid = λ s i e. inr (solved s.output (client_of s i (own_of s i e))).1.alike.valid;
+    }
+      where
+        above_first : (height : ℕ) (rows : Band) (y : ℕ) → ((y : ℕ) → has_row (with_halo 0 height band) y ≡ true → has_row rows y ≡ true) → has_row rows y ≡ false → y < band.start + band.count → y < height → y < band.start
+        above_first height rows y covers elsewhere below low = elim (cases_Bool (has_row (with_halo 0 height band) y)) [
+          | inl there ↦ absurd (let e = covers y there in cc)
+          | inr absent ↦ outside height y absent below low
+        ]
+          where
+            outside : (height y : ℕ) → has_row (with_halo 0 height band) y ≡ false → y < band.start + band.count → y < height → y < band.start
+            outside height y absent below low = grind (arith, nat_tests)
+
+  -- after the last band
+  pub stands_last : (first : ℕ) (planes : List PlaneValue) → high ≤ first → Remains planes → Stands first planes → (c : ℕ) → Clients c → block_image (plane planes c) ≡ end c
+  stands_last first planes past r stands c k = elim (stands.alike c k) [
+    | inl z ↦ absurd (let f = program.some in omega arith)
+    | inr a ↦
+        let sides = sides_of (r.clients c k).1 in
+        let t = program.tall c k in
+        same_image (plane planes c) (end c) (r.clients c k).0.size a.1.size a.0
+        (λ x y across low. stands.above c k x y (omega (arith, sides.wide)) (omega (arith, sides.tall)) (omega (arith, sides.tall)))
+  ]
+
+  -- ---- tallies
+
+  tallied_last : (first : ℕ) (old tallies : List Tally) → high ≤ first → (tasks : List Task) (images : ℕ → ImageValue) → RunsInTurn tables high tasks images → AboveInTurn tables first tasks images old tallies → AreTallied tables tasks images old tallies
+  tallied_last first old tallies past [] images runs above = tt
+  tallied_last first old tallies past (Write s ∷ later) images runs above = tallied_last first old tallies past later (images_after tables (Write s) images) runs.1 above
+  tallied_last first old tallies past (Reduce r ∷ later) images runs above = (
+    (let tall = runs.1 in
+        above.0
+        ∙ ap (λ n. tally_above n (images r.input) (tally_at old r.tally)) {x = min first (images r.input).height} {y = (images r.input).height} (omega arith)
+        ∙ all_above (images r.input) (tally_at old r.tally) runs.0),
+    tallied_last first old tallies past later images runs.2 above.1,
+  )
+
+  tallied_first : (old : List Tally) (tasks : List Task) (images : ℕ → ImageValue) → AreNew tasks old → AboveInTurn tables 0 tasks images old old
+  tallied_first old [] images new = tt
+  tallied_first old (Write s ∷ later) images new = tallied_first old later (images_after tables (Write s) images) new
+  tallied_first old (Reduce r ∷ later) images new = (
+    none_above (images r.input) (tally_at old r.tally) (new r (inl refl)) ∙ ap (λ n. tally_above n (images r.input) (tally_at old r.tally)) {x = 0} {y = min 0 (images r.input).height} (omega arith),
+    tallied_first old later images (λ q i. new q (inr i)),
+  )
 
   -- ---- between two bands
 
   -- before the band that begins with row `first`
   pub record Between (first : ℕ) (planes : List PlaneValue) (old tallies : List Tally) : Type 0 where
     pub remains : Remains planes
-    pub reduces : CanReduceBand first steps planes tallies
-    pub stands : (whole : ℕ → ImageValue) (solves : SolvesSteps tables (length origin) steps (block_images origin) whole) → Stands solves first planes
-    pub tallied : (whole : ℕ → ImageValue) (solves : SolvesSteps tables (length origin) steps (block_images origin) whole) → Tallied solves first old tallies
+    pub stands : Stands first planes
+    pub reduces : CanReduceBand tables first tasks images tallies
+    pub above : AboveInTurn tables first tasks images old tallies
 
-  pub between_first : (old : List Tally) → CanReduceBand 0 steps origin old → Between 0 origin old old
-  between_first old reduces = record {
-    remains = remains_first;
-    reduces = reduces;
-    stands = λ whole solves. stands_first solves;
-    tallied = λ whole solves. tallied_first solves old;
-  }
+  pub between_first : (old : List Tally) → CanReduceBand tables 0 tasks images old → AreNew tasks old → Between 0 origin old old
+  between_first old reduces new = record { remains = remains_first; stands = stands_first; reduces = reduces; above = tallied_first old tasks images new }
 
-  pub between_next : (band : Band) (planes : List PlaneValue) (old tallies : List Tally) → IsNext high size band → Between band.start planes old tallies
-      → Between (band.start + band.count) (after_tasks tables halos band steps planes) old (all_tallies_after tables halos band steps planes tallies)
-  between_next band planes old tallies is_next b = record {
-    remains = remains_next band planes is_next b.remains;
-    reduces = reduces_after band planes tallies is_next b.remains b.reduces;
-    stands = λ whole solves. stands_next solves band planes is_next b.remains (b.stands whole solves);
-    tallied = λ whole solves. tallied_next solves band planes is_next b.remains (b.stands whole solves) old tallies b.reduces (b.tallied whole solves);
-  }
+  pub between_next : (band : Band) (planes : List PlaneValue) (old tallies : List Tally) → IsNext high size band → CanReduceBand tables 0 tasks images old → Between band.start planes old tallies
+      → Between (band.start + band.count) (after_tasks tables band tasks planes) old (all_tallies_after tables band tasks planes tallies)
+  between_next band planes old tallies is_next takes b =
+      let known = known band planes is_next b.remains b.stands in
+      let low : band.start < high = omega arith in
+      let t = band_tallies is_next.some low old tasks images planes tallies known b.reduces takes.reduces b.above in
+      record {
+        remains = remains_next band planes is_next b.remains;
+        stands = stands_next band planes is_next b.remains b.stands;
+        reduces = record { apart = takes.apart; reduces = t.reduces };
+        above = t.above;
+      }
+
+  pub all_tallied : (first : ℕ) (planes : List PlaneValue) (old tallies : List Tally) → high ≤ first → Between first planes old tallies → AreTallied tables tasks images old tallies
+  all_tallied first planes old tallies past b = tallied_last first old tallies past tasks images program.runs b.above

@@ -1,11 +1,10 @@
 -- Tallies that add rows of images band after band.
-use Rattle.std.proofs.Common.{◌≡◌, ℕ, ℤ, ◌+◌, ◌-◌, ◌*◌, ◌<◌, ◌≤◌, ◌^◌, zero, suc, Bool, List, length, slice_index, refl, sym, ◌∙◌, ap, subst, arith, replicate}
+use Rattle.std.proofs.Common.{◌≡◌, ℕ, ◌+◌, ◌-◌, ◌*◌, ◌<◌, ◌≤◌, ◌^◌, zero, suc, length, slice_index, refl, sym, ◌∙◌, ap, subst, arith, replicate, count_by, unsigned_abs}
 use Rattle.graph_steps.proofs.PlaneLaws.{sides_of}
-use Rattle.graph_steps.proofs.Common.{AgreeInRows, Band, CanAdd, Description, Format, ImageValue, IsBounded, IsImage, IsInRows, IsNew, Rectangle, TakesFormat, Tally, all_rows, band_of, bin_sums, cases_lt, extremes, get_or-replicate, get_or_past, has_pixel, histogram, int_lt, length-map, length-replicate, nat_tests, no_extremes, pixel_at, rectangle_pixels, run-same, samples_in, tallies, tally_of, valid_in, valid_samples, with_rows_added}
-use Rattle.std.proofs.lemmas.List.FromFn.{get_or-map-range_with_len, length-map-range_with_len}
+use Rattle.vx_base.specs.Statistics.{bin_of, is_bin}
+use Rattle.graph_steps.proofs.Common.{AgreeInRows, Band, CanAdd, Description, ImageValue, IsBounded, IsImage, IsInRows, IsNew, Rectangle, TakesFormat, Tally, all_rows, band_of, bin_sums, cases_lt, extremes, get_or-replicate, get_or_past, has_pixel, histogram, length-map, length-replicate, nat_tests, no_extremes, pixel_at, rectangle_pixels, run-same, samples_in, tallies, tally_of, valid_in, valid_samples, with_rows_added}
+use Rattle.std.proofs.lemmas.List.FromFn.{length-map-range_with_len}
 use Rattle.vx_base.proofs.PictureLaws.{side}
-use Rattle.stat_kernels.specs.declared.extreme.Extreme.{Extreme}
-use Rattle.stat_kernels.specs.Extreme.{merge, shift_down, found_of}
 use Rattle.stat_kernels.proofs.AlikeLaws.{parts_located}
 use Rattle.std.proofs.lemmas.Nat.{mul-le}
 use Rattle.stat_kernels.proofs.PlaceLaws.{length-rows, samples_joined}
@@ -61,42 +60,29 @@ can_add first rows image (tally.Extremes e) low is format bounded =
     let d = bounded.1 in
     record { format = format; room = (omega arith, omega arith) }
 
-added_most : (counts more : List ℕ) (k : ℕ) → slice_index (bin_sums counts more) k ≤ slice_index counts k + slice_index more k
-added_most counts more k = grind (arith, nat_tests, cases_lt k (length counts), get_or-map-range_with_len, get_or_past, length-map-range_with_len)
-
-joined_most : (beyond : ℤ → ℤ → Bool) (a b : Extreme) → (merge beyond a b).count ≤ a.count + b.count
-joined_most beyond a b = grind (arith, nat_tests)
-
--- rows that are added leave a bounded tally, of the same kind
-pub bounded_more : (most : ℕ) (rows : Band) (image : ImageValue) (t : Tally) → IsImage image → IsBounded most t → IsBounded (most + rows.count * 8192) (with_rows_added rows image t)
-bounded_more most rows image (tally.Histogram d) is bounded = (
-  length-map-range_with_len (λ i. slice_index d.counts i + slice_index (histogram d.bins (valid_in rows image)) i) 0 (length d.counts) ∙ bounded.0,
+-- the tally of rows above a row is bounded, and of the same kind
+pub bounded_above : (y : ℕ) (image : ImageValue) (t : Tally) → IsImage image → IsBounded (y * 8192) (tally_above y image t)
+bounded_above y image (tally.Histogram d) is = (
+  length-map-range_with_len (λ k. count_by (λ z. is_bin k (bin_of d.bins (unsigned_abs z))) (valid_samples (valid_in (all_rows y) image))) 0 d.bins.bins,
   (λ k.
-      let a = added_most d.counts (histogram d.bins (valid_in rows image)) k in
-      let b = tally_few d.bins (valid_samples (valid_in rows image)) k in
-      let c = band_few image is rows in
-      let e = bounded.1 k in
+      let b = tally_few d.bins (valid_samples (valid_in (all_rows y) image)) k in
+      let c = band_few image is (all_rows y) in
       omega arith),
 )
-bounded_more most rows image (tally.Extremes e) is bounded =
-    let few = extremes_few (valid_in rows image) in
-    let f = band_few image is rows in
+bounded_above y image (tally.Extremes e) is =
+    let few = extremes_few (valid_in (all_rows y) image) in
+    let f = band_few image is (all_rows y) in
     let l = few.0 in
     let g = few.1 in
-    let c = bounded.0 in
-    let d = bounded.1 in
-    let x = extremes (valid_in rows image) in
-    let m = joined_most (λ z v. int_lt z v) (found_of e).least (shift_down 0 (found_of x).least) in
-    let n = joined_most (λ z v. int_lt v z) (found_of e).greatest (shift_down 0 (found_of x).greatest) in
     (omega arith, omega arith)
 
 pub bounded_less : (few most : ℕ) (t : Tally) → few ≤ most → IsBounded few t → IsBounded most t
 bounded_less few most (tally.Histogram d) less b = (b.0, (λ k. let c = b.1 k in omega arith))
 bounded_less few most (tally.Extremes e) less b = (let c = b.0 in let d = b.1 in (omega arith, omega arith))
 
-pub format_kept : (format : Format) (rows : Band) (image : ImageValue) (t : Tally) → TakesFormat format t → TakesFormat format (with_rows_added rows image t)
-format_kept format rows image (tally.Histogram d) h = h
-format_kept format rows image (tally.Extremes e) h = h
+pub format_above : (y : ℕ) (image : ImageValue) (t : Tally) → TakesFormat image.format t → TakesFormat image.format (tally_above y image t)
+format_above y image (tally.Histogram d) h = h
+format_above y image (tally.Extremes e) h = h
 
 -- the rows of a band are added to those above it
 pub added_above : (rows : Band) (first last : ℕ) (a image : ImageValue) (t : Tally) → IsImage image → AgreeInRows first last a image → ((y : ℕ) → rows.start ≤ y → y < rows.start + rows.count → (first ≤ y) × (y ≤ last)) → IsInRows image.height rows

@@ -33,7 +33,7 @@ abbrev pub client_plane : PlaneValue
 client_plane =
     record { desc = small_image_desc; valid = whole_rectangle 1 4; top = 0; rows = all_rows 4; format = U8; samples = (new_image 1 4 U8).samples }
 
--- the plane of a virtual image, with a block for four rows
+-- the plane of a slot, with a block for four rows
 abbrev pub block_plane : PlaneValue
 block_plane =
     record { desc = small_image_desc; valid = empty_rectangle; top = 0; rows = all_rows 0; format = U8; samples = (new_image 1 4 U8).samples }
@@ -53,23 +53,19 @@ box_node =
     }
 
 -- the box filter as a step from one plane to another
-abbrev pub box_step : ℕ → ℕ → Option ℕ → Step
-box_step input output takes =
-    record { node = box_node; which = First; first = input; second = Nothing; output = output; takes = takes; radius = 1 }
+abbrev pub box_step : ℕ → ℕ → Option Description → ℕ → Step
+box_step input output describes halo =
+    record { node = box_node; which = First; first = input; second = Nothing; output = output; describes = describes; radius = 1; halo = halo }
 
 -- two box filters in sequence, with a virtual image between them, and a reduction of the virtual
--- image to its extremes
+-- image to its extremes. The first filter writes one row more above and below a band, since the
+-- second reads it.
 abbrev pub boxes : List Task
-boxes = Write (box_step 0 1 (Some 1)) ∷ Write (box_step 1 2 None) ∷ Reduce (record { input = 1; tally = 0 }) ∷ []
+boxes = Write (box_step 1 0 (Some small_image_desc) 1) ∷ Write (box_step 0 2 None 0) ∷ Reduce (record { input = 0; tally = 0 }) ∷ []
 
--- the planes of these tasks
+-- the planes of these tasks: first the plane of the slot
 abbrev pub box_planes : List PlaneValue
-box_planes = client_plane ∷ block_plane ∷ client_plane ∷ []
-
--- the halos of these planes: each filter needs one more row of its input than of its output, above
--- and below
-abbrev pub box_halos : List ℕ
-box_halos = 2 ∷ 1 ∷ 0 ∷ []
+box_planes = block_plane ∷ client_plane ∷ client_plane ∷ []
 
 -- the tally of the virtual image
 abbrev pub box_tallies : List Tally
@@ -85,7 +81,7 @@ sums_plane =
 -- a step that writes the integral image of a client's image
 abbrev pub integral_step : Step
 integral_step =
-    record { node = record box_node { function = Integral }; which = First; first = 0; second = Nothing; output = 1; takes = None; radius = 0 }
+    record { node = record box_node { function = Integral }; which = First; first = 0; second = Nothing; output = 1; describes = None; radius = 0; halo = 0 }
 
 -- the program whose only task is this step
 abbrev pub sums : List Task
@@ -94,7 +90,3 @@ sums = Write integral_step ∷ []
 -- the planes of this program
 abbrev pub sums_planes : List PlaneValue
 sums_planes = client_plane ∷ sums_plane ∷ []
-
--- the halos of these planes: an integral image needs none
-abbrev pub sums_halos : List ℕ
-sums_halos = 0 ∷ 0 ∷ []

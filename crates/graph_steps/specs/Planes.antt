@@ -1,5 +1,5 @@
 -- Planes: images while a graph runs. A plane's block of samples holds some or all rows of the
--- image.
+-- image. The plane of a slot holds one virtual image after another.
 use Rattle.std.specs.Prelude.{ℕ, ℤ, ◌+◌, ◌-◌, ◌*◌, ◌≤◌, ◌≡◌, min, List, [], ◌++◌, take, drop, length, slice_index_or}
 use Rattle.vx_base.specs.declared.format.Format.{Format}
 use Rattle.vx_base.specs.declared.format.Format.TheVariants.{U8}
@@ -54,15 +54,16 @@ abbrev pub whole_plane : Description → Rectangle → Samples → PlaneValue
 whole_plane d valid block =
     record { desc = d; valid = valid; top = 0; rows = all_rows d.height; format = samples_format block; samples = values block }
 
--- the plane of a virtual image, of which no row is written yet
-abbrev pub virtual_plane : Description → Samples → PlaneValue
-virtual_plane d block =
-    record { desc = d; valid = empty_rectangle; top = 0; rows = all_rows 0; format = samples_format block; samples = values block }
+-- the plane of a slot, which holds no virtual image yet; its description isn't used
+abbrev pub slot_plane : Samples → PlaneValue
+slot_plane block =
+    record { desc = record { width = 1; height = 1; format = U8 }; valid = empty_rectangle; top = 0; rows = all_rows 0; format = samples_format block; samples = values block }
 
--- the plane with this block, which begins with row `top`; the valid rectangle becomes empty
-abbrev pub with_block : Format → List ℤ → ℕ → PlaneValue → PlaneValue
-with_block format samples top p =
-    record { desc = p.desc; valid = empty_rectangle; top = top; rows = p.rows; format = format; samples = samples }
+-- the plane as it begins to hold a virtual image of this description, in a block that begins with
+-- row `top`; the valid rectangle becomes empty
+abbrev pub with_description : Description → ℕ → PlaneValue → PlaneValue
+with_description d top p =
+    record { desc = d; valid = empty_rectangle; top = top; rows = p.rows; format = p.format; samples = p.samples }
 
 -- the plane after its block is taken away
 abbrev pub without_block : PlaneValue → PlaneValue

@@ -1,5 +1,5 @@
 -- Steps: nodes over planes, and the effect of one step.
-use Rattle.std.specs.Prelude.{ℕ, ℤ, pos, ◌+◌, ◌-◌, ◌*◌, ◌<◌, ◌≤◌, ◌≡◌, ◌≢◌, ◌⊎◌, ◌==◌, ◌||◌, Bool, true, false, if◌then◌else◌, unsigned_abs, IsTrue, List, [], length, map, slice_index_or, slice_set, Option, Some, None, IfSome}
+use Rattle.std.specs.Prelude.{ℕ, ℤ, pos, ◌+◌, ◌-◌, ◌*◌, ◌<◌, ◌≤◌, ◌≡◌, ◌≢◌, ◌⊎◌, ◌==◌, ◌||◌, Bool, true, false, if◌then◌else◌, unsigned_abs, IsTrue, List, [], length, map, slice_index_or, slice_set, Option, Some, None, IfSome, unwrap_or}
 use Rattle.std.specs.Option.{option_and_then}
 use Rattle.vx_base.specs.declared.format.Format.{Format}
 use Rattle.vx_base.specs.declared.format.Format.TheVariants.{U8}
@@ -28,7 +28,7 @@ use Rattle.graph_steps.specs.declared.kernel.Kernel.{Kernel}
 use Rattle.graph_steps.specs.declared.step.Step.{Step}
 use Rattle.graph_steps.specs.declared.step.SecondSource.{SecondSource}
 use Rattle.graph_steps.specs.declared.step.SecondSource.TheVariants.{Nothing, Plane, Table}
-use Rattle.graph_steps.specs.Planes.{PlaneValue, plane, read_images, plane_image, with_read_rows, with_rows, with_block, without_block, IsReadable, IsWhole, TakesRows}
+use Rattle.graph_steps.specs.Planes.{PlaneValue, plane, read_images, plane_image, with_read_rows, with_rows, with_description, IsReadable, IsWhole, TakesRows}
 
 -- ---- images of steps
 
@@ -58,10 +58,24 @@ held_image out = image_over_rows out.desc out.valid out.rows (target_image out).
 abbrev pub step_image : (ℕ → Option ObjectValue) → Step → (ℕ → ImageValue) → ImageValue → ImageValue
 step_image tables s images own = image_from_inputs s (images s.first) (second_in tables images s.second) own
 
+-- an image with this description and no samples
+abbrev pub blank_image : Description → ImageValue
+blank_image d = image_over d empty_rectangle []
+
+-- the output as a step begins: the client's image, or a virtual image without samples
+abbrev pub own_by : Option Description → ImageValue → ImageValue
+own_by None image = image
+own_by (Some d) image = blank_image d
+
+-- the image that a step makes of whole images
+abbrev pub whole_image : (ℕ → Option ObjectValue) → Step → (ℕ → ImageValue) → ImageValue
+whole_image tables s images = step_image tables s images (own_by s.describes (images s.output))
+
 -- the step of a node whose inputs are passed to the kernel directly, not as planes; the step's
 -- plane indices aren't used
 abbrev pub lent_step : Node → Output → Step
-lent_step n which = record { node = n; which = which; first = 0; second = Nothing; output = 0; takes = None; radius = 0 }
+lent_step n which =
+    record { node = n; which = which; first = 0; second = Nothing; output = 0; describes = None; radius = 0; halo = 0 }
 
 -- ---- integral images
 
@@ -112,37 +126,28 @@ abbrev pub Covers : Option ℕ → ℕ → ℕ → Type 0
 Covers (Some rows) radius high = rows ≤ radius
 Covers None radius high = high ≤ radius
 
--- an image with this description, for premises that depend on the description alone
-abbrev pub blank_image : Description → ImageValue
-blank_image d = image_over d empty_rectangle []
-
--- the index of the second input's plane, or 0 if the second input isn't a plane
-abbrev pub second_plane : SecondSource → ℕ
-second_plane (Plane c) = c
-second_plane other = 0
-
--- a step can run on planes with these descriptions, if the heights are at most `high`
-pub record Suits (tables : ℕ → Option ObjectValue) (high : ℕ) (s : Step) (first second out : Description) : Type 0 where
-  pub makes : CanMake s (blank_image first) (second_in tables (λ _. blank_image second) s.second) out
+-- a step can run on these whole images, if the heights are at most `high`
+pub record Suits (tables : ℕ → Option ObjectValue) (high : ℕ) (s : Step) (images : ℕ → ImageValue) : Type 0 where
+  pub makes : CanMake s (images s.first) (second_in tables images s.second) (description_of (own_by s.describes (images s.output)))
   pub table : (k : ℕ) → s.second ≡ Table k → IfSome (tables k) IsObject
-  pub near : Covers (step_radius s.node.function (matrix_in (second_in tables (λ _. blank_image second) s.second))) s.radius high
+  pub near : Covers (step_radius s.node.function (matrix_in (second_in tables images s.second))) s.radius high
+  pub tall : (c : ℕ) → ReadsPlane s c → (images c).height ≤ high
 
--- a step can run on the planes at its indices, if the heights are at most `high`
-abbrev pub SuitsPlanes : (ℕ → Option ObjectValue) → ℕ → Step → List PlaneValue → Type 0
-SuitsPlanes tables high s planes =
-    Suits tables high s (plane planes s.first).desc (plane planes (second_plane s.second)).desc (plane planes s.output).desc
+-- the description of a step's output
+abbrev pub output_desc : Step → List PlaneValue → Description
+output_desc s planes = unwrap_or s.describes (plane planes s.output).desc
 
 -- a step can write these rows of its output
-pub record CanStep (tables : ℕ → Option ObjectValue) (high : ℕ) (s : Step) (rows : Band) (planes : List PlaneValue) : Type 0 where
-  pub suits : SuitsPlanes tables high s planes
+pub record CanStep (tables : ℕ → Option ObjectValue) (s : Step) (rows : Band) (planes : List PlaneValue) : Type 0 where
+  pub makes : CanMake s (read_images planes s.first) (second_in tables (read_images planes) s.second) (output_desc s planes)
+  pub table : (k : ℕ) → s.second ≡ Table k → IfSome (tables k) IsObject
   pub output : s.output < length planes
-  pub reads : (c : ℕ) → ReadsPlane s c → (c < length planes) × (c ≢ s.output) × (s.takes ≢ Some c) × IsReadable (plane planes c)
-  pub within : IsInRows (plane planes s.output).desc.height rows
-  -- the block that the output takes has the output's format, and is large enough for the rows
-  pub block : (t : ℕ) → s.takes ≡ Some t →
-      (t < length planes) × ((plane planes t).format ≡ (plane planes s.output).desc.format) × (rows.count * (plane planes s.output).desc.width ≤ length (plane planes t).samples)
-  -- an output that takes no block has all rows
-  pub whole : s.takes ≡ None → IsWhole (plane planes s.output)
+  pub reads : (c : ℕ) → ReadsPlane s c → (c < length planes) × (c ≢ s.output) × IsReadable (plane planes c)
+  pub within : IsInRows (output_desc s planes).height rows
+  -- the plane of a virtual image has the image's format, and a block that is large enough
+  pub block : (d : Description) → s.describes ≡ Some d → ((plane planes s.output).format ≡ d.format) × (rows.count * d.width ≤ length (plane planes s.output).samples)
+  -- a client's image has all rows
+  pub whole : s.describes ≡ None → IsWhole (plane planes s.output)
 
 -- a step that reads these planes can write these rows of this output
 pub record CanWrite (tables : ℕ → Option ObjectValue) (s : Step) (rows : Band) (planes : List PlaneValue) (out : PlaneValue) : Type 0 where
@@ -152,26 +157,17 @@ pub record CanWrite (tables : ℕ → Option ObjectValue) (s : Step) (rows : Ban
 
 -- ---- effect on planes
 
--- the planes after plane c has taken the block of plane t, for rows from `top` on
-abbrev pub with_moved_block : ℕ → ℕ → ℕ → List PlaneValue → List PlaneValue
-with_moved_block t c top planes =
-    slice_set (slice_set planes t (without_block (plane planes t))) c
-    (with_block (plane planes t).format (plane planes t).samples top (plane (slice_set planes t (without_block (plane planes t))) c))
-
--- the planes after plane c has taken over a block, if it takes one
-abbrev pub with_output_block : Option ℕ → ℕ → ℕ → List PlaneValue → List PlaneValue
-with_output_block None c top planes = planes
-with_output_block (Some t) c top planes = with_moved_block t c top planes
-
--- the planes after these rows of the output are written
-abbrev pub with_output : (ℕ → Option ObjectValue) → Step → Band → List PlaneValue → List PlaneValue
-with_output tables s rows planes =
-    let out = plane planes s.output in
-    slice_set planes s.output (with_rows rows (rows_image tables s rows (read_images planes) out) out)
+-- the output's plane as a step begins to write rows from `top` on: if the output is a virtual
+-- image, the plane begins to hold it
+abbrev pub output_plane : Option Description → ℕ → PlaneValue → PlaneValue
+output_plane None top p = p
+output_plane (Some d) top p = with_description d top p
 
 -- the planes after a step has run on these rows of its output
 abbrev pub after_step : (ℕ → Option ObjectValue) → Step → Band → List PlaneValue → List PlaneValue
-after_step tables s rows planes = with_output tables s rows (with_output_block s.takes s.output rows.start planes)
+after_step tables s rows planes =
+    let out = output_plane s.describes rows.start (plane planes s.output) in
+    slice_set planes s.output (with_rows rows (rows_image tables s rows (read_images planes) out) out)
 
 -- the format and the number of samples of each plane's block
 abbrev pub capacities : List PlaneValue → List (Format × ℕ)
@@ -180,12 +176,3 @@ capacities planes = map (λ p. (p.format, length p.samples)) planes
 -- the format and the number of samples of one plane's block
 abbrev pub capacity : List (Format × ℕ) → ℕ → Format × ℕ
 capacity blocks c = slice_index_or blocks c (U8, 0)
-
--- the formats and sizes of all blocks after plane c has taken over a block, if it takes one
-abbrev pub blocks_with_move : Option ℕ → ℕ → List (Format × ℕ) → List (Format × ℕ)
-blocks_with_move None c blocks = blocks
-blocks_with_move (Some t) c blocks = slice_set (slice_set blocks t ((capacity blocks t).0, 0)) c (capacity blocks t)
-
--- the formats and sizes of all blocks after a step
-abbrev pub blocks_after_step : Step → List (Format × ℕ) → List (Format × ℕ)
-blocks_after_step s blocks = blocks_with_move s.takes s.output blocks

@@ -15,7 +15,7 @@ use Rattle.graph_steps.specs.declared.step.Task.TheVariants.{Write, Reduce}
 use Rattle.graph_steps.specs.declared.tally.Tally.{Tally}
 use Rattle.graph_steps.specs.declared.tally.Tally.TheVariants as tally
 use Rattle.graph_steps.specs.Planes.{PlaneValue, plane, plane_image, with_halo}
-use Rattle.graph_steps.specs.Program.{Reduces, after_task}
+use Rattle.graph_steps.specs.Program.{Reduces, after_task, images_after}
 
 -- ---- one tally
 
@@ -76,10 +76,10 @@ tallies_after rows (Write s) planes tallies = tallies
 tallies_after rows (Reduce r) planes tallies = after_reduction rows planes r tallies
 
 -- the tallies after all tasks on a band, in order
-abbrev pub all_tallies_after : (ℕ → Option ObjectValue) → List ℕ → Band → List Task → List PlaneValue → List Tally → List Tally
-all_tallies_after tables halos rows [] planes tallies = tallies
-all_tallies_after tables halos rows (t ∷ later) planes tallies =
-    all_tallies_after tables halos rows later (after_task tables halos rows t planes) (tallies_after rows t planes tallies)
+abbrev pub all_tallies_after : (ℕ → Option ObjectValue) → Band → List Task → List PlaneValue → List Tally → List Tally
+all_tallies_after tables rows [] planes tallies = tallies
+all_tallies_after tables rows (t ∷ later) planes tallies =
+    all_tallies_after tables rows later (after_task tables rows t planes) (tallies_after rows t planes tallies)
 
 -- no two reductions share a tally
 abbrev pub HaveOneReduction : List Task → Type 0
@@ -87,9 +87,25 @@ HaveOneReduction [] = Unit {0}
 HaveOneReduction (Write s ∷ later) = HaveOneReduction later
 HaveOneReduction (Reduce r ∷ later) = ((q : Reduction) → Reduces q later → q.tally ≢ r.tally) × HaveOneReduction later
 
--- a reduction can continue with the rows from `first` on
-pub record CanReduce (first : ℕ) (planes : List PlaneValue) (tallies : List Tally) (r : Reduction) : Type 0 where
-  pub input : r.input < length planes
+-- a reduction can add rows of this image, from row `first` on
+pub record CanReduce (first : ℕ) (image : ImageValue) (tallies : List Tally) (r : Reduction) : Type 0 where
   pub tally : r.tally < length tallies
-  pub format : TakesFormat (plane planes r.input).desc.format (tally_at tallies r.tally)
+  pub format : TakesFormat image.format (tally_at tallies r.tally)
   pub bounded : IsBounded (first * 8192) (tally_at tallies r.tally)
+
+-- each reduction can add rows of the whole image that it meets, from row `first` on
+abbrev pub ReduceInTurn : (ℕ → Option ObjectValue) → ℕ → List Task → (ℕ → ImageValue) → List Tally → Type 0
+ReduceInTurn tables first [] images tallies = Unit {0}
+ReduceInTurn tables first (Write s ∷ later) images tallies = ReduceInTurn tables first later (images_after tables (Write s) images) tallies
+ReduceInTurn tables first (Reduce r ∷ later) images tallies = CanReduce first (images r.input) tallies r × ReduceInTurn tables first later images tallies
+
+-- the tally of each reduction is new
+abbrev pub AreNew : List Task → List Tally → Type 0
+AreNew tasks tallies = (r : Reduction) → Reduces r tasks → IsNew (tally_at tallies r.tally)
+
+-- each reduction has made its tally of the whole image that it meets
+abbrev pub AreTallied : (ℕ → Option ObjectValue) → List Task → (ℕ → ImageValue) → List Tally → List Tally → Type 0
+AreTallied tables [] images old tallies = Unit {0}
+AreTallied tables (Write s ∷ later) images old tallies = AreTallied tables later (images_after tables (Write s) images) old tallies
+AreTallied tables (Reduce r ∷ later) images old tallies =
+    (tally_at tallies r.tally ≡ tally_of (images r.input) (tally_at old r.tally)) × AreTallied tables later images old tallies

@@ -1,73 +1,79 @@
-//! Halos: the rows of each plane that are needed above and below a band.
-ghost use Rattle.std.specs.Prelude.{◌≡◌, ◌<◌, ◌≤◌, ◌+◌, ℕ, min, max, length, slice_set};
-ghost use Rattle.graph_steps.specs.declared.step.Step.{Step as StepValue};
-ghost use Rattle.graph_steps.specs.declared.step.Task.TheVariants.{Write};
+//! Halos: the rows of each step's output that later tasks need above and below a band.
+ghost use Rattle.std.specs.Prelude.{◌≡◌, ◌≢◌, ◌<◌, ◌≤◌, ◌+◌, ◌∷◌, ℕ, List, min, max, length};
+ghost use Rattle.std.specs.Prelude.{map, slice_set, All};
+ghost use Rattle.graph_steps.specs.declared.step.Task.{Task as TaskValue};
+ghost use Rattle.graph_steps.specs.Halos.{Cover, NamesBelow, need, without_halo};
 ghost use Rattle.graph_steps.specs.Steps.{ReadsPlane};
-ghost use Rattle.graph_steps.specs.Program.{IsStepOf, AreInOrder, halo, Suffice, IsUnread};
+ghost use Rattle.graph_steps.specs.Program.{AreEnough};
 
 use crate::step::{SecondSource, Step, Task};
 
-/// Raises the halo of a plane to at least `rows`.
-fn raise(halos: &mut [u16], at: usize, rows: u16)
-    requires { at < length halos.old }
-    ensures { halos.new ≡ slice_set halos.old at (max (halo halos.old at) rows) }
+/// Raises the number of rows that are needed of a plane to at least `rows`.
+fn raise(needs: &mut [u16], at: usize, rows: u16)
+    requires { at < length needs.old }
+    ensures { needs.new ≡ slice_set needs.old at (max (need needs.old at) rows) }
 {
-    halos[at] = halos[at].max(rows);
+    needs[at] = needs[at].max(rows);
 }
 
-/// Raises the halo of each of a step's inputs to at least the output's halo plus the step's radius.
-/// The sum is limited to `high`.
-fn raise_inputs(step: &Step, high: u16, halos: &mut [u16])
-    requires reads { (c : ℕ) → ReadsPlane step.now c → c < length halos.old }
-    requires output { step.now.output < length halos.old }
-    ensures grows { (c : ℕ) → halo halos.old c ≤ halo halos.new c }
+/// Raises the number of rows that are needed of each of a step's inputs to at least the step's halo
+/// plus its radius. The sum is limited to `high`.
+fn raise_inputs(step: &Step, high: u16, needs: &mut [u16])
+    requires { (c : ℕ) → ReadsPlane step.now c → c < length needs.old }
+    ensures grows { (c : ℕ) → need needs.old c ≤ need needs.new c }
     ensures enough { (c : ℕ) → ReadsPlane step.now c →
-        min high (halo halos.old step.now.output + step.now.radius) ≤ halo halos.new c }
-    ensures within { (c : ℕ) → halo halos.old c ≤ high → halo halos.new c ≤ high }
-    ensures others { (c : ℕ) → (ReadsPlane step.now c → ⊥) → halo halos.new c ≡ halo halos.old c }
-    ensures len { length halos.new ≡ length halos.old }
+        min high (step.now.halo + step.now.radius) ≤ need needs.new c }
+    ensures len { length needs.new ≡ length needs.old }
 {
-    let rows = halos[step.output].saturating_add(step.radius).min(high);
-    raise(halos, step.first, rows);
+    let rows = step.halo.saturating_add(step.radius).min(high);
+    raise(needs, step.first, rows);
     if let SecondSource::Plane(second) = step.second {
-        raise(halos, second, rows);
+        raise(needs, second, rows);
     }
 }
 
-/// Raises the halos of a task's inputs. A reduction needs no halo: it reads only the rows of the
-/// band.
-fn raise_for(task: &Task, high: u16, halos: &mut [u16])
-    requires reads { (s : StepValue) → task.now ≡ Write s → (c : ℕ) → ReadsPlane s c →
-        c < length halos.old }
-    requires output { (s : StepValue) → task.now ≡ Write s → s.output < length halos.old }
-    ensures grows { (c : ℕ) → halo halos.old c ≤ halo halos.new c }
-    ensures enough { (s : StepValue) → task.now ≡ Write s → (c : ℕ) → ReadsPlane s c →
-        min high (halo halos.old s.output + s.radius) ≤ halo halos.new c }
-    ensures within { (c : ℕ) → halo halos.old c ≤ high → halo halos.new c ≤ high }
-    ensures others { (c : ℕ) → ((s : StepValue) → task.now ≡ Write s → ReadsPlane s c → ⊥) →
-        halo halos.new c ≡ halo halos.old c }
-    ensures len { length halos.new ≡ length halos.old }
+/// Returns the step with the halo that later tasks need. Afterwards `needs` has the rows that this
+/// step and the later tasks need: none of the output, which isn't written yet.
+fn find_halo(mut step: Step, high: u16, needs: &mut [u16]) -> Step
+    requires reads { (c : ℕ) → ReadsPlane step c → c < length needs.old }
+    requires output { step.output < length needs.old }
+    ensures step { result ≡ record step { halo = need needs.old step.output } }
+    ensures grows { (c : ℕ) → c ≢ step.output → need needs.old c ≤ need needs.new c }
+    ensures enough { (c : ℕ) → ReadsPlane result c →
+        min high (result.halo + result.radius) ≤ need needs.new c }
+    ensures len { length needs.new ≡ length needs.old }
+{
+    step.halo = needs[step.output];
+    needs[step.output] = 0;
+    raise_inputs(&step, high, needs);
+    step
+}
+
+/// Finds the halo of a task. `needs` has the rows that the later tasks need of each plane, and
+/// afterwards also those that this task needs.
+fn find_task_halo(task: Task, high: u16, needs: &mut [u16]) -> Task
+    requires { NamesBelow (length needs.old) task }
+    ensures same { without_halo result ≡ without_halo task }
+    ensures more { (later : List TaskValue) → AreEnough high later → Cover high later needs.old →
+        AreEnough high (result ∷ later) × Cover high (result ∷ later) needs.new }
+    ensures len { length needs.new ≡ length needs.old }
 {
     match task {
-        Task::Write(step) => raise_inputs(step, high, halos),
-        Task::Reduce(_) => {}
+        Task::Write(step) => Task::Write(find_halo(step, high, needs)),
+        Task::Reduce(reduction) => Task::Reduce(reduction),
     }
 }
 
-/// Computes the halo of each plane, going from the last task back to the first. No halo exceeds
-/// `high`, the height of the tallest image.
-pub fn find_halos(high: u16, tasks: &[Task], halos: &mut [u16])
-    requires order { AreInOrder tasks.now }
-    requires reads { (s : StepValue) → IsStepOf s tasks.now → (c : ℕ) → ReadsPlane s c →
-        c < length halos.old }
-    requires output { (s : StepValue) → IsStepOf s tasks.now → s.output < length halos.old }
-    ensures enough { Suffice high halos.new tasks.now }
-    ensures within { (c : ℕ) → halo halos.new c ≤ high }
-    ensures unread { (c : ℕ) → IsUnread tasks.now c → halo halos.new c ≡ 0 }
-    ensures len { length halos.new ≡ length halos.old }
+/// Finds the halo of each step, from the last task back to the first. A need of rows is limited to
+/// `high`, the height of the tallest image. `needs` has room for a number for each plane.
+pub fn find_halos(high: u16, tasks: &mut [Task], needs: &mut [u16])
+    requires { All (NamesBelow (length needs.old)) tasks.old }
+    ensures enough { AreEnough high tasks.new }
+    ensures same { map without_halo tasks.new ≡ map without_halo tasks.old }
 {
-    halos.fill(0);
+    needs.fill(0);
     for k in 0..tasks.len() {
-        raise_for(&tasks[tasks.len() - 1 - k], high, halos);
+        let at = tasks.len() - 1 - k;
+        tasks[at] = find_task_halo(tasks[at], high, needs);
     }
 }

@@ -1,29 +1,15 @@
 //! Runs one step on some rows.
-ghost use Rattle.std.specs.Prelude.{◌≡◌, ◌<◌, ℕ, length, Some};
+ghost use Rattle.std.specs.Prelude.{◌≡◌, ◌<◌, ℕ, length, slice_set};
 ghost use Rattle.image_core.specs.Second.{second_object};
 ghost use Rattle.graph_steps.specs.declared.step.SecondSource.TheVariants.{Plane as FromPlane};
-ghost use Rattle.graph_steps.specs.Planes.{plane, read_images, IsReadable};
-ghost use Rattle.graph_steps.specs.Steps.{CanStep, after_step, second_in};
-ghost use Rattle.graph_steps.specs.Steps.{with_output_block};
+ghost use Rattle.graph_steps.specs.Planes.{plane, read_images, IsReadable, without_block};
+ghost use Rattle.graph_steps.specs.Steps.{CanStep, after_step, output_plane, second_in};
 
 use crate::kernel::Kernel;
 use crate::plane::Plane;
 use crate::step::{SecondSource, Step};
 use crate::tables::Tables;
 use image_core::{Band, SecondInput};
-
-/// Gives the step's output the block that it takes over, if any. The block then begins with row
-/// `top`.
-fn make_ready(step: &Step, top: u16, planes: &mut [Plane])
-    requires from { (t : ℕ) → step.now.takes ≡ Some t → t < length planes.old }
-    requires to { step.now.output < length planes.old }
-    ensures { planes.new ≡ with_output_block step.now.takes step.now.output top planes.old }
-{
-    if let Some(from) = step.takes {
-        let block = planes[from].give();
-        planes[step.output].take(block, top);
-    }
-}
 
 /// Returns a step's second input.
 fn second_input<'a, T: Tables>(
@@ -43,13 +29,28 @@ fn second_input<'a, T: Tables>(
     }
 }
 
+/// Takes the output out of the planes, so that it can be written while the planes are read. If the
+/// output is a virtual image, its plane begins to hold it, with a block that begins with row `top`.
+fn take_output(step: &Step, top: u16, planes: &mut [Plane]) -> Plane
+    requires { step.now.output < length planes.old }
+    ensures value { result
+        ≡ output_plane step.now.describes top (plane planes.old step.now.output) }
+    ensures left { planes.new ≡ slice_set planes.old step.now.output
+        (without_block (plane planes.old step.now.output)) }
+{
+    let mut output = planes[step.output].take_out();
+    if let Some(desc) = step.describes {
+        output.describe(desc, top);
+    }
+    output
+}
+
 /// Runs a step on these rows of its output.
 pub fn run_step<T: Tables>(tables: &T, step: &Step, rows: Band, planes: &mut [Plane])
-    requires { (high : ℕ) × CanStep (T.tables tables.now) high step.now rows planes.old }
+    requires { CanStep (T.tables tables.now) step.now rows planes.old }
     ensures { planes.new ≡ after_step (T.tables tables.now) step.now rows planes.old }
 {
-    make_ready(step, rows.start, planes);
-    let mut output = planes[step.output].take_out();
+    let mut output = take_output(step, rows.start, planes);
     let inputs: &[Plane] = planes;
     let first = inputs[step.first].image();
     if step.is_integral() {

@@ -6,7 +6,7 @@ ghost use Rattle.vx_base.specs.Rectangle.{IsWithin};
 ghost use Rattle.image_core.specs.Bands.{IsInRows};
 ghost use Rattle.image_core.specs.Second.{second_object};
 ghost use Rattle.graph_steps.specs.Planes.{plane_image, with_read_rows, with_rows, whole_plane};
-ghost use Rattle.graph_steps.specs.Planes.{virtual_plane, with_block, without_block, with_halo};
+ghost use Rattle.graph_steps.specs.Planes.{slot_plane, with_description, without_block, with_halo};
 ghost use Rattle.graph_steps.specs.Planes.{IsReadable};
 ghost use Rattle.graph_steps.specs.Steps.{CanMake, kernel_image, scan_image};
 
@@ -14,7 +14,7 @@ use crate::kernel::Kernel;
 use crate::rows::{RowSample, read_rows, write_sums};
 use image_core::{Band, Image};
 use std::marker::Model;
-use vx_base::{Desc, Rect, Samples};
+use vx_base::{Desc, Format, Rect, Samples};
 
 /// An image while a graph runs: the description and the valid rectangle of the whole image, and a
 /// block that holds some or all of its rows.
@@ -59,12 +59,12 @@ impl Plane {
         }
     }
 
-    /// Returns the plane of a virtual image, of which no row is written yet.
-    pub fn of_block(desc: Desc, samples: Samples) -> Plane
-        ensures { result ≡ virtual_plane desc samples }
+    /// Returns the plane of a slot with this block, which holds no virtual image yet.
+    pub fn of_block(samples: Samples) -> Plane
+        ensures { result ≡ slot_plane samples }
     {
         Plane {
-            desc,
+            desc: Desc::with_sides(1, 1, Format::U8),
             valid: Rect::empty(),
             top: 0,
             rows: Band { start: 0, count: 0 },
@@ -95,13 +95,14 @@ impl Plane {
         self.samples.take()
     }
 
-    /// Puts a block into the plane, for rows from `top` on. The valid rectangle becomes empty.
-    pub fn take(&mut self, samples: Samples, top: u16)
-        ensures { self.new ≡ with_block (samples_format samples) (values samples) top self.old }
+    /// Has the plane hold a virtual image with this description, in a block that begins with row
+    /// `top`. The valid rectangle becomes empty.
+    pub fn describe(&mut self, desc: Desc, top: u16)
+        ensures { self.new ≡ with_description desc top self.old }
     {
-        self.samples = samples;
-        self.top = top;
+        self.desc = desc;
         self.valid = Rect::empty();
+        self.top = top;
     }
 
     /// Returns a copy of the plane, and moves the block to the copy. The copy can then be written
@@ -116,20 +117,6 @@ impl Plane {
             top: self.top,
             rows: self.rows,
             samples: self.samples.take(),
-        }
-    }
-
-    /// Returns the band with a halo above and below, clipped to the image.
-    pub fn with_halo(&self, band: Band, halo: u16) -> Band
-        requires { band.start + band.count < 2 ^ 16 }
-        ensures { result ≡ with_halo halo self.now.desc.height band }
-    {
-        let height = self.desc.height();
-        let start = band.start.saturating_sub(halo).min(height);
-        let end = (band.start + band.count).saturating_add(halo).min(height);
-        Band {
-            start,
-            count: end - start,
         }
     }
 
@@ -198,5 +185,18 @@ impl Plane {
             Samples::U32(samples) => write_sums(width, top, band, image, samples.as_mut_slice()),
             _ => unreachable!(),
         }
+    }
+}
+
+/// Returns the band with a halo above and below, clipped to an image of this height.
+pub fn with_halo(height: u16, band: Band, halo: u16) -> Band
+    requires { band.start + band.count < 2 ^ 16 }
+    ensures { result ≡ with_halo halo height band }
+{
+    let start = band.start.saturating_sub(halo).min(height);
+    let end = (band.start + band.count).saturating_add(halo).min(height);
+    Band {
+        start,
+        count: end - start,
     }
 }

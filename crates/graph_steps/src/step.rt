@@ -4,7 +4,7 @@ ghost use Rattle.std.specs.Option.{option_copied};
 ghost use Rattle.graph_steps.specs.Steps.{is_integral, lent_step, reads_output, step_radius};
 
 use node_rows::window_radius;
-use vx_base::{Convolution, Function, Node, Output};
+use vx_base::{Convolution, Desc, Function, Node, Output};
 
 /// The source of a step's second input.
 #[derive(Clone, Copy, Debug)]
@@ -28,12 +28,15 @@ pub struct Step {
     pub second: SecondSource,
     /// The index of the output's plane.
     pub output: usize,
-    /// The index of the plane whose block the output takes over; this may be the output's own
-    /// plane. `None` if the output is a client's image, whose block has all rows.
-    pub takes: Option<usize>,
+    /// The description of the virtual image that the step writes: the plane of a slot then holds
+    /// this image. `None` if the output is a client's image, which has a plane of its own.
+    pub describes: Option<Desc>,
     /// The number of input rows that the step reads above an output row. It reads the same number
     /// of rows below.
     pub radius: u16,
+    /// The number of rows that the step writes above a band, because later tasks need them. It
+    /// writes the same number of rows below.
+    pub halo: u16,
 }
 
 /// Returns the radius of a step: the number of input rows that the step reads above an output row.
@@ -67,8 +70,9 @@ impl Step {
             first: 0,
             second: SecondSource::Nothing,
             output: 0,
-            takes: None,
+            describes: None,
             radius: 0,
+            halo: 0,
         }
     }
 

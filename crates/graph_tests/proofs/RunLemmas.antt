@@ -1,22 +1,21 @@
 -- Small contexts in which nodes of Not run.
-use Rattle.std.proofs.Common.{◌≡◌, ◌∙◌, ℕ, zero, suc, ◌+◌, ◌<◌, List, [], ◌∷◌, map, Some, None, refl, ap, arith, rules, All, IsTrue, is_some, slice_index}
+use Rattle.std.proofs.Common.{◌≡◌, ◌∙◌, ℕ, zero, suc, ◌+◌, ◌<◌, List, [], ◌∷◌, map, Some, None, refl, ap, arith, rules, All, slice_index}
 use Rattle.std.specs.List.Sorted.{IsStrictlyIncreasing}
 use Rattle.std.proofs.lemmas.List.Elements.{All-nil, All-cons}
 use Rattle.vx_base.specs.declared.format.Format.TheVariants.{U8}
 use Rattle.vx_base.specs.declared.function.Function.TheVariants.{NotBits}
-use Rattle.vx_base.specs.declared.kind.Kind.{Kind}
 use Rattle.vx_base.specs.declared.kind.Kind.TheVariants as kind
 use Rattle.vx_base.specs.declared.node.Node.{Node}
 use Rattle.vx_base.specs.declared.numbered.Numbered.{Numbered}
 use Rattle.vx_base.specs.declared.partial_desc.PartialDesc.{PartialDesc}
-use Rattle.vx_base.specs.Reference.{Reference, reference_to}
+use Rattle.vx_base.specs.Reference.{reference_to}
 use Rattle.vx_base.specs.Description.{Description}
 use Rattle.vx_base.specs.Graph.{GraphValue, IsGraph, new_graph, with_node}
 use Rattle.vx_base.specs.Image.{ImageValue, IsImage, description_of}
-use Rattle.vx_base.specs.Node.{IsNode, operands}
+use Rattle.vx_base.specs.Node.{IsNode}
 use Rattle.vx_base.specs.Object.{ImageObject, GraphObject, IsObject}
 use Rattle.vx_base.specs.PartialDescription.{IsPartialDescription}
-use Rattle.object_table.specs.Context.{Context, object_named, new_context, with_new, with_objects, with_graph}
+use Rattle.object_table.specs.Context.{Context, new_context, with_new, with_objects, with_graph}
 use Rattle.object_table.specs.NamedObject.{NamedObject}
 use Rattle.object_table.specs.Table.{graph_under}
 use Rattle.graph_verify.specs.declared.operand.Operand.TheVariants.{Image}
@@ -48,13 +47,6 @@ small = record { width = 2; height = 1; format = U8 }
 
 abbrev to : Description → Description → Operands
 to first out = record { in1 = Image first; in2 = None; out1 = Some (Image out); out2 = None }
-
--- the names of a node's operands are live
-abbrev pub AreLive : List NamedObject → Node → Type 0
-AreLive objects n = All (λ operand. IsTrue (is_some (object_named objects operand.0.name))) (operands n)
-
-pub both_live : (a b : ImageValue) → AreLive (images a b) (not_to 1 2)
-both_live a b = all_two (λ (operand : Reference × Kind). IsTrue (is_some (object_named (images a b) operand.0.name))) (reference_to 1, kind.Image) (reference_to 2, kind.Image) refl refl
 
 pub runs_now : (a b : ImageValue) → description_of a ≡ small → description_of b ≡ small → CanRunNow (images a b) (not_to 1 2)
 runs_now a b first out =

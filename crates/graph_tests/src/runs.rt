@@ -11,7 +11,7 @@ use crate::cells::holds;
 use crate::graphs::{is_graph, not};
 use crate::tables::hold;
 use buffer_plan::Plan;
-use graph_run::{lend_outputs, operand_in, operand_of, run, run_lent, verify_in};
+use graph_run::{operand_in, operand_of, run, run_once, verify_in};
 use graph_steps::{Kernel, Step};
 use graph_verify::{Graph, Operand};
 use image_core::{ImageMut, SecondInput};
@@ -88,8 +88,7 @@ fn run_not(table: &mut Table, input: Stored, output: Stored) -> Result<(), Fail>
     hold(table, Content::Image(input))?;
     hold(table, Content::Image(output))?;
     let node = not(1, 2)?.node();
-    let planes = lend_outputs(table, &node);
-    run_lent(table, &node, planes);
+    run_once(table, &node);
     Ok(())
 }
 

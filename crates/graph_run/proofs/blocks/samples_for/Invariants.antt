@@ -1,8 +1,9 @@
-use Rattle.std.proofs.Common.{◌≡◌, drop, max}
-use Rattle.graph_run.specs.Blocks.{samples_from}
+use Rattle.std.proofs.Common.{◌≡◌, max, length}
+use Rattle.graph_run.specs.Blocks.{samples_for}
 use Rattle.graph_run.proofs.blocks.samples_for.Given as goal
 
-abbrev pub invariant-loop-k : goal.invariant-loop-k
-invariant-loop-k l =
-    max l.most (samples_from l.demand.size l.demand.halos.now l.k (drop l.k l.demand.images.now) (drop l.k l.demand.slots.now) l.wanted)
-    ≡ samples_from l.demand.size l.demand.halos.now 0 l.demand.images.now l.demand.slots.now l.wanted
+abbrev pub invariant-loop-task : goal.invariant-loop-task
+invariant-loop-task l = max l.most (samples_for l.size l.slot l.rest) ≡ samples_for l.size l.slot l.tasks
+
+abbrev pub decreases-loop-task : goal.decreases-loop-task
+decreases-loop-task l = length l.rest

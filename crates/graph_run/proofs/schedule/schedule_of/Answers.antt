@@ -1,48 +1,59 @@
-use Rattle.std.proofs.Common.{◌≡◌, ◌≤◌, ℕ, List, length, drop, ap, sym, subst, ◌∙◌, arith, All}
+use Rattle.std.proofs.Common.{◌≡◌, ◌≤◌, ◌<◌, ◌^◌, List, length, drop, map, ap, sym, subst, ◌∙◌, arith, All}
 use Rattle.graph_run.proofs.Common.{Reference, VirtualOutput, image_held, planned_capacities, plan_view}
 use Rattle.graph_steps.specs.declared.step.Task.{Task}
-use Rattle.graph_steps.specs.Program.{Suffice}
+use Rattle.graph_steps.specs.Halos.{without_halo}
+use Rattle.graph_steps.specs.Program.{AreEnough}
 use Rattle.graph_run.specs.Bind.{HoldImages}
 use Rattle.graph_run.specs.Blocks.{band_plan}
-use Rattle.graph_run.specs.Program.{AddOnce, client_cells, radius_of}
+use Rattle.graph_run.specs.Program.{AddOnce, radius_of}
 use Rattle.graph_run.specs.Results.{tally_cells}
-use Rattle.graph_run.specs.Tasks.{graph_cells}
+use Rattle.graph_run.specs.Tasks.{virtual_description, graph_cells, graph_plane}
+use Rattle.graph_run.proofs.BlockLemmas.{written_back}
 use Rattle.graph_run.proofs.ReadyLemmas.{clients_hold}
-use Rattle.graph_run.proofs.ScheduleLemmas.{in_order, same_tasks, within}
+use Rattle.graph_run.proofs.ScheduleLemmas.{indices_fit, planes_fit, same_tasks, tasks_bare, tasks_low, virtuals_below}
 use Rattle.graph_run.proofs.schedule.schedule_of.Goals as goal
+
+-- references to the client's images, as a part of the cells
+clients_taken : (outs images : List VirtualOutput) (cells all clients : List Reference) → images ≡ outs → all ≡ cells → clients ≡ drop (length images) all → clients ≡ drop (length outs) cells
+clients_taken outs images cells all clients images_are all_are are = are ∙ ap (λ (l : List VirtualOutput). drop (length l) all) images_are ∙ ap (drop (length outs)) all_are
+
+pub clients_of-clients-requires : goal.clients_of-clients-requires
+clients_of-clients-requires c =
+    let v = c.args.verified.now in
+    omega (arith, ap length c.virtual_outputs-images.ensures, ap length c.deref.ensures.value, ap length c.in_ok-cells.ensures, virtuals_below v.steps v.virtual_outputs)
 
 pub high_of-high-requires : goal.high_of-high-requires
 high_of-high-requires c =
     let v = c.args.verified.now in
-    let outs = v.virtual_outputs in
-    let same : c.clients_of.result.now ≡ client_cells v.steps outs =
-    c.clients_of.ensures ∙ ap (λ (l : List Reference). drop (length c.virtual_outputs-images.result.now) l) (c.deref.ensures.value ∙ c.in_ok-cells.ensures)
-    ∙ ap (λ l. drop (length l) (graph_cells v.steps outs)) c.virtual_outputs-images.ensures
-    in
-    subst (HoldImages c.args.table.now.objects) (sym same) (clients_hold c.args.table.now.objects c.requires.ready.0 v c.requires.ready.1 (plan_view c.args.plan.now) c.requires.plan)
+    let clients = clients_taken v.virtual_outputs _ (graph_cells v.steps v.virtual_outputs) _ _ c.virtual_outputs-images.ensures (c.deref.ensures.value ∙ c.in_ok-cells.ensures) c.clients_of-clients.ensures in
+    subst (HoldImages c.args.table.now.objects) (sym clients) (clients_hold c.args.table.now.objects c.requires.ready.0 v c.requires.ready.1 (plan_view c.args.plan.now) c.requires.plan)
 
-pub halos_of-requires-clause-order : goal.halos_of-requires-clause-order
-halos_of-requires-clause-order c =
+pub slot_total-requires : goal.slot_total-requires
+slot_total-requires c =
     let v = c.args.verified.now in
-    in_order _ _ _ c.requires.ready.1 _ c.requires.plan _ _ _ _ (c.deref-2.ensures.value ∙ c.in_ok-cells.ensures) (c.deref-3.ensures.value ∙ c.in_ok-slots.ensures)
-    (c.deref-4.ensures.value ∙ c.in_ok-tasks.ensures)
+    omega (arith, planes_fit v.steps v.virtual_outputs (plan_view c.args.plan.now) c.requires.plan, ap length c.in_ok-cells.ensures, c.in_ok-cells.cells.ok, c.in_ok-cells.cells.small)
 
-pub halos_of-requires-clause-reads : goal.halos_of-requires-clause-reads
-halos_of-requires-clause-reads c = λ s i k read.
+pub tasks_of-requires : goal.tasks_of-requires
+tasks_of-requires c =
     let v = c.args.verified.now in
-    let names = within _ _ _ c.requires.ready.1 _ c.requires.plan _ _ _ _ (c.deref-2.ensures.value ∙ c.in_ok-cells.ensures) (c.deref-3.ensures.value ∙ c.in_ok-slots.ensures)
-    (c.deref-4.ensures.value ∙ c.in_ok-tasks.ensures) s i
-    in
-    let below = names.reads k read in
-    omega (arith, below.0, c.deref-2.ensures.len, c.len.ensures)
+    let p = plan_view c.args.plan.now in
+    let clients = clients_taken v.virtual_outputs _ (graph_cells v.steps v.virtual_outputs) _ _ c.virtual_outputs-images.ensures (c.deref.ensures.value ∙ c.in_ok-cells.ensures) c.clients_of-clients.ensures in
+    let few : length (graph_cells v.steps v.virtual_outputs) < 2 ^ 64 = omega (arith, ap length c.in_ok-cells.ensures, c.in_ok-cells.cells.ok, c.in_ok-cells.cells.small) in
+    rw (c.virtual_outputs-images.ensures, c.slot_total.ensures, clients) (indices_fit v.steps v.virtual_outputs p c.requires.plan few)
 
-pub halos_of-requires-clause-output : goal.halos_of-requires-clause-output
-halos_of-requires-clause-output c = λ s i.
+pub overflow_add-count : goal.overflow_add-count
+overflow_add-count c =
     let v = c.args.verified.now in
-    let names = within _ _ _ c.requires.ready.1 _ c.requires.plan _ _ _ _ (c.deref-2.ensures.value ∙ c.in_ok-cells.ensures) (c.deref-3.ensures.value ∙ c.in_ok-slots.ensures)
-    (c.deref-4.ensures.value ∙ c.in_ok-tasks.ensures) s i
-    in
-    omega (arith, names.output, c.deref-2.ensures.len, c.len.ensures)
+    let clients = clients_taken v.virtual_outputs _ (graph_cells v.steps v.virtual_outputs) _ _ c.virtual_outputs-images.ensures (c.deref.ensures.value ∙ c.in_ok-cells.ensures) c.clients_of-clients.ensures in
+    omega (arith, planes_fit v.steps v.virtual_outputs (plan_view c.args.plan.now) c.requires.plan, ap length c.in_ok-cells.ensures, c.in_ok-cells.cells.ok, c.in_ok-cells.cells.small, c.slot_total.ensures, ap length clients)
+
+pub find_all_halos-requires : goal.find_all_halos-requires
+find_all_halos-requires c =
+    let v = c.args.verified.now in
+    let p = plan_view c.args.plan.now in
+    let clients = clients_taken v.virtual_outputs _ (graph_cells v.steps v.virtual_outputs) _ _ c.virtual_outputs-images.ensures (c.deref.ensures.value ∙ c.in_ok-cells.ensures) c.clients_of-clients.ensures in
+    let tasks = c.as_mut_slice.ensures.value ∙ same_tasks c.args.table.now.objects c.high_of-high.result p _ v.virtual_outputs _ _ _ v.steps _ c.virtual_outputs-images.ensures c.slot_total.ensures clients c.steps.ensures.steps c.in_ok-tasks.ensures in
+    rw (tasks, c.slot_total.ensures, clients) (tasks_low v.steps v.virtual_outputs p c.requires.plan (radius_of c.args.table.now.objects c.high_of-high.result))
 
 pub returns : goal.returns
 returns c =
@@ -52,28 +63,20 @@ returns c =
     let objects = c.args.table.now.objects in
     let high = c.high_of-high.result in
     let size = c.band_size-size.result in
-    let halos = c.in_ok-halos.halos.items in
-    let slots = c.in_ok-slots.slots.items in
-    let radius = radius_of objects high in
-    let clients : c.clients_of.result.now ≡ client_cells v.steps outs =
-    c.clients_of.ensures ∙ ap (λ (l : List Reference). drop (length c.virtual_outputs-images.result.now) l) (c.deref.ensures.value ∙ c.in_ok-cells.ensures)
-    ∙ ap (λ l. drop (length l) (graph_cells v.steps outs)) c.virtual_outputs-images.ensures
-    in
+    let tasks = c.find_all_halos.new.tasks in
+    let clients = clients_taken v.virtual_outputs _ (graph_cells v.steps v.virtual_outputs) _ _ c.virtual_outputs-images.ensures (c.deref.ensures.value ∙ c.in_ok-cells.ensures) c.clients_of-clients.ensures in
+    let given = same_tasks c.args.table.now.objects c.high_of-high.result p _ v.virtual_outputs _ _ _ v.steps _ c.virtual_outputs-images.ensures c.slot_total.ensures clients c.steps.ensures.steps c.in_ok-tasks.ensures in
+    let back = written_back c.in_ok-tasks.tasks.items tasks c.in_ok-tasks.tasks.len (omega (arith, c.find_all_halos.auto.tasks, ap length c.as_mut_slice.ensures.value)) (omega (arith, c.in_ok-tasks.tasks.ok)) in
     record {
       cells = c.in_ok-cells.ensures;
-      slots = c.in_ok-slots.ensures;
-      tasks = same_tasks _ _ _ c.requires.ready.1 _ c.requires.plan _ _ _ _ (c.deref-2.ensures.value ∙ c.in_ok-cells.ensures) (c.deref-3.ensures.value ∙ c.in_ok-slots.ensures) c.in_ok-tasks.ensures;
-      halo_count = omega (arith, c.in_ok-halos.ensures.count, c.len.ensures, c.in_ok-cells.cells.ok.0, ap length c.in_ok-cells.ensures);
-      enough = subst (λ (l : List Task). Suffice high halos l) c.deref-4.ensures.value c.in_ok-halos.ensures.enough;
+      tasks = ap (map without_halo) back ∙ c.in_ok-needs.ensures.same ∙ ap (map without_halo) (c.as_mut_slice.ensures.value ∙ given)
+          ∙ tasks_bare (graph_plane v.steps outs p) (virtual_description outs) (radius_of objects high) v.steps 0 0;
+      enough = subst (AreEnough high) (sym back) c.in_ok-needs.ensures.enough;
       some = c.high_of-high.ensures.some;
       forward = c.band_size-size.ensures.forward;
-      capacities = c.in_ok-capacities.ensures
-          ∙ ap (λ (l : List ℕ). planned_capacities (band_plan size l c.virtual_outputs-images.result.now c.deref-8.result.now p)) c.deref-7.ensures.value
-          ∙ ap (λ (l : List VirtualOutput). planned_capacities (band_plan size halos l c.deref-8.result.now p)) c.virtual_outputs-images.ensures
-          ∙ ap (λ (l : List ℕ). planned_capacities (band_plan size halos outs l p)) c.deref-8.ensures.value;
-      once = subst (λ (l : List Task). AddOnce high size halos l) c.deref-5.ensures.value
-          (subst (λ (l : List ℕ). AddOnce high size l c.deref-5.result.now) c.deref-6.ensures.value c.band_size-size.ensures.once);
+      capacities = c.in_ok-capacities.ensures ∙ ap (λ (l : List Task). planned_capacities (band_plan size l p)) c.deref-4.ensures.value;
+      once = subst (λ (l : List Task). AddOnce high size l) c.deref-2.ensures.value c.band_size-size.ensures.once;
       virtuals = subst (λ (l : List VirtualOutput). All (λ o. o.desc.height ≤ high) l) c.virtual_outputs-images.ensures c.high_of-high.ensures.virtuals;
       clients = subst (λ (l : List Reference). All (λ d. (image_held objects d).height ≤ high) l) clients c.high_of-high.ensures.clients;
-      tally_cells = c.in_ok-tally_cells.ensures ∙ ap tally_cells c.steps.ensures.steps;
+      tally_cells = c.in_ok-tally_cells.ensures ∙ ap tally_cells c.steps-2.ensures.steps;
     }

@@ -1,4 +1,4 @@
-use Rattle.std.proofs.Common.{◌≡◌, ◌-◌, ◌≤◌, min}
+use Rattle.std.proofs.Common.{ℕ, ◌≡◌, ◌-◌, ◌≤◌, min}
 use Rattle.graph_steps.proofs.Common.{IsProgram, ◌⊎◌}
 use Rattle.graph_steps.proofs.RunLaws.{Between}
 use Rattle.graph_steps.proofs.bands.run.Given as goal
@@ -7,7 +7,7 @@ abbrev pub invariant-loop-first : goal.invariant-loop-first
 invariant-loop-first g l = record {
   within : l.first ≤ l.high;
   begun : (l.first ≡ 0) ⊎ (min l.size l.high ≤ l.first);
-  between : (program : IsProgram (g.T.Tables.tables l.tables) l.high l.size l.halos l.tasks l.fn.planes) → Between program l.first l.planes l.fn.tallies l.tallies;
+  between : (slots : ℕ) (program : IsProgram (g.T.Tables.tables l.tables) l.high l.size slots l.tasks l.fn.planes) → Between program l.first l.planes l.fn.tallies l.tallies;
 }
 
 abbrev pub decreases-loop-first : goal.decreases-loop-first

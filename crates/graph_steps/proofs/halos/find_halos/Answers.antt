@@ -1,35 +1,38 @@
-use Rattle.std.proofs.Common.{◌≡◌, ◌+◌, ◌-◌, ◌<◌, ◌∷◌, ◌∙◌, sym, subst, arith, length, drop}
-use Rattle.graph_steps.proofs.Common.{AreInOrder, Suffice}
-use Rattle.graph_steps.proofs.HaloLaws.{in_read, later_in_order, one_more, from_one_before}
+use Rattle.std.proofs.Common.{List, ◌≡◌, ◌+◌, ◌-◌, ◌<◌, ◌∷◌, ◌∙◌, sym, subst, arith, ap, length, drop, set}
+use Rattle.std.proofs.lemmas.List.Elements.{All-set}
+use Rattle.std.proofs.Math.Seq.{map-set_same}
+use Rattle.graph_steps.proofs.Common.{AreEnough, Task, length-set}
+use Rattle.graph_steps.specs.Halos.{Cover, NamesBelow, without_halo}
+use Rattle.graph_steps.proofs.HaloLaws.{from_one_before, names_same}
 use Rattle.graph_steps.proofs.halos.find_halos.Goals as goal
 
-pub raise_for-requires-clause-reads : goal.raise_for-requires-clause-reads
-raise_for-requires-clause-reads c = λ s is k reads.
-    let i = in_read c.args.tasks.now (length c.args.tasks.now - 1 - c.loop-k.k) c.index-tasks-tasks.result s (omega (arith, c.loop-k-test.true)) c.index-tasks-tasks.is is in
-    let b = c.requires.reads s i k reads in
-    let l = c.loop-k.invariant.len in
-    omega arith
-
-pub raise_for-requires-clause-output : goal.raise_for-requires-clause-output
-raise_for-requires-clause-output c = λ s is.
-    let i = in_read c.args.tasks.now (length c.args.tasks.now - 1 - c.loop-k.k) c.index-tasks-tasks.result s (omega (arith, c.loop-k-test.true)) c.index-tasks-tasks.is is in
-    let b = c.requires.output s i in
-    let l = c.loop-k.invariant.len in
-    omega arith
+pub find_task_halo-requires : goal.find_task_halo-requires
+find_task_halo-requires c =
+    let inv = c.loop-k.invariant in
+    let below : length c.loop-k.tasks - 1 - c.loop-k.k < length c.loop-k.tasks = omega (arith, c.loop-k-test.true, inv.count) in
+    subst (λ n. NamesBelow n c.index-tasks-at.result) (sym inv.len)
+    (subst (NamesBelow (length c.args.needs.now)) (sym c.index-tasks-at.is) (inv.names (length c.loop-k.tasks - 1 - c.loop-k.k) c.index-tasks-at.result below))
 
 pub loop-k-preserved : goal.loop-k-preserved
 loop-k-preserved c =
-    let tasks = c.args.tasks.now in
+    let inv = c.loop-k.invariant in
+    let tasks = c.loop-k.tasks in
     let k = c.loop-k.k in
-    let t = c.index-tasks-tasks.result in
-    let below : length tasks - 1 - k < length tasks = omega (arith, c.loop-k-test.true) in
-    let e : drop (length tasks - (k + 1)) tasks ≡ t ∷ drop (length tasks - k) tasks = from_one_before tasks k t c.loop-k-test.true c.index-tasks-tasks.is in
-    let r = c.raise_for.ensures in
+    let f = c.find_task_halo.ensures in
+    let new = c.find_task_halo.result in
+    let below : k < length tasks = omega (arith, c.loop-k-test.true, inv.count) in
+    let place = length tasks - 1 - k in
+    let long : length (set tasks place new) ≡ length tasks = length-set tasks place new in
+    let e : drop (length (set tasks place new) - (k + 1)) (set tasks place new) ≡ new ∷ drop (length tasks - k) tasks =
+    ap (λ n. drop (n - (k + 1)) (set tasks place new)) long ∙ from_one_before tasks k new below in
+    let more = f.more (drop (length tasks - k) tasks) inv.enough inv.cover in
+    let was = inv.names place c.index-tasks-at.result (omega (arith, below)) in
     record {
-      enough = subst (Suffice c.args.high c.raise_for.new.halos) (sym e) (one_more c.args.high c.loop-k.halos c.raise_for.new.halos t (drop (length tasks - k) tasks)
-          (subst AreInOrder e (later_in_order tasks (length tasks - (k + 1)) c.requires.order))
-          r.grows r.enough r.others c.loop-k.invariant.enough);
-      within = λ place. r.within place (c.loop-k.invariant.within place);
-      unread = λ place u. r.others place (λ s is. u s (in_read tasks (length tasks - 1 - k) t s below c.index-tasks-tasks.is is)) ∙ c.loop-k.invariant.unread place u;
-      len = r.len ∙ c.loop-k.invariant.len;
+      enough = subst (AreEnough c.args.high) (sym e) more.0;
+      cover = subst (λ (l : List Task). Cover c.args.high l c.find_task_halo.new.needs) (sym e) more.1;
+      names = All-set (NamesBelow (length c.args.needs.now)) tasks place new
+          (names_same (length c.args.needs.now) c.index-tasks-at.result new (sym f.same) (subst (NamesBelow (length c.args.needs.now)) (sym c.index-tasks-at.is) was)) inv.names;
+      same = map-set_same without_halo tasks place new c.index-tasks-at.result (f.same ∙ ap without_halo c.index-tasks-at.is) ∙ inv.same;
+      len = f.len ∙ inv.len;
+      count = long ∙ inv.count;
     }

@@ -1,11 +1,14 @@
-use Rattle.std.proofs.Common.{ℕ, ◌≡◌, ◌-◌, ◌≤◌, length, drop}
-use Rattle.graph_steps.proofs.Common.{IsUnread, Suffice, halo}
+use Rattle.std.proofs.Common.{◌≡◌, ◌-◌, All, length, drop, map}
+use Rattle.graph_steps.proofs.Common.{AreEnough}
+use Rattle.graph_steps.specs.Halos.{Cover, NamesBelow, without_halo}
 use Rattle.graph_steps.proofs.halos.find_halos.Given as goal
 
 abbrev pub invariant-loop-k : goal.invariant-loop-k
 invariant-loop-k l = record {
-  enough : Suffice l.high l.halos (drop (length l.tasks - l.k) l.tasks);
-  within : (c : ℕ) → halo l.halos c ≤ l.high;
-  unread : (c : ℕ) → IsUnread l.tasks c → halo l.halos c ≡ 0;
-  len : length l.halos ≡ length l.fn.halos;
+  enough : AreEnough l.high (drop (length l.tasks - l.k) l.tasks);
+  cover : Cover l.high (drop (length l.tasks - l.k) l.tasks) l.needs;
+  names : All (NamesBelow (length l.fn.needs)) l.tasks;
+  same : map without_halo l.tasks ≡ map without_halo l.fn.tasks;
+  len : length l.needs ≡ length l.fn.needs;
+  count : length l.tasks ≡ length l.fn.tasks;
 }

@@ -1,15 +1,15 @@
 use Rattle.std.proofs.Common.{◌≡◌, ◌+◌, ◌<◌, ◌≤◌, ◌^◌, ◌∙◌, min, length, ap, inl, inr, refl, arith}
-use Rattle.graph_steps.proofs.Common.{halo, length-set}
+use Rattle.graph_steps.proofs.Common.{length-set}
 use Rattle.graph_steps.proofs.HaloLaws.{raised_one, raised_two}
 use Rattle.graph_steps.proofs.halos.raise_inputs.Goals as goal
 
 pub raise-requires : goal.raise-requires
-raise-requires c = c.requires.reads c.args.step.now.first (inl refl)
+raise-requires c = c.requires c.args.step.now.first (inl refl)
 
 pub raise-requires-in-Plane : goal.raise-requires-in-Plane
 raise-requires-in-Plane c =
-    let long : length c.raise.new.halos ≡ length c.args.halos.now = ap length c.raise.ensures ∙ length-set c.args.halos.now c.args.step.now.first _ in
-    let below = c.requires.reads c.in-Plane.second (inr c.in-Plane.is) in
+    let long : length c.raise.new.needs ≡ length c.args.needs.now = ap length c.raise.ensures ∙ length-set c.args.needs.now c.args.step.now.first _ in
+    let below = c.requires c.in-Plane.second (inr c.in-Plane.is) in
     omega arith
 
 pub returns-in-Plane : goal.returns-in-Plane
@@ -18,10 +18,10 @@ returns-in-Plane c =
     let fit : c.args.high < 2 ^ 16 = c.ranges.high.fits in
     let m = c.min-rows.ensures in
     let a = c.saturating_add.ensures in
-    let enough : min c.args.high (halo c.args.halos.now s.output + s.radius) ≤ c.min-rows.result = omega arith in
-    let r = raised_two s c.min-rows.result c.in-Plane.second c.args.halos.now c.raise.new.halos c.raise-in-Plane.new.halos
-    (c.requires.reads s.first (inl refl)) (c.requires.reads c.in-Plane.second (inr c.in-Plane.is)) c.in-Plane.is c.raise.ensures c.raise-in-Plane.ensures in
-    record { grows = r.grows; enough = λ k reads. (let e = r.enough k reads in omega arith); within = λ k. r.within c.args.high k (omega arith); others = r.others; len = r.len }
+    let enough : min c.args.high (s.halo + s.radius) ≤ c.min-rows.result = omega arith in
+    let r = raised_two s c.min-rows.result c.in-Plane.second c.args.needs.now c.raise.new.needs c.raise-in-Plane.new.needs
+    (c.requires s.first (inl refl)) (c.requires c.in-Plane.second (inr c.in-Plane.is)) c.in-Plane.is c.raise.ensures c.raise-in-Plane.ensures in
+    record { grows = r.grows; enough = λ k reads. (let e = r.enough k reads in omega arith); len = r.len }
 
 pub returns-in_default : goal.returns-in_default
 returns-in_default c =
@@ -29,6 +29,6 @@ returns-in_default c =
     let fit : c.args.high < 2 ^ 16 = c.ranges.high.fits in
     let m = c.min-rows.ensures in
     let a = c.saturating_add.ensures in
-    let enough : min c.args.high (halo c.args.halos.now s.output + s.radius) ≤ c.min-rows.result = omega arith in
-    let r = raised_one s c.min-rows.result c.args.halos.now c.raise.new.halos (c.requires.reads s.first (inl refl)) (λ k e. c.in_default.not-Plane k e) c.raise.ensures in
-    record { grows = r.grows; enough = λ k reads. (let e = r.enough k reads in omega arith); within = λ k. r.within c.args.high k (omega arith); others = r.others; len = r.len }
+    let enough : min c.args.high (s.halo + s.radius) ≤ c.min-rows.result = omega arith in
+    let r = raised_one s c.min-rows.result c.args.needs.now c.raise.new.needs (c.requires s.first (inl refl)) (λ k e. c.in_default.not-Plane k e) c.raise.ensures in
+    record { grows = r.grows; enough = λ k reads. (let e = r.enough k reads in omega arith); len = r.len }
