@@ -10,16 +10,8 @@ use Rattle.vx_base.proofs.NodeLaws.{same_kind_equal}
 use Rattle.graph_verify.specs.Operand.{operands_of, written_operands, other_operands}
 use Rattle.object_table.specs.NamedObject.{with_written}
 use Rattle.client_model.specs.Immediate.{operand_in, operand_if, operands_in, is_some_virtual, node_refusal}
-use Rattle.graph_verify.specs.declared.operand.Operand.{Operand}
-use Rattle.graph_verify.specs.declared.operand.Operand.TheVariants.{Image}
-use Rattle.graph_run.specs.declared.output_planes.OutputPlanes.{OutputPlanes}
-use Rattle.graph_run.specs.OutputPlanes.{ArePlanesOf, HavePlanes, LendsOutputs, with_planes}
-use Rattle.graph_run.specs.Turns.{CanRunNow, HoldsKind}
-use Rattle.graph_run.proofs.LendLemmas.{last_lent, planes_there, value_lent}
+use Rattle.graph_run.specs.Turns.{HoldsKind}
 use Rattle.client_contexts.proofs.BlockLemmas.{lasting_blocks}
-use Rattle.client_model.proofs.NodeStepLaws.{neither, operands_pass}
-use Rattle.client_contexts.specs.Lookup.{AreKnown, IsKnown}
-use Rattle.client_contexts.proofs.AlikeLemmas.{live_known, node_refused_alike, runs_alike}
 use Rattle.client_contexts.proofs.ScopeLemmas.{to_operands}
 
 -- the object that is found, as an operand
@@ -104,41 +96,5 @@ module _ (c : Context) (node n : Node) (same : n ≡ node) where
   pub done_is : (after : Context) → None ≡ node_refusal c.objects n → after ≡ with_objects c (with_written c.objects (written_by n (object_at c.objects))) → immediate c node ≡ Ok (Empty, Some after)
   done_is after allowed is = ap (immediate c) (sym same) ∙ ap outcome (sym allowed) ∙ ap (λ (t : Context). let done : Outcome = Ok (Empty, Some t) in done) (sym is)
 
-unless_unknown : (object : Option ObjectValue) → is_none object ≡ false → IsTrue (is_some object)
-unless_unknown object known = grind arith
-
--- a node whose outputs are in planes
-module _ {old lent : Context} {n : Node} {planes : OutputPlanes} (lends : LendsOutputs old lent n planes) (are : ArePlanesOf old.objects n planes) where
-  abbrev wanted : Kind
-  wanted = (parameters n.function).output
-
-  pub outputs_known : IsStrictlyIncreasing (names_of old.objects) → (known : Option Operand × Option Operand) → known.0 ≡ option_map (λ p. Image p.desc) planes.first
-      → known.1 ≡ option_map (λ p. Image p.desc) planes.second → AreKnown lent.objects None n known
-  outputs_known names known one two =
-      record {
-        first = subst (IsKnown lent.objects None wanted n.out1) (sym one) (live_known lent.objects old.objects lends.lasting names wanted n.out1 planes.first are.first);
-        second = subst (IsKnown lent.objects None wanted n.out2) (sym two) (live_known lent.objects old.objects lends.lasting names wanted n.out2 planes.second are.second);
-      }
-
-  refusal_lent : node_refusal lent.objects n ≡ node_refusal old.objects n
-  refusal_lent = node_refused_alike lent.objects old.objects lends.lasting n
-
-  pub refused_lent : (node : Node) → n ≡ node → (refusal : Refusal) → Some refusal ≡ node_refusal lent.objects n → immediate old node ≡ Err refusal
-  refused_lent node same refusal is = refused_is old node n same refusal (is ∙ refusal_lent)
-
-  pub done_lent : (node : Node) → n ≡ node → (after : Context) → None ≡ node_refusal lent.objects n
-      → (let before = with_planes lent.objects n planes in after ≡ with_objects lent (with_written before (written_by n (object_at before)))) → immediate old node ≡ Ok (Empty, Some after)
-  done_lent node same after allowed value = done_is old node n same after (allowed ∙ refusal_lent) (value_lent lends after value)
-
-  -- if the node isn't refused, it can run
-  pub runs_back : CanRunNow lent.objects n → CanRunNow old.objects n
-  runs_back can = runs_alike lent.objects old.objects lends.lasting n can
-
-  -- and each of its output images has a plane
-  pub planes_lent : CanRunNow lent.objects n → None ≡ node_refusal lent.objects n → HavePlanes n planes
-  planes_lent can allowed =
-      let pass = operands_pass None old.objects (operands n) (neither _ _ (sym (allowed ∙ refusal_lent))).0 in
-      planes_there old.objects n planes are (λ k d below. unless_unknown _ (pass k d below).known) (runs_back can)
-
 -- the refusals of a node, its outcome, and the number of blocks after it
-pub ruleset immediate_steps = (refusal_is, refused_is, done_is, last_lent, lasting_blocks)
+pub ruleset immediate_steps = (refusal_is, refused_is, done_is, lasting_blocks)

@@ -10,7 +10,6 @@ mod VerifiedLemmas
 mod BlockLemmas
 mod RuntimeLemmas
 mod CallLemmas
-mod AlikeLemmas
 mod ImmediateLemmas
 mod OutcomeLemmas
 mod WriteLemmas

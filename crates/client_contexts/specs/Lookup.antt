@@ -1,19 +1,15 @@
 -- The lookup of objects in a context, by reference or by name, and of the operands of nodes.
-use Rattle.std.specs.Prelude.{ℕ, ◌≡◌, IsTrue, is_some, List, [], ◌∷◌, Option, Some, None, IfSome, IsSomeAnd, Result, Ok, Err}
+use Rattle.std.specs.Prelude.{ℕ, ◌≡◌, IsTrue, is_some, List, [], ◌∷◌, Option, Some, Result, Ok, Err}
 use Rattle.vx_base.specs.declared.kind.Kind.{Kind}
 use Rattle.vx_base.specs.declared.kind.Kind.TheVariants as kind
-use Rattle.vx_base.specs.declared.node.Node.{Node}
 use Rattle.vx_base.specs.Reference.{Reference}
 use Rattle.vx_base.specs.Description.{Description}
-use Rattle.vx_base.specs.Function.{parameters}
 use Rattle.vx_base.specs.Image.{ImageValue, description_of}
 use Rattle.vx_base.specs.Object.{ObjectValue, object_kind}
 use Rattle.object_table.specs.Context.{object_named}
 use Rattle.object_table.specs.Delay.{in_slot, object_in}
 use Rattle.object_table.specs.NamedObject.{NamedObject, object_held, object_at}
 use Rattle.object_table.specs.Table.{image_held, HoldsImage}
-use Rattle.graph_verify.specs.declared.operand.Operand.{Operand}
-use Rattle.graph_run.specs.Operands.{operand_held}
 use Rattle.client_model.specs.declared.refusal.Refusal.{Refusal}
 use Rattle.client_model.specs.Images.{picture_refusal}
 use Rattle.client_model.specs.Operands.{stands_for, operands_refusal, image_of}
@@ -60,18 +56,3 @@ refusal_for (Ok image) d = picture_refusal (description_of image) d
 -- the operand's reference names an object of the operand's kind; a virtual image counts as an image
 abbrev pub IsFound : List NamedObject → Reference × Kind → Type 0
 IsFound objects operand = (object : ObjectValue) × (object_at objects operand.0 ≡ Some object) × IsTrue (stands_for (object_kind object) operand.1)
-
--- the lookup of a reference, with the kind that is expected, gives this operand and no refusal
-pub record IsLookup (objects : List NamedObject) (scope : Option ℕ) (cell : Reference × Kind) (operand : Operand) : Type 0 where
-  pub held : operand ≡ operand_held objects cell.0
-  pub found : IsFound objects cell
-  pub allowed : operands_refusal scope objects (cell ∷ []) ≡ None
-
--- if an operand is known, then the reference is given and its lookup gives this operand
-abbrev pub IsKnown : List NamedObject → Option ℕ → Kind → Option Reference → Option Operand → Type 0
-IsKnown objects scope wanted cell operand = IfSome operand (λ o. IsSomeAnd cell (λ c. IsLookup objects scope (c, wanted) o))
-
--- the known operands of a node's outputs, if any, are those that lookups of these outputs give
-pub record AreKnown (objects : List NamedObject) (scope : Option ℕ) (n : Node) (known : Option Operand × Option Operand) : Type 0 where
-  pub first : IsKnown objects scope (parameters n.function).output n.out1 known.0
-  pub second : IsKnown objects scope (parameters n.function).output n.out2 known.1

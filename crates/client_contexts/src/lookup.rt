@@ -16,8 +16,7 @@ ghost use Rattle.graph_verify.specs.Operand.{operands_of, is_virtual};
 ghost use Rattle.graph_run.specs.Operands.{operand_held};
 ghost use Rattle.client_model.specs.Operands.{is_kind, operands_refusal, image_of};
 ghost use Rattle.client_model.specs.States.{holds_operand};
-ghost use Rattle.client_contexts.specs.Lookup.{AreKnown, Found, IsNamed, IsImageOf, IsFound};
-ghost use Rattle.client_contexts.specs.Lookup.{IsKnown};
+ghost use Rattle.client_contexts.specs.Lookup.{Found, IsNamed, IsImageOf, IsFound};
 ghost use Rattle.client_contexts.specs.Steps.{refusal_in, name_refusal, is_outside, slot_refusal};
 ghost use Rattle.client_contexts.specs.Steps.{first_class, all_operands};
 
@@ -145,25 +144,23 @@ fn find_operand(
     }
 }
 
-/// Returns the operand that a reference of a node names, or `None` without a reference. If the
-/// operand is in `known`, the reference isn't looked up.
+/// Returns the operand that a reference of a node names, or `None` without a reference. Refused as
+/// in `find`.
 fn find_if_given(
     table: &Table,
     cell: Option<ObjRef>,
     kind: Kind,
     scope: Option<u32>,
-    known: Option<Operand>,
 ) -> Result<Option<Operand>, Refusal>
-    requires { IsKnown table.now.objects scope kind cell known }
     ensures ok { IfOk result (λ operand. operand
         ≡ option_map (operand_held table.now.objects) cell) }
     ensures found { OnOk result (All (IsFound table.now.objects) (with_kind kind cell)) }
     ensures err { refusal_in result ≡ operands_refusal scope table.now.objects
         (with_kind kind cell) }
 {
-    match (known, cell) {
-        (Some(_), _) | (_, None) => Ok(known),
-        (None, Some(cell)) => Ok(Some(find_operand(table, cell, kind, scope)?)),
+    match cell {
+        Some(cell) => Ok(Some(find_operand(table, cell, kind, scope)?)),
+        None => Ok(None),
     }
 }
 
@@ -206,29 +203,12 @@ pub fn find_operands(table: &Table, node: &Node, scope: Option<u32>) -> Result<O
     ensures found { OnOk result (All (IsFound table.now.objects) (operands node.now)) }
     ensures err { refusal_in result ≡ operands_refusal scope table.now.objects (operands node.now) }
 {
-    find_unknown_operands(table, node, scope, (None, None))
-}
-
-/// Returns a node's operands as `find_operands` does. An output whose operand is in `known` isn't
-/// looked up.
-pub fn find_unknown_operands(
-    table: &Table,
-    node: &Node,
-    scope: Option<u32>,
-    known: (Option<Operand>, Option<Operand>),
-) -> Result<Operands, Refusal>
-    requires { AreKnown table.now.objects scope node.now known }
-    ensures ok { IfOk result (λ found. found
-        ≡ operands_of (operand_held table.now.objects) node.now) }
-    ensures found { OnOk result (All (IsFound table.now.objects) (operands node.now)) }
-    ensures err { refusal_in result ≡ operands_refusal scope table.now.objects (operands node.now) }
-{
     let parameters = node.function.parameters();
     let second = parameters.second_input.unwrap_or(Kind::Image);
     let in1 = find_operand(table, node.in1, Kind::Image, scope);
-    let in2 = find_if_given(table, node.in2, second, scope, None);
-    let out1 = find_if_given(table, node.out1, parameters.output, scope, known.0);
-    let out2 = find_if_given(table, node.out2, parameters.output, scope, known.1);
+    let in2 = find_if_given(table, node.in2, second, scope);
+    let out1 = find_if_given(table, node.out1, parameters.output, scope);
+    let out2 = find_if_given(table, node.out2, parameters.output, scope);
     let ((in1, in2), (out1, out2)) = both(both(in1, in2), both(out1, out2))?;
     Ok(Operands {
         in1,

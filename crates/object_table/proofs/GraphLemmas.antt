@@ -1,15 +1,14 @@
 -- Nodes that are added and removed, the names that they use, and the objects held after that.
-use Rattle.std.proofs.Common.{get_or, rules, inl, inr, ◌≡◌, ◌↔◌, ℕ, Option, ◌+◌, ◌-◌, ◌*◌, ◌<◌, ◌≤◌, zero, suc, Bool, true, false, cond, List, [], ◌∷◌, ◌++◌, Some, None, length, map, IsTrue, refl, sym, ap, subst, ◌∙◌, arith, ◌==◌, ◌||◌, nat_lt, find, sum_by, is_some, eqb-true, ne_eqb, length-append, All, ◌&&◌, not, filter, take_at, drop_at}
-use Rattle.object_table.proofs.Common.{All-push, sum_by_push, map-map, keys_of, lookup, set_value, list_any, flat_map, AllPairs, IsStrictlyIncreasing, is_at, nat_cmp, cases_Bool, map-append, length-map, All-nil, All-cons, All-head, All-tail, All-map, All-weaker, All-filter, filter_passes, AllPairs-from_increasing, sum_by-cons, sum_by-le, count_by-le-length, keys-set_value, length-set_value, Kind, Node, Numbered, Reference, GraphValue, can_add, with_node, without_node, optional_cells, ObjectValue, GraphObject, object_bytes, object_kind, Entry, Context, charge_of, object_named, still_held, NamedObject, object_held, HasImage, graph_value, entry_object, used_more, used_less, is_kept, kept_entries, IsTable, used_names, nodes_in, names_used_by, names_used, name_count, GREATEST_SLOTS, GREATEST_BYTES, nat_tests, All-append, All-drop, All-take, AllPairs-cons, IsGraph, false≢true, flat_map-map, is_used, length-filter, list_any-append, nodes_of, operands, uses}
+use Rattle.std.proofs.Common.{get_or, rules, inl, inr, ◌≡◌, ℕ, ◌+◌, ◌-◌, ◌*◌, ◌<◌, ◌≤◌, zero, suc, Bool, true, false, cond, List, [], ◌∷◌, ◌++◌, Some, None, length, map, IsTrue, refl, sym, ap, subst, ◌∙◌, arith, ◌==◌, ◌||◌, nat_lt, find, sum_by, is_some, eqb-true, ne_eqb, length-append, All, ◌&&◌, not, filter, take_at, drop_at}
+use Rattle.object_table.proofs.Common.{All-push, sum_by_push, map-map, keys_of, lookup, set_value, list_any, flat_map, AllPairs, IsStrictlyIncreasing, is_at, nat_cmp, cases_Bool, map-append, length-map, All-nil, All-cons, All-head, All-tail, All-map, All-weaker, All-filter, filter_passes, AllPairs-from_increasing, sum_by-cons, sum_by-le, count_by-le-length, keys-set_value, length-set_value, Kind, Node, Numbered, Reference, GraphValue, can_add, with_node, without_node, optional_cells, ObjectValue, GraphObject, object_bytes, object_kind, Entry, Context, charge_of, object_named, still_held, NamedObject, object_held, graph_value, entry_object, used_more, used_less, is_kept, kept_entries, IsTable, used_names, nodes_in, names_used_by, names_used, name_count, GREATEST_SLOTS, GREATEST_BYTES, nat_tests, All-append, All-drop, All-take, AllPairs-cons, IsGraph, false≢true, flat_map-map, is_used, length-filter, list_any-append, nodes_of, operands, uses}
 use Rattle.std.proofs.lemmas.Grind.{flat_map-append}
 use Rattle.std.proofs.lemmas.List.Concat.{length-flat_map}
 use Rattle.std.proofs.lemmas.Map.Steps.{set_value_same}
-use Rattle.object_table.specs.Table.{HoldsLiveImage}
 use Rattle.graph_verify.proofs.MemberLemmas.{any-map}
 use Rattle.object_table.proofs.HeldLemmas.{All-from_map, increasing_from_pairs, increasing_head, increasing_tail}
 use Rattle.object_table.proofs.SlotLemmas.{graph_of_kind}
 use Rattle.object_table.proofs.UseLemmas.{times-append}
-use Rattle.object_table.proofs.EntryLemmas.{none_named, in_order, named_is, if_live, image_there, held_under, All-written, sum-written, charge_is, times_none}
+use Rattle.object_table.proofs.EntryLemmas.{none_named, in_order, named_is, if_live, All-written, sum-written, charge_is, times_none}
 
 -- ---- how often a name occurs in a list
 
@@ -441,14 +440,6 @@ module _ (t : Context) (next charge : ℕ) (entries : List (ℕ × Entry)) (view
 
   pub live_there : (name : ℕ) (old : Entry) → lookup (is_at (nat_cmp name)) entries ≡ Some old → IsTrue (is_some (object_named t.objects name)) → old.live ≡ true
   live_there name old found some = grind (arith, named_there name old found, if_live old)
-
-  -- a cell whose entry was looked up holds a live image if the entry is live and has the image
-  pub live_image_is : (cell : Reference) (name : ℕ) (slot : Option ℕ) → name ≡ cell.name → slot ≡ cell.slot → (old : Entry) → lookup (is_at (nat_cmp name)) entries ≡ Some old
-      → HoldsLiveImage t.objects cell ↔ (IsTrue old.live × HasImage slot old.object)
-  live_image_is cell name slot at in_it old found = (
-    λ h. (live_there name old found (rw at h.0), image_there t next entries view cell name slot at in_it old found h.1),
-    λ h. (grind (arith, named_there name old found, h.0, at), grind (arith, held_under t next entries view name old found, h.1, at, in_it)),
-  )
 
   -- names that are held are below the next
   pub all_below : (names : List ℕ) → All (λ name. IsTrue (is_some (object_held t.objects name))) names → All (λ n. n < next) names

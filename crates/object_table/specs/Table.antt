@@ -1,5 +1,5 @@
 -- The objects of a client in a map by name.
-use Rattle.std.specs.Prelude.{ℕ, ◌≡◌, ◌<◌, ◌≤◌, ◌+◌, ◌*◌, ◌-◌, ◌==◌, Bool, false, ◌||◌, nat_lt, if◌then◌else◌, IsTrue, is_some, Some, List, [], length, map, filter, All, unwrap_or}
+use Rattle.std.specs.Prelude.{ℕ, ◌≡◌, ◌<◌, ◌≤◌, ◌+◌, ◌*◌, ◌-◌, ◌==◌, Bool, false, ◌||◌, nat_lt, if◌then◌else◌, IsTrue, Some, List, [], length, map, filter, All, unwrap_or}
 use Rattle.std.specs.List.Sorted.{IsStrictlyIncreasing}
 use Rattle.std.specs.Option.{option_map}
 use Rattle.std.specs.Ordering.{nat_cmp}
@@ -10,18 +10,13 @@ use Rattle.vx_base.specs.declared.kind.Kind.{Kind}
 use Rattle.vx_base.specs.declared.kind.Kind.TheVariants as kind
 use Rattle.vx_base.specs.declared.node.Node.{Node}
 use Rattle.vx_base.specs.Reference.{Reference}
-use Rattle.vx_base.specs.Description.{Description, sample_count}
 use Rattle.vx_base.specs.Graph.{GraphValue}
-use Rattle.vx_base.specs.Image.{ImageValue, description_of, new_image}
+use Rattle.vx_base.specs.Image.{ImageValue, new_image}
 use Rattle.vx_base.specs.Object.{ObjectValue, ImageObject, object_bytes, object_kind}
-use Rattle.vx_base.specs.Picture.{values, samples_format}
-use Rattle.vx_base.specs.Rectangle.{Rectangle}
-use Rattle.vx_base.specs.declared.samples.Samples.{Samples}
-use Rattle.pixel_pool.specs.Block.{IsAllOrNone}
 use Rattle.object_table.specs.declared.table.Entry.{Entry}
-use Rattle.object_table.specs.Context.{Context, charge_of, object_named, with_objects}
-use Rattle.object_table.specs.NamedObject.{NamedObject, object_held, object_at, with_object}
-use Rattle.object_table.specs.Object.{image_value, graph_value, with_samples}
+use Rattle.object_table.specs.Context.{charge_of}
+use Rattle.object_table.specs.NamedObject.{NamedObject, object_held, object_at}
+use Rattle.object_table.specs.Object.{image_value, graph_value}
 use Rattle.object_table.specs.Uses.{nodes_in, names_used, name_count}
 use Rattle.vx_base.specs.declared.desc.TheConstants.{GREATEST_BYTES}
 use Rattle.vx_base.specs.declared.slots.TheConstants.{GREATEST_SLOTS}
@@ -53,20 +48,6 @@ image_held objects cell = image_value (cell_object objects cell)
 -- a reference names an image
 abbrev pub HoldsImage : List NamedObject → Reference → Type 0
 HoldsImage objects cell = option_map object_kind (object_at objects cell) ≡ Some kind.Image
-
--- the reference's name is live, and the reference names an image
-abbrev pub HoldsLiveImage : List NamedObject → Reference → Type 0
-HoldsLiveImage objects cell = IsTrue (is_some (object_named objects cell.name)) × HoldsImage objects cell
-
--- the samples are taken out of the image that a reference names; `image` is the image's size and
--- format, its valid rectangle and these samples
-pub record TakesImage (old new : Context) (cell : Reference) (image : Description × Rectangle × Samples) : Type 0 where
-  pub desc : image.0 ≡ description_of (image_held old.objects cell)
-  pub valid : image.1 ≡ (image_held old.objects cell).valid
-  pub value : values image.2 ≡ (image_held old.objects cell).samples
-  pub format : samples_format image.2 ≡ (image_held old.objects cell).format
-  pub size : IsAllOrNone (sample_count image.0) (length (values image.2))
-  pub left : new ≡ with_objects old (with_object old.objects cell (with_samples (cell_object old.objects cell) (image_held old.objects cell).valid []))
 
 -- ---- entries
 

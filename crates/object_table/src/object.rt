@@ -1,6 +1,5 @@
 //! Objects that a client holds.
-ghost use Rattle.std.specs.Prelude.{◌≡◌, ◌≤◌, ◌*◌, ◌==◌, ◌↔◌, not, if◌then◌else◌, IsTrue, []};
-ghost use Rattle.std.specs.Prelude.{is_some};
+ghost use Rattle.std.specs.Prelude.{◌≡◌, ◌≤◌, ◌*◌, ◌==◌, not, if◌then◌else◌, IsTrue, [], is_some};
 ghost use Rattle.std.specs.Prelude.{length, find, Some, IfOk, IfErr, OnOk, OnErr};
 ghost use Rattle.std.specs.Result.{is_err};
 ghost use Rattle.vx_base.specs.declared.kind.Kind.TheVariants as kind;
@@ -133,18 +132,6 @@ impl Object {
         }
     }
 
-    /// Returns whether `image(slot)` may be called. With a slot: whether the object is a delay that
-    /// has the slot. Without a slot: whether the object is an image that isn't virtual.
-    pub fn has_image(&self, slot: Option<u8>) -> bool
-        ensures { IsTrue result ↔ HasImage slot self.now }
-    {
-        match (slot, &self.content) {
-            (None, Content::Image(_)) => true,
-            (Some(k), Content::Delay(delay)) => delay.slot(k).is_ok(),
-            _ => false,
-        }
-    }
-
     /// Returns the number of bytes that a client is charged for the object: the bytes of the
     /// samples of the object's images.
     pub fn bytes(&self) -> usize
@@ -159,7 +146,7 @@ impl Object {
     }
 
     /// Returns the image in a slot of a delay; without a slot, the object itself as an image.
-    /// `has_image(slot)` must be true.
+    /// The slot must exist. Without a slot, the object must be an image that isn't virtual.
     pub fn image(&self, slot: Option<u8>) -> &Stored
         requires { HasImage slot self.now }
         ensures { result.now ≡ image_value (object_in slot self.now) }

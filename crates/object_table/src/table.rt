@@ -1,9 +1,8 @@
 //! Objects by name, with their charge.
 #![tactic(auto, using(crate::proofs::EntryLemmas::entry_steps))]
 
-ghost use Rattle.std.specs.Prelude.{◌≡◌, ◌*◌, ◌≤◌, ◌↔◌, IsTrue, IsSome, is_none, Some, None, []};
+ghost use Rattle.std.specs.Prelude.{◌≡◌, ◌*◌, ◌≤◌, IsTrue, IsSome, is_none, Some, None, []};
 ghost use Rattle.std.specs.Prelude.{if◌then◌else◌, length, map, IfOk, IfErr, OnOk, OnErr};
-ghost use Rattle.std.specs.Prelude.{IfSome, IfNone};
 ghost use Rattle.std.specs.Option.{option_map};
 ghost use Rattle.vx_base.specs.declared.kind.Kind.TheVariants as kind;
 ghost use Rattle.vx_base.specs.Description.{sample_count};
@@ -22,7 +21,7 @@ ghost use Rattle.object_table.specs.NamedObject.{object_held, with_object};
 ghost use Rattle.object_table.specs.Object.{distribution_value, aged_object, with_samples};
 ghost use Rattle.object_table.specs.Object.{with_counts};
 ghost use Rattle.object_table.specs.Table.{object_under, IsUnder, cell_object, image_held};
-ghost use Rattle.object_table.specs.Table.{HoldsImage, HoldsLiveImage, TakesImage};
+ghost use Rattle.object_table.specs.Table.{HoldsImage};
 ghost use Rattle.object_table.specs.Uses.{nodes_in};
 ghost use Rattle.vx_base.specs.declared.desc.TheConstants.{GREATEST_BYTES};
 ghost use Rattle.vx_base.specs.declared.slots.TheConstants.{GREATEST_SLOTS};
@@ -273,25 +272,6 @@ impl Table {
         let valid = entry.object.image(cell.slot()).valid();
         let (desc, samples) = entry.object.take(cell.slot());
         (desc, valid, samples)
-    }
-
-    /// Takes the samples out as `take_with_valid` does, if the reference's name is live and the
-    /// reference names an image that isn't virtual. Otherwise returns `None` and changes nothing.
-    pub fn take_if_image(&mut self, cell: ObjRef) -> Option<(Desc, Rect, Samples)>
-        ensures there { IsSome result ↔ HoldsLiveImage self.old.objects cell }
-        ensures taken { IfSome result (TakesImage self.old self.new cell) }
-        ensures none { IfNone result (self.new ≡ self.old) }
-    {
-        let Some(entry) = self.entries.get_mut(&cell.name()) else {
-            return None;
-        };
-        let slot = cell.slot();
-        if !entry.live || !entry.object.has_image(slot) {
-            return None;
-        }
-        let valid = entry.object.image(slot).valid();
-        let (desc, samples) = entry.object.take(slot);
-        Some((desc, valid, samples))
     }
 
     /// Puts a sample for each pixel into the image that a reference names, or none, and sets the

@@ -7,7 +7,7 @@ pub returns-in-None-clause-ok : goal.returns-in-None-clause-ok
 returns-in-None-clause-ok c =
     let operands = c.in-Ok.ensures.ok in
     record {
-      node = c.requires.node;
+      node = c.requires;
       kinds =
           all_of_kind c.args.table.now.objects c.args.node.now c.in-Ok.ensures.found
           (ap (λ o. list_any is_virtual (all_operands o)) (sym operands) ∙ sym c.has_virtual.ensures ∙ c.if-has_virtual.false);

@@ -1,5 +1,5 @@
 use Rattle.client_contexts.proofs.ScopeLemmas.{operands_found}
-use Rattle.client_contexts.proofs.lookup.find_unknown_operands.Goals as goal
+use Rattle.client_contexts.proofs.lookup.find_operands.Goals as goal
 
 pub returns-clause-found : goal.returns-clause-found
 returns-clause-found c =
