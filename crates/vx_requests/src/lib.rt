@@ -5,10 +5,11 @@
 //!   `FromRead` and `FromWrite` wrap the readers and writers of std. `fill` and `write_all` move
 //!   whole buffers.
 //! - `frame`: reads the length, the client, the op and the body of a request frame; writes frames
-//!   of requests (`write_request`) and of replies (`write_reply`); reads and writes samples.
+//!   of replies (`write_reply`) and, for clients written in Rattle, of requests (`write_request`);
+//!   reads and writes samples.
 //! - `serving`: `serve` answers a stream of requests frame by frame, and returns a `Summary`.
-//! - `laws::frames`, `laws::replies`, `laws::streams`: laws about the definitions of `specs/Frame` and
-//!   `specs/Serving`.
+//! - `laws::frames`, `laws::replies`, `laws::streams`: laws about the definitions of `specs/Frame`
+//!   and `specs/Serving`.
 //!
 //! The headline theorem is `Session` (`specs/Serving/Session.antt`), the clause `session` of
 //! `serve`.

@@ -1,7 +1,8 @@
 //! Reads fields from the front of a body, in order.
-ghost use Rattle.std.specs.Prelude.{◌≡◌, length, Ok, Err, IfOk, IfErr, OnOk};
+ghost use Rattle.std.specs.Prelude.{◌≡◌, ℕ, List, length, Ok, Err, IfOk, IfErr, OnOk};
 ghost use Rattle.client_model.specs.declared.request.Request.{Request as RequestValue};
-ghost use Rattle.vx_wire.specs.Fields.{Takes, take_byte, take_short, take_long, take_bytes, at_end};
+ghost use Rattle.vx_wire.specs.Fields.{FieldResult, Takes, take_byte, take_short, take_long};
+ghost use Rattle.vx_wire.specs.Fields.{take_bytes, at_end};
 
 pub mod bins;
 pub mod convolution;
@@ -23,9 +24,10 @@ use std::marker::Model;
 
 /// The bytes of a body that have not been read yet.
 ///
-/// The methods `byte`, `short`, `long` and `bytes`, and the functions `take_..` of the submodules,
-/// each read one or more fields from the front. `InvalidParameters`: a field is cut short. After a
-/// fault the remaining bytes are unspecified, since the first fault ends the reading of a body.
+/// The methods `byte`, `short`, `long` and `bytes`, and the functions `take` and `take_..` of the
+/// submodules, each read one or more fields from the front. `InvalidParameters`: a field is cut
+/// short. After a fault the remaining bytes are unspecified, since the first fault ends the reading
+/// of a body.
 #[derive(Drop)]
 pub struct Fields<'a> {
     rest: &'a [u8],
@@ -112,5 +114,24 @@ impl<'a> Fields<'a> {
         } else {
             Err(BodyFault::InvalidParameters)
         }
+    }
+}
+
+/// A value that is one field, or several fields, of a body.
+pub trait Field: Drop {
+    /// Reads the value from the front of a body.
+    ghost grammar: { List ℕ → FieldResult Self };
+
+    /// Reads the value.
+    fn take(fields: &mut Fields) -> Result<Self, BodyFault>
+        ensures { Takes grammar fields.old fields.new result };
+}
+
+/// The name of an object, or the number of a node.
+impl Field for u32 {
+    ghost grammar = { take_long };
+
+    fn take(fields: &mut Fields) -> Result<u32, BodyFault> {
+        fields.long()
     }
 }

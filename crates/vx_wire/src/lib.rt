@@ -11,9 +11,8 @@
 //!   `rectangle`, `samples`, `threshold`, `convolution`, `bins` (of a distribution), `operand`,
 //!   `node`, `slots` (of a delay). `described` and `extremes` encode the replies to QueryImage and
 //!   ReadMinMax.
-//! - `requests`: the bodies of requests, by families: `contexts`, `images`, `objects` (of any
-//!   kind), `tables` (lookup tables, thresholds and convolutions), `statistics` (distributions and
-//!   extremes), `graphs`, `immediate`, `delays`
+//! - `requests`: the bodies of requests. The modules `images` and `tables` parse those with
+//!   samples, entries or a text.
 //! - `parsing`: parses the body of any request
 //! - `take_image_head`: the fields before the samples in the body of WriteImage
 //! - `take_image_pgm_fields`: the reference and the text in the body of WriteImagePgm

@@ -5,20 +5,9 @@ ghost use Rattle.vx_wire.specs.Requests.{request_of};
 
 use crate::op::Op;
 use crate::parse_fault::ParseFault;
-use crate::requests::contexts::{open_context, release_context};
-use crate::requests::delays::{age_delay, create_delay, register_auto_aging};
-use crate::requests::graphs::{
-    add_node, create_graph, create_virtual_image, process_graph, remove_node, verify_graph,
-};
-use crate::requests::images::{
-    create_image, query_image, read_image, read_image_pgm, set_valid, write_image, write_image_pgm,
-};
-use crate::requests::immediate::immediate;
-use crate::requests::objects::release;
-use crate::requests::statistics::{
-    create_distribution, create_min_max, read_distribution, read_min_max,
-};
-use crate::requests::tables::{create_convolution, create_lut, create_threshold};
+use crate::requests::images::{write_image, write_image_pgm};
+use crate::requests::tables::create_lut;
+use crate::requests::{no_field, one_field, two_fields};
 use client_model::Request;
 use std::alloc::Global;
 
@@ -34,32 +23,32 @@ pub fn parse(alloc: Global, op: u8, body: &[u8]) -> Result<Request, ParseFault>
 {
     match Op::from_number(op) {
         None => Err(ParseFault::InvalidParameters),
-        Some(Op::OpenContext) => Ok(open_context(body)?),
-        Some(Op::ReleaseContext) => Ok(release_context(body)?),
-        Some(Op::CreateImage) => Ok(create_image(body)?),
-        Some(Op::QueryImage) => Ok(query_image(body)?),
+        Some(Op::OpenContext) => Ok(no_field(body, Request::OpenContext)?),
+        Some(Op::ReleaseContext) => Ok(no_field(body, Request::ReleaseContext)?),
+        Some(Op::CreateImage) => Ok(one_field(body, Request::CreateImage)?),
+        Some(Op::QueryImage) => Ok(one_field(body, Request::QueryImage)?),
         Some(Op::WriteImage) => write_image(alloc, body),
         Some(Op::WriteImagePgm) => write_image_pgm(alloc, body),
-        Some(Op::ReadImage) => Ok(read_image(body)?),
-        Some(Op::ReadImagePgm) => Ok(read_image_pgm(body)?),
-        Some(Op::SetValid) => Ok(set_valid(body)?),
-        Some(Op::Release) => Ok(release(body)?),
+        Some(Op::ReadImage) => Ok(one_field(body, Request::ReadImage)?),
+        Some(Op::ReadImagePgm) => Ok(one_field(body, Request::ReadImagePgm)?),
+        Some(Op::SetValid) => Ok(two_fields(body, Request::SetValid)?),
+        Some(Op::Release) => Ok(one_field(body, Request::Release)?),
         Some(Op::CreateLut) => create_lut(alloc, body),
-        Some(Op::CreateThreshold) => Ok(create_threshold(body)?),
-        Some(Op::CreateConvolution) => Ok(create_convolution(body)?),
-        Some(Op::CreateDistribution) => Ok(create_distribution(body)?),
-        Some(Op::ReadDistribution) => Ok(read_distribution(body)?),
-        Some(Op::CreateMinMax) => Ok(create_min_max(body)?),
-        Some(Op::ReadMinMax) => Ok(read_min_max(body)?),
-        Some(Op::CreateGraph) => Ok(create_graph(body)?),
-        Some(Op::CreateVirtualImage) => Ok(create_virtual_image(body)?),
-        Some(Op::AddNode) => Ok(add_node(body)?),
-        Some(Op::RemoveNode) => Ok(remove_node(body)?),
-        Some(Op::VerifyGraph) => Ok(verify_graph(body)?),
-        Some(Op::ProcessGraph) => Ok(process_graph(body)?),
-        Some(Op::Immediate) => Ok(immediate(body)?),
-        Some(Op::CreateDelay) => Ok(create_delay(body)?),
-        Some(Op::AgeDelay) => Ok(age_delay(body)?),
-        Some(Op::RegisterAutoAging) => Ok(register_auto_aging(body)?),
+        Some(Op::CreateThreshold) => Ok(one_field(body, Request::CreateThreshold)?),
+        Some(Op::CreateConvolution) => Ok(one_field(body, Request::CreateConvolution)?),
+        Some(Op::CreateDistribution) => Ok(one_field(body, Request::CreateDistribution)?),
+        Some(Op::ReadDistribution) => Ok(one_field(body, Request::ReadDistribution)?),
+        Some(Op::CreateMinMax) => Ok(no_field(body, Request::CreateMinMax)?),
+        Some(Op::ReadMinMax) => Ok(one_field(body, Request::ReadMinMax)?),
+        Some(Op::CreateGraph) => Ok(no_field(body, Request::CreateGraph)?),
+        Some(Op::CreateVirtualImage) => Ok(two_fields(body, Request::CreateVirtualImage)?),
+        Some(Op::AddNode) => Ok(two_fields(body, Request::AddNode)?),
+        Some(Op::RemoveNode) => Ok(two_fields(body, Request::RemoveNode)?),
+        Some(Op::VerifyGraph) => Ok(one_field(body, Request::VerifyGraph)?),
+        Some(Op::ProcessGraph) => Ok(one_field(body, Request::ProcessGraph)?),
+        Some(Op::Immediate) => Ok(one_field(body, Request::Immediate)?),
+        Some(Op::CreateDelay) => Ok(two_fields(body, Request::CreateDelay)?),
+        Some(Op::AgeDelay) => Ok(one_field(body, Request::AgeDelay)?),
+        Some(Op::RegisterAutoAging) => Ok(two_fields(body, Request::RegisterAutoAging)?),
     }
 }

@@ -1,46 +1,52 @@
-//! The bodies of requests, by families.
-ghost use Rattle.std.specs.Prelude.{◌≡◌, ℕ, Ok, Err, IfOk, IfErr};
+//! The bodies of requests. The modules parse those with samples, entries or a text.
+ghost use Rattle.std.specs.Prelude.{◌≡◌};
 ghost use Rattle.client_model.specs.declared.request.Request.{Request as RequestValue};
-ghost use Rattle.vx_base.specs.Reference.{Reference};
-ghost use Rattle.vx_wire.specs.Fields.{one_field, take_long};
-ghost use Rattle.vx_wire.specs.Reference.{take_reference};
+ghost use Rattle.vx_wire.specs.Fields.{at_end, one_field, two_fields};
 
-pub mod contexts;
-pub mod delays;
-pub mod graphs;
 pub mod images;
-pub mod immediate;
-pub mod objects;
-pub mod statistics;
 pub mod tables;
 
 use crate::body_fault::BodyFault;
-use crate::fields::Fields;
-use crate::fields::reference::take_reference;
-use vx_base::ObjRef;
+use crate::fields::{Field, Fields};
+use client_model::Request;
 
-/// Reads a body that is a name and nothing else.
-fn name_alone(body: &[u8]) -> Result<u32, BodyFault>
-    ensures ok { IfOk result (λ name. (made : ℕ → RequestValue) →
-        one_field take_long made body.now ≡ Ok (made name)) }
-    ensures err { IfErr result (λ e. (made : ℕ → RequestValue) →
-        one_field take_long made body.now ≡ Err e) }
+/// Parses the body of a request without fields, which is empty.
+pub fn no_field(body: &[u8], request: Request) -> Result<Request, BodyFault>
+    ensures { result ≡ at_end request body.now }
 {
-    let mut fields = Fields::new(body);
-    let name = fields.long()?;
-    fields.end()?;
-    Ok(name)
+    Fields::new(body).end()?;
+    Ok(request)
 }
 
-/// Reads a body that is a reference and nothing else.
-fn reference_alone(body: &[u8]) -> Result<ObjRef, BodyFault>
-    ensures ok { IfOk result (λ cell. (made : Reference → RequestValue) →
-        one_field take_reference made body.now ≡ Ok (made cell)) }
-    ensures err { IfErr result (λ e. (made : Reference → RequestValue) →
-        one_field take_reference made body.now ≡ Err e) }
+/// Parses a body of one field. `request` is the variant that holds the field.
+pub fn one_field<A: Field, M: FnOnce(A) -> Request>(
+    body: &[u8],
+    request: M,
+) -> Result<Request, BodyFault>
+    requires { M.IsAlwaysCallable request }
+    ensures { (made : A → RequestValue) →
+        ((x : A) (r : RequestValue) → M.post request x r → r ≡ made x) →
+        result ≡ one_field A.grammar made body.now }
 {
     let mut fields = Fields::new(body);
-    let reference = take_reference(&mut fields)?;
+    let value = A::take(&mut fields)?;
     fields.end()?;
-    Ok(reference)
+    Ok(request(value))
+}
+
+/// Parses a body of two fields. `request` is the variant that holds the fields.
+pub fn two_fields<A: Field, B: Field, M: FnOnce(A, B) -> Request>(
+    body: &[u8],
+    request: M,
+) -> Result<Request, BodyFault>
+    requires { M.IsAlwaysCallable request }
+    ensures { (made : A → B → RequestValue) →
+        ((x : A) (y : B) (r : RequestValue) → M.post request x y r → r ≡ made x y) →
+        result ≡ two_fields A.grammar B.grammar made body.now }
+{
+    let mut fields = Fields::new(body);
+    let first = A::take(&mut fields)?;
+    let second = B::take(&mut fields)?;
+    fields.end()?;
+    Ok(request(first, second))
 }

@@ -29,7 +29,7 @@ use vx_wire::{
 };
 
 /// Writes the frame in which a client sends a request. Does not flush the sink, and allocates
-/// nothing.
+/// nothing. It is for clients written in Rattle: the server only reads requests.
 ///
 /// The caller must check that the request fits a frame (`fits_a_frame`). The only fault is
 /// `WriteFailed`: a write failed, and part of the frame may have been written. Ensures that the

@@ -5,7 +5,7 @@ ghost use Rattle.vx_wire.specs.Bins.{is_up_to_256, take_up_to_256, take_offset, 
 ghost use Rattle.vx_wire.specs.Bins.{bins_bytes};
 
 use crate::body_fault::BodyFault;
-use crate::fields::Fields;
+use crate::fields::{Field, Fields};
 use vx_base::Bins;
 
 /// Reads the number of bins, or their `range`: a number from 1 to 256. `InvalidValue`: the number
@@ -36,15 +36,17 @@ fn take_offset(fields: &mut Fields) -> Result<u16, BodyFault>
     }
 }
 
-/// Reads the bins of a distribution. The last value that they cover, `offset + range - 1`, may be
-/// above 255.
-pub fn take_bins(fields: &mut Fields) -> Result<Bins, BodyFault>
-    ensures { Takes take_bins fields.old fields.new result }
-{
-    let bins = take_up_to_256(fields)?;
-    let offset = take_offset(fields)?;
-    let range = take_up_to_256(fields)?;
-    Ok(Bins::new(bins, offset, range).unwrap())
+impl Field for Bins {
+    ghost grammar = { take_bins };
+
+    /// Reads the bins of a distribution. The last value that they cover, `offset + range - 1`, may
+    /// be above 255.
+    fn take(fields: &mut Fields) -> Result<Bins, BodyFault> {
+        let bins = take_up_to_256(fields)?;
+        let offset = take_offset(fields)?;
+        let range = take_up_to_256(fields)?;
+        Ok(Bins::new(bins, offset, range).unwrap())
+    }
 }
 
 /// Returns the bytes of a distribution's bins.

@@ -6,8 +6,8 @@ ghost use Rattle.vx_wire.specs.Fields.{Takes};
 ghost use Rattle.vx_wire.specs.Convolution.{take_odd_side, take_exponent, take_convolution};
 
 use crate::body_fault::BodyFault;
-use crate::fields::Fields;
 use crate::fields::samples::{decode_wide, take_samples};
+use crate::fields::{Field, Fields};
 use vx_base::{Convolution, Format, GREATEST_COEFFICIENTS};
 
 /// Reads the number of columns or rows: 3, 5, 7 or 9. `InvalidDimension`: the number is none of
@@ -39,17 +39,19 @@ fn take_exponent(fields: &mut Fields) -> Result<u8, BodyFault>
     }
 }
 
-/// Reads a convolution. Allocates nothing, since there are at most 81 coefficients.
-pub fn take_convolution(fields: &mut Fields) -> Result<Convolution, BodyFault>
-    ensures { Takes take_convolution fields.old fields.new result }
-{
-    let columns = take_odd_side(fields)?;
-    let rows = take_odd_side(fields)?;
-    let exponent = take_exponent(fields)?;
-    let count = usize::from(rows) * usize::from(columns);
-    let bytes = take_samples(fields, Format::S16, count)?;
-    let mut buffer = [0i16; GREATEST_COEFFICIENTS];
-    let coefficients = &mut buffer[..count];
-    decode_wide(bytes, coefficients);
-    Ok(Convolution::new(columns, rows, exponent, coefficients).unwrap())
+impl Field for Convolution {
+    ghost grammar = { take_convolution };
+
+    /// Reads a convolution. Allocates nothing, since there are at most 81 coefficients.
+    fn take(fields: &mut Fields) -> Result<Convolution, BodyFault> {
+        let columns = take_odd_side(fields)?;
+        let rows = take_odd_side(fields)?;
+        let exponent = take_exponent(fields)?;
+        let count = usize::from(rows) * usize::from(columns);
+        let bytes = take_samples(fields, Format::S16, count)?;
+        let mut buffer = [0i16; GREATEST_COEFFICIENTS];
+        let coefficients = &mut buffer[..count];
+        decode_wide(bytes, coefficients);
+        Ok(Convolution::new(columns, rows, exponent, coefficients).unwrap())
+    }
 }

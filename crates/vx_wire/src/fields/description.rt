@@ -5,8 +5,8 @@ ghost use Rattle.vx_wire.specs.Fields.{Takes};
 ghost use Rattle.vx_wire.specs.Description.{take_side, take_description, description_bytes};
 
 use crate::body_fault::BodyFault;
-use crate::fields::Fields;
 use crate::fields::format::{format_number, take_format};
+use crate::fields::{Field, Fields};
 use vx_base::{Desc, GREATEST_SIDE};
 
 /// Reads a width or a height: 1 to 8192. `InvalidDimension`: the number is 0 or above 8192.
@@ -22,14 +22,16 @@ fn take_side(fields: &mut Fields) -> Result<u16, BodyFault>
     }
 }
 
-/// Reads a description.
-pub fn take_description(fields: &mut Fields) -> Result<Desc, BodyFault>
-    ensures { Takes take_description fields.old fields.new result }
-{
-    let format = take_format(fields)?;
-    let width = take_side(fields)?;
-    let height = take_side(fields)?;
-    Ok(Desc::with_sides(width, height, format))
+impl Field for Desc {
+    ghost grammar = { take_description };
+
+    /// Reads a description.
+    fn take(fields: &mut Fields) -> Result<Desc, BodyFault> {
+        let format = take_format(fields)?;
+        let width = take_side(fields)?;
+        let height = take_side(fields)?;
+        Ok(Desc::with_sides(width, height, format))
+    }
 }
 
 /// Returns the bytes of a description.

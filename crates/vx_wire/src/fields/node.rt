@@ -7,9 +7,9 @@ ghost use Rattle.vx_wire.specs.Node.{take_function, take_border, border_bytes, t
 ghost use Rattle.vx_wire.specs.Node.{policy_number, take_amount, take_node, node_bytes};
 
 use crate::body_fault::BodyFault;
-use crate::fields::Fields;
 use crate::fields::operand::{operand_bytes, take_first_input, take_operands};
 use crate::fields::reference::reference_bytes;
+use crate::fields::{Field, Fields};
 use vx_base::{Border, Function, Node, NodeSpec, Parameters, Policy};
 
 /// Reads a function by its number. `InvalidParameters`: no function has the number.
@@ -87,27 +87,29 @@ fn take_amount(fields: &mut Fields, parameters: Parameters) -> Result<u8, BodyFa
     }
 }
 
-/// Reads a node.
-pub fn take_node(fields: &mut Fields) -> Result<NodeSpec, BodyFault>
-    ensures { Takes take_node fields.old fields.new result }
-{
-    let function = take_function(fields)?;
-    let parameters = function.parameters();
-    let border = take_border(fields)?;
-    let policy = take_policy(fields, parameters)?;
-    let amount = take_amount(fields, parameters)?;
-    let in1 = take_first_input(fields)?;
-    let (in2, out1, out2) = take_operands(fields, parameters)?;
-    Ok(NodeSpec::of(Node {
-        function,
-        border,
-        policy,
-        amount,
-        in1,
-        in2,
-        out1,
-        out2,
-    }))
+impl Field for NodeSpec {
+    ghost grammar = { take_node };
+
+    /// Reads a node.
+    fn take(fields: &mut Fields) -> Result<NodeSpec, BodyFault> {
+        let function = take_function(fields)?;
+        let parameters = function.parameters();
+        let border = take_border(fields)?;
+        let policy = take_policy(fields, parameters)?;
+        let amount = take_amount(fields, parameters)?;
+        let in1 = take_first_input(fields)?;
+        let (in2, out1, out2) = take_operands(fields, parameters)?;
+        Ok(NodeSpec::of(Node {
+            function,
+            border,
+            policy,
+            amount,
+            in1,
+            in2,
+            out1,
+            out2,
+        }))
+    }
 }
 
 /// Returns the bytes of a node.

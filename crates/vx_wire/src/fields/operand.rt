@@ -7,8 +7,8 @@ ghost use Rattle.vx_wire.specs.Operand.{first_output, second_output, take_first_
 ghost use Rattle.vx_wire.specs.Operand.{take_operands};
 
 use crate::body_fault::BodyFault;
-use crate::fields::Fields;
-use crate::fields::reference::{reference_bytes, take_reference};
+use crate::fields::reference::reference_bytes;
+use crate::fields::{Field, Fields};
 use vx_base::{ObjRef, Parameters};
 
 /// Whether an operand is required, absent or optional.
@@ -28,7 +28,7 @@ fn take_operand(fields: &mut Fields, presence: Presence) -> Result<Option<ObjRef
     ensures taken { Takes (take_operand presence) fields.old fields.new result }
     ensures has { IfOk result (λ o. IsTrue (is_operand presence o)) }
 {
-    let reference = take_reference(fields)?;
+    let reference = ObjRef::take(fields)?;
     match (presence, reference.is_nothing()) {
         (Presence::Required | Presence::Free, false) => Ok(Some(reference)),
         (Presence::Absent | Presence::Free, true) => Ok(None),
@@ -83,7 +83,7 @@ pub fn take_first_input(fields: &mut Fields) -> Result<ObjRef, BodyFault>
     ensures taken { Takes take_first_input fields.old fields.new result }
     ensures has { IfOk result (λ cell. IsTrue (not (is_nothing cell))) }
 {
-    let reference = take_reference(fields)?;
+    let reference = ObjRef::take(fields)?;
     if reference.is_nothing() {
         Err(BodyFault::InvalidParameters)
     } else {

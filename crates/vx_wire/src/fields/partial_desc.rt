@@ -7,8 +7,8 @@ ghost use Rattle.vx_wire.specs.PartialDescription.{take_open_side, take_partial_
 ghost use Rattle.vx_wire.specs.PartialDescription.{partial_desc_bytes};
 
 use crate::body_fault::BodyFault;
-use crate::fields::Fields;
 use crate::fields::format::{open_format_number, take_open_format};
+use crate::fields::{Field, Fields};
 use vx_base::{GREATEST_SIDE, PartialDesc};
 
 /// Reads a width or a height: 1 to 8192, or 0 if the side is open. `InvalidDimension`: the number
@@ -24,14 +24,16 @@ fn take_open_side(fields: &mut Fields) -> Result<Option<u16>, BodyFault>
     }
 }
 
-/// Reads a partial description.
-pub fn take_partial_desc(fields: &mut Fields) -> Result<PartialDesc, BodyFault>
-    ensures { Takes take_partial_desc fields.old fields.new result }
-{
-    let format = take_open_format(fields)?;
-    let width = take_open_side(fields)?;
-    let height = take_open_side(fields)?;
-    Ok(PartialDesc::new(width, height, format).unwrap())
+impl Field for PartialDesc {
+    ghost grammar = { take_partial_desc };
+
+    /// Reads a partial description.
+    fn take(fields: &mut Fields) -> Result<PartialDesc, BodyFault> {
+        let format = take_open_format(fields)?;
+        let width = take_open_side(fields)?;
+        let height = take_open_side(fields)?;
+        Ok(PartialDesc::new(width, height, format).unwrap())
+    }
 }
 
 /// Returns the bytes of a partial description.

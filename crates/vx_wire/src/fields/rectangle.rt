@@ -4,21 +4,23 @@ ghost use Rattle.vx_wire.specs.Fields.{Takes};
 ghost use Rattle.vx_wire.specs.Rectangle.{take_rectangle, rectangle_bytes};
 
 use crate::body_fault::BodyFault;
-use crate::fields::Fields;
+use crate::fields::{Field, Fields};
 use vx_base::Rect;
 
-/// Reads a rectangle: its bounds are all 0, or each start is less than its end. `InvalidValue`:
-/// neither is the case.
-pub fn take_rectangle(fields: &mut Fields) -> Result<Rect, BodyFault>
-    ensures { Takes take_rectangle fields.old fields.new result }
-{
-    let x0 = fields.short()?;
-    let y0 = fields.short()?;
-    let x1 = fields.short()?;
-    let y1 = fields.short()?;
-    match Rect::new(x0, y0, x1, y1) {
-        Some(rectangle) => Ok(rectangle),
-        None => Err(BodyFault::InvalidValue),
+impl Field for Rect {
+    ghost grammar = { take_rectangle };
+
+    /// Reads a rectangle: its bounds are all 0, or each start is less than its end. `InvalidValue`:
+    /// neither is the case.
+    fn take(fields: &mut Fields) -> Result<Rect, BodyFault> {
+        let x0 = fields.short()?;
+        let y0 = fields.short()?;
+        let x1 = fields.short()?;
+        let y1 = fields.short()?;
+        match Rect::new(x0, y0, x1, y1) {
+            Some(rectangle) => Ok(rectangle),
+            None => Err(BodyFault::InvalidValue),
+        }
     }
 }
 

@@ -5,16 +5,18 @@ ghost use Rattle.vx_wire.specs.Fields.{Takes};
 ghost use Rattle.vx_wire.specs.Reference.{slot_numbered, take_reference, reference_bytes};
 
 use crate::body_fault::BodyFault;
-use crate::fields::Fields;
+use crate::fields::{Field, Fields};
 use vx_base::ObjRef;
 
-/// Reads a reference.
-pub fn take_reference(fields: &mut Fields) -> Result<ObjRef, BodyFault>
-    ensures { Takes take_reference fields.old fields.new result }
-{
-    let name = fields.long()?;
-    let slot = fields.byte()?;
-    Ok(ObjRef::new(name, slot_numbered(slot)))
+impl Field for ObjRef {
+    ghost grammar = { take_reference };
+
+    /// Reads a reference.
+    fn take(fields: &mut Fields) -> Result<ObjRef, BodyFault> {
+        let name = fields.long()?;
+        let slot = fields.byte()?;
+        Ok(ObjRef::new(name, slot_numbered(slot)))
+    }
 }
 
 /// Returns the slot with this number, or `None` for 255.

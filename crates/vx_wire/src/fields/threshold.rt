@@ -8,9 +8,9 @@ ghost use Rattle.vx_wire.specs.Threshold.{take_is_range, take_signed, take_limit
 ghost use Rattle.vx_wire.specs.Threshold.{take_limits, take_threshold, threshold_bytes};
 
 use crate::body_fault::BodyFault;
-use crate::fields::Fields;
 use crate::fields::format::{format_number, take_input_format};
 use crate::fields::samples::WideSample;
+use crate::fields::{Field, Fields};
 use vx_base::{Format, ThresholdKind, ThresholdRule};
 
 /// Reads a threshold's kind, 0 for BINARY and 1 for RANGE. Returns whether the kind is RANGE.
@@ -80,16 +80,18 @@ fn take_limits(
     Ok(ThresholdKind::Range(lower, upper))
 }
 
-/// Reads a threshold.
-pub fn take_threshold(fields: &mut Fields) -> Result<ThresholdRule, BodyFault>
-    ensures { Takes take_threshold fields.old fields.new result }
-{
-    let is_range = take_is_range(fields)?;
-    let format = take_input_format(fields)?;
-    let kind = take_limits(fields, is_range, format)?;
-    let true_value = fields.byte()?;
-    let false_value = fields.byte()?;
-    Ok(ThresholdRule::with_limits(format, kind, true_value, false_value))
+impl Field for ThresholdRule {
+    ghost grammar = { take_threshold };
+
+    /// Reads a threshold.
+    fn take(fields: &mut Fields) -> Result<ThresholdRule, BodyFault> {
+        let is_range = take_is_range(fields)?;
+        let format = take_input_format(fields)?;
+        let kind = take_limits(fields, is_range, format)?;
+        let true_value = fields.byte()?;
+        let false_value = fields.byte()?;
+        Ok(ThresholdRule::with_limits(format, kind, true_value, false_value))
+    }
 }
 
 /// Returns the bytes of a BINARY threshold.

@@ -1,41 +1,17 @@
-//! The bodies of requests about images.
+//! The bodies of WriteImage and WriteImagePgm.
 ghost use Rattle.std.specs.Prelude.{◌≡◌, ℕ, List, ◌++◌, length, Ok, Err, IfOk, IfErr};
 ghost use Rattle.client_model.specs.declared.request.Request.TheVariants.{WriteImagePgm};
 ghost use Rattle.vx_base.specs.Description.{byte_count};
 ghost use Rattle.vx_wire.specs.Faults.{MayFailWith};
-ghost use Rattle.vx_wire.specs.Images.{write_image_of};
-ghost use Rattle.vx_wire.specs.Images.{create_image_in, query_image_in, write_image_in};
-ghost use Rattle.vx_wire.specs.Images.{write_image_pgm_in, read_image_in, read_image_pgm_in};
-ghost use Rattle.vx_wire.specs.Images.{set_valid_in};
+ghost use Rattle.vx_wire.specs.Images.{write_image_of, write_image_in, write_image_pgm_in};
 
 use crate::body_fault::BodyFault;
-use crate::fields::Fields;
-use crate::fields::description::take_description;
-use crate::fields::rectangle::take_rectangle;
-use crate::fields::reference::take_reference;
 use crate::fields::samples::{decode, take_samples};
+use crate::fields::{Field, Fields};
 use crate::parse_fault::ParseFault;
-use crate::requests::reference_alone;
 use client_model::{Request, Text};
 use std::alloc::Global;
 use vx_base::{Desc, ObjRef, Picture};
-
-/// Parses the body of CreateImage: a format, a width and a height.
-pub fn create_image(body: &[u8]) -> Result<Request, BodyFault>
-    ensures { result ≡ create_image_in body.now }
-{
-    let mut fields = Fields::new(body);
-    let desc = take_description(&mut fields)?;
-    fields.end()?;
-    Ok(Request::CreateImage(desc))
-}
-
-/// Parses the body of QueryImage: a reference.
-pub fn query_image(body: &[u8]) -> Result<Request, BodyFault>
-    ensures { result ≡ query_image_in body.now }
-{
-    Ok(Request::QueryImage(reference_alone(body)?))
-}
 
 /// Parses the body of WriteImage: a reference and a picture.
 pub fn write_image(alloc: Global, body: &[u8]) -> Result<Request, ParseFault>
@@ -43,8 +19,8 @@ pub fn write_image(alloc: Global, body: &[u8]) -> Result<Request, ParseFault>
     ensures err { IfErr result (MayFailWith (write_image_in body.now)) }
 {
     let mut fields = Fields::new(body);
-    let image = take_reference(&mut fields)?;
-    let desc = take_description(&mut fields)?;
+    let image = ObjRef::take(&mut fields)?;
+    let desc = Desc::take(&mut fields)?;
     let (format, count) = (desc.format(), desc.sample_count());
     let bytes = take_samples(&mut fields, format, count)?;
     fields.end()?;
@@ -64,8 +40,8 @@ pub fn take_image_head(head: &[u8; 10], rest: usize) -> Result<(ObjRef, Desc), B
         write_image_in (head.now ++ samples) ≡ Err e) }
 {
     let mut fields = Fields::new(head);
-    let image = take_reference(&mut fields)?;
-    let desc = take_description(&mut fields)?;
+    let image = ObjRef::take(&mut fields)?;
+    let desc = Desc::take(&mut fields)?;
     if rest == desc.byte_count() {
         Ok((image, desc))
     } else {
@@ -81,7 +57,7 @@ pub fn take_image_pgm_fields(body: &[u8]) -> Result<(ObjRef, &[u8]), BodyFault>
     ensures err { IfErr result (λ e. write_image_pgm_in body.now ≡ Err e) }
 {
     let mut fields = Fields::new(body);
-    let image = take_reference(&mut fields)?;
+    let image = ObjRef::take(&mut fields)?;
     Ok((image, fields.rest()))
 }
 
@@ -94,29 +70,4 @@ pub fn write_image_pgm(alloc: Global, body: &[u8]) -> Result<Request, ParseFault
         Ok((image, text)) => Ok(Request::WriteImagePgm(image, Text::new(text.to_vec(alloc)?))),
         Err(fault) => Err(ParseFault::from(fault)),
     }
-}
-
-/// Parses the body of ReadImage: a reference.
-pub fn read_image(body: &[u8]) -> Result<Request, BodyFault>
-    ensures { result ≡ read_image_in body.now }
-{
-    Ok(Request::ReadImage(reference_alone(body)?))
-}
-
-/// Parses the body of ReadImagePgm: a reference.
-pub fn read_image_pgm(body: &[u8]) -> Result<Request, BodyFault>
-    ensures { result ≡ read_image_pgm_in body.now }
-{
-    Ok(Request::ReadImagePgm(reference_alone(body)?))
-}
-
-/// Parses the body of SetValid: a reference and a rectangle.
-pub fn set_valid(body: &[u8]) -> Result<Request, BodyFault>
-    ensures { result ≡ set_valid_in body.now }
-{
-    let mut fields = Fields::new(body);
-    let image = take_reference(&mut fields)?;
-    let valid = take_rectangle(&mut fields)?;
-    fields.end()?;
-    Ok(Request::SetValid(image, valid))
 }

@@ -1,6 +1,6 @@
 use Rattle.vx_wire.proofs.Common.{Node}
 use Rattle.vx_wire.proofs.NodeShape.{is_node-from_parameters}
-use Rattle.vx_wire.proofs.fields.node.take_node.Goals as goal
+use Rattle.vx_wire.proofs.fields.node.NodeSpecField.take.Goals as goal
 
 pub of-requires : goal.of-requires
 of-requires c =
