@@ -9,7 +9,7 @@ import tempfile
 import time
 from typing import Dict, List
 
-from . import COMPILER, EMULATOR, PACKAGES, shim
+from . import COMPILER, EMULATOR, PACKAGES, PREFIX, shim
 from .emulation import COMPILERS, launcher
 
 ROOT = os.path.realpath(os.path.join(os.path.dirname(os.path.abspath(__file__)), "..", ".."))
@@ -18,14 +18,25 @@ PYTHON_TESTS = os.path.join(ROOT, "clients", "python", "tests")
 C_TESTS = os.path.join(ROOT, "clients", "c", "tests", "run.py")
 # Segments and dynamic entries that harden a program.
 HARDENED = ("GNU_RELRO", "BIND_NOW", "DYN (Position-Independent Executable file)")
+# The endings of the names of the server's libraries.
+ENDINGS = ("a", "so")
 # Tests of the Python package that talk to a server of their own, and measure neither the time nor
 # the memory of the emulator.
 SHORT = ("test_ends", "test_functions", "test_pipeline")
 LONG = ("test_arrays", "test_attributes", "test_errors", "test_graphs", "test_messages",
         "test_objects", "test_pipeline", "test_verdicts")
+# Tests of the C library with the server in the process of a program.
+C_SHORT = """
+    test_the_server_in_this_process
+    test_a_program_has_its_server_linked_in
+    test_the_server_is_found_next_to_the_shared_library
+    test_the_server_as_a_library_has_no_data_that_threads_or_handles_share
+    test_the_server_as_a_library_exports_its_calls
+    test_the_example_writes_a_picture""".split()
 # Tests of the C library that neither need a sanitizer, valgrind or another compiler, nor measure
 # the emulator.
-C_NAMES = """
+C_LONG = """
+    test_random_streams_through_the_server_in_this_process
     test_a_graph_with_a_fault_is_refused_and_the_log_names_the_node
     test_a_node_reads_the_scalar_that_another_one_wrote_in_the_same_run
     test_random_graphs_in_parts_give_what_their_nodes_give_one_after_another
@@ -45,6 +56,12 @@ def is_here() -> bool:
     return shutil.which(COMPILER) is not None and shutil.which(EMULATOR) is not None
 
 
+def core_of(program: str, ending: str) -> str:
+    """Returns the path of the server as a library, which tools/build puts next to the program."""
+    home, name = os.path.split(os.path.abspath(program))
+    return os.path.join(home, f"libfeqyldan-core-{name.partition('-')[2]}.{ending}")
+
+
 def hardening(program: str) -> List[str]:
     """Returns what a program lacks of the x86-64 program's hardening."""
     said = subprocess.run(["readelf", "--wide", "--file-header", "--program-headers", "--dynamic",
@@ -58,13 +75,17 @@ def hardening(program: str) -> List[str]:
 
 
 class Check:
-    """Runs commands on a program under emulation, and notes those that fail."""
+    """Runs commands on a program and its libraries under emulation, and notes those that fail."""
 
     def __init__(self, program: str, folder: str) -> None:
-        self.program = launcher(program, os.path.join(folder, "vx_main"))
+        self.program = launcher(program, os.path.join(folder, os.path.basename(program)))
+        for ending in ENDINGS:
+            os.symlink(core_of(program, ending), core_of(self.program, ending))
         path = f"{COMPILERS}{os.pathsep}{os.environ['PATH']}"
         self.environment: Dict[str, str] = {
-            **os.environ, "PATH": path, "FEQYLDAN_PROGRAM": self.program}
+            **os.environ, "PATH": path, "FEQYLDAN_PROGRAM": self.program,
+            # For make, which finds the compiler on PATH.
+            "AR": f"{PREFIX}ar", "LD": f"{PREFIX}ld", "OBJCOPY": f"{PREFIX}objcopy"}
         self.failed: List[str] = []
 
     def note(self, name: str, lines: List[str]) -> None:
@@ -85,6 +106,9 @@ class Check:
     def tool(self, name: str, *words: str) -> None:
         self.run(os.path.join(TOOLS, name), self.program, *words)
 
+    def c_tests(self, names: List[str]) -> None:
+        self.run(sys.executable, C_TESTS, *(f"Library.{name}" for name in names))
+
     def python_tests(self, names: List[str]) -> None:
         paths = [os.path.join(PYTHON_TESTS, f"{name}.py") for name in names]
         for path in paths:
@@ -104,17 +128,20 @@ def main() -> None:
         return
     with tempfile.TemporaryDirectory() as folder:
         check = Check(asked.program, folder)
-        check.note("shim.c", shim.test())
+        check.note("the shim", shim.test())
         check.note("hardening", hardening(asked.program))
+        check.note("libraries", [f"there is no {path}: build it by tools/build --target=aarch64"
+                                 for path in (core_of(asked.program, each) for each in ENDINGS)
+                                 if not os.path.exists(path)])
         check.run(os.path.join(TOOLS, "check_lanes"), asked.program)
         check.tool("check_functions")
         check.tool("check_streams", "--streams", asked.streams)
         check.tool("check_bands", "--graphs", asked.graphs)
         check.tool("check_pgm")
         check.python_tests([*SHORT, *(LONG if asked.all else ())])
+        check.c_tests([*C_SHORT, *(C_LONG if asked.all else ())])
         if asked.all:
             check.tool("check_program")
             check.tool("refused_growths")
-            check.run(sys.executable, C_TESTS, *(f"Library.{name}" for name in C_NAMES))
     if check.failed:
         sys.exit("\n".join(f"failed: {name}" for name in check.failed))

@@ -1,4 +1,4 @@
-"""Tests the C functions of `shim.c`: for aarch64 under emulation, and on this machine under
+"""Tests the C functions of the shim: for aarch64 under emulation, and on this machine under
 sanitizers. The toolchain's own functions for x86-64 must pass the same test. The test must find
 each of the planted faults.
 """
@@ -8,10 +8,10 @@ import subprocess
 import tempfile
 from typing import Dict, List, Tuple
 
-from . import C_LIBRARY, COMPILER, EMULATOR, kit
+from . import C_LIBRARY, COMPILER, EMULATOR, kit, linking
 
 HERE = os.path.dirname(os.path.abspath(__file__))
-SHIM, TEST = os.path.join(HERE, "shim.c"), os.path.join(HERE, "shim_test.c")
+SHIM, TEST = [os.path.join(HERE, name) for name in linking.SHIM], os.path.join(HERE, "shim_test.c")
 WARNINGS = "-std=c11 -Wall -Wextra -Wpedantic -Wconversion -Wshadow -Werror".split()
 # An empty argument, bytes that aren't ASCII, and more bytes than the test's buffer has.
 ARGUMENTS = [b"", b"one", b"\xff\x80 caf\xc3\xa9", b"0" * 70]
@@ -44,9 +44,9 @@ def build(compiler: str, target: str, *words: str) -> str:
 
 def real(folder: str) -> Dict[str, Tuple[List[str], Dict[str, str]]]:
     """Builds the tests that must pass. Returns each one's command and environment."""
-    emulated = build(COMPILER, f"{folder}/emulated", *WARNINGS, TEST, SHIM)
+    emulated = build(COMPILER, f"{folder}/emulated", *WARNINGS, TEST, *SHIM)
     here = build("cc", f"{folder}/here", *WARNINGS, "-g", "-fsanitize=address,undefined", TEST,
-                 SHIM)
+                 *SHIM)
     archives = [f"{kit()}/c/libos_c.a", f"{kit()}/c/liblibc_c.a"]
     theirs = build("cc", f"{folder}/theirs", *WARNINGS, TEST, *archives)
     return {
@@ -57,13 +57,15 @@ def real(folder: str) -> Dict[str, Tuple[List[str], Dict[str, str]]]:
 
 
 def is_found(folder: str, old: str, new: str) -> bool:
-    with open(SHIM, encoding="utf-8") as file:
-        text = file.read()
-    assert text.count(old) == 1, old
-    faulty = f"{folder}/faulty.c"
-    with open(faulty, "w", encoding="utf-8") as file:
-        file.write(text.replace(old, new))
-    return bool(fails([build("cc", f"{folder}/faulty", "-w", TEST, faulty)]))
+    places, copies = 0, [os.path.join(folder, name) for name in linking.SHIM]
+    for path, copy in zip(SHIM, copies):
+        with open(path, encoding="utf-8") as file:
+            text = file.read()
+        places += text.count(old)
+        with open(copy, "w", encoding="utf-8") as file:
+            file.write(text.replace(old, new))
+    assert places == 1, old
+    return bool(fails([build("cc", f"{folder}/faulty", "-w", TEST, *copies)]))
 
 
 def test() -> List[str]:

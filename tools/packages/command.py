@@ -25,13 +25,13 @@ def path_of(asked: argparse.Namespace, kind: str) -> str:
 def programs_of(asked: argparse.Namespace, machine: Machine) -> Dict[str, bytes]:
     """Returns the bytes of each program by its name in a package. Fails if one is missing, or has
     another version."""
-    here = {os.path.basename(path) for path in program.built()}
+    here = program.in_folder("")
     found = {}
     for kind, name in machine.kinds.items():
         path = path_of(asked, kind)
         if not os.access(path, os.X_OK):
             sys.exit(f"tools/package: {path} isn't a program that can be run: build it by "
-                     f"tools/build --cpu={kind}")
+                     "tools/build, with --cpu or --target")
         if name in here and machine.wheel == platform.machine():
             check_version(path)
         with open(path, "rb") as file:

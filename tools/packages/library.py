@@ -16,16 +16,15 @@ from . import ROOT, Machine, debian
 LIBRARY = os.path.join(ROOT, "clients", "c")
 TOOLS = {"CC": "gcc", "LD": "ld", "AR": "ar", "OBJCOPY": "objcopy"}
 NAME, DEVELOPMENT = "libfeqyldan0", "libfeqyldan-dev"
-# The Makefile's variable for each build of the server as a library. tools/build makes none for ARM.
-CORES = {"default": "CORE", "x86-64-v3": "FASTER_CORE"}
+# The Makefile's variable for each build of the server as a library.
+CORES = {"default": "CORE", "x86-64-v3": "FASTER_CORE", "aarch64": "CORE"}
 DESCRIPTION = """OpenVX's calls for the vision server Feqyldan{what}
  A C library with the names, types and signatures of OpenVX 1.3. A server does
- the computing: in the program's own process (on x86-64), in one that the
- library starts, or behind a socket.
+ the computing: in the program's own process, in one that the library starts,
+ or behind a socket.
  .
  {contents}"""
-LIBRARY_CONTENTS = """This package has the shared libraries: OpenVX's calls, and on x86-64 the
- server."""
+LIBRARY_CONTENTS = "This package has the shared libraries: OpenVX's calls, and the server."
 DEVELOPMENT_CONTENTS = """This package has the headers, the static libraries, a manual page and an
  example."""
 
@@ -52,8 +51,7 @@ def core_of(program: str) -> str:
 def install(stage: str, programs: Dict[str, str], machine: Machine) -> None:
     """Builds the library from a copy of its sources, strips it, and installs it with the server as
     a library, in each build that the machine has."""
-    cores = [f"{name}={core_of(programs[kind])}" for kind, name in CORES.items()
-             if kind in machine.kinds]
+    cores = [f"{CORES[kind]}={core_of(programs[kind])}" for kind in machine.kinds]
     strip = f"{machine.prefix}strip"
     with tempfile.TemporaryDirectory() as folder:
         copy = shutil.copytree(LIBRARY, os.path.join(folder, "c"),

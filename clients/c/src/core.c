@@ -23,7 +23,7 @@ static const char SHARED[] = "libfeqyldan-core.so.0";
 
 /* ---- The library ---- */
 
-/* Whether the processor can run the core's baseline, x86-64-v2. */
+/* Whether the processor can run the core: x86-64-v2, or any ARM processor of 64 bits. */
 static bool has_processor(void) {
 #ifdef __x86_64__
     return __builtin_cpu_supports("sse4.2") && __builtin_cpu_supports("popcnt");

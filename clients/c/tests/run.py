@@ -97,6 +97,12 @@ def installed():
     return prefix
 
 
+def example():
+    """The path of the example, which is built with the library."""
+    installed()
+    return os.path.join(folder, "copy", "c", "out", "edges")
+
+
 def cc(sanitizer, *words):
     subprocess.run(["cc", *FLAGS, "-fsanitize=" + sanitizer, *words], check=True)
 
@@ -345,8 +351,6 @@ class Library(unittest.TestCase):
         self.need_core()
         program = build("queries", *LINKED, core("a"))
         self.assertEqual(self.context_of(program, PATH="/nowhere"), "")
-        self.assertIn("can't start feqyldan or vx_main",
-                      self.context_of(program, PATH="/nowhere", FEQYLDAN_SERVER="process"))
 
     def test_the_server_is_found_next_to_the_shared_library(self):
         self.need_core()
@@ -356,7 +360,7 @@ class Library(unittest.TestCase):
                         os.path.join(HERE, "queries.c"), "-L" + home, "-lfeqyldan", "-o", program],
                        check=True)
         wanted = {"PATH": "/nowhere", "LD_LIBRARY_PATH": home}
-        self.assertIn("can't start feqyldan or vx_main", self.context_of(program, **wanted))
+        self.assertIn("vxCreateContext: ", self.context_of(program, **wanted))
         shutil.copy(core("so"), os.path.join(home, "libfeqyldan-core.so.0"))
         self.assertEqual(self.context_of(program, **wanted), "")
 
@@ -381,22 +385,21 @@ class Library(unittest.TestCase):
                 self.assertIn("vxCreateContext: " + words,
                               self.context_of(program, **{**has_core, **variables}))
 
-    def test_a_timeout_needs_a_process_where_the_server_is_linked_in(self):
+    def test_where_the_server_is_linked_in_a_process_is_started_if_it_is_needed(self):
         self.need_core()
         program = build("queries", *LINKED, core("a"))
-        self.assertIn("can't start feqyldan or vx_main",
-                      self.context_of(program, PATH="/nowhere", FEQYLDAN_TIMEOUT="2"))
+        for variables in {"FEQYLDAN_SERVER": "process"}, {"FEQYLDAN_TIMEOUT": "2"}:
+            self.assertIn("can't start feqyldan or vx_main",
+                          self.context_of(program, PATH="/nowhere", **variables))
 
     def test_with_the_server_in_the_process_nothing_is_started(self):
         self.need_core()
         if shutil.which("strace") is None:
             self.skipTest("strace isn't installed")
-        subprocess.run(["make", "-s", "-C", HOME, "out/edges"], check=True)
         calls = os.path.join(folder, "calls")
         for way, started in (("core", 1), ("process", 2)):
-            subprocess.run(["strace", "-f", "-e", "trace=execve", "-o", calls,
-                            os.path.join(HOME, "out/edges")], check=True,
-                           stdout=subprocess.DEVNULL, env={
+            subprocess.run(["strace", "-f", "-e", "trace=execve", "-o", calls, example()],
+                           check=True, stdout=subprocess.DEVNULL, env={
                                **os.environ, "FEQYLDAN_SERVER": way, "FEQYLDAN_CORE": core("so")})
             with open(calls, encoding="utf-8") as text:
                 self.assertEqual(text.read().count("execve("), started, way)
@@ -404,9 +407,11 @@ class Library(unittest.TestCase):
     def test_the_server_as_a_library_has_no_data_that_threads_or_handles_share(self):
         self.need_core()
         listed = subprocess.run(["nm", core("a")], capture_output=True, text=True, check=True)
-        # Of `nothing` only the address is used, as that of an empty block.
+        # Of `nothing` only the address is used, as that of an empty block. On aarch64, $d marks the
+        # place of data.
         self.assertEqual([line.split()[2] for line in listed.stdout.splitlines()
-                          if len(line.split()) == 3 and line.split()[1] in "bBdDC"], ["nothing"])
+                          if len(line.split()) == 3 and line.split()[1] in "bBdDC" and
+                          line.split()[2] != "$d"], ["nothing"])
         sections = subprocess.run(["readelf", "-lW", core("so")], capture_output=True, text=True,
                                   check=True).stdout
         self.assertIn("LOAD", sections)
@@ -742,9 +747,7 @@ class Library(unittest.TestCase):
 
     @in_both_ways
     def test_the_example_writes_a_picture(self):
-        subprocess.run(["make", "-s", "-C", HOME, "out/edges"], check=True)
-        text = subprocess.run([os.path.join(HOME, "out/edges")], stdout=subprocess.PIPE,
-                              check=True).stdout
+        text = subprocess.run([example()], stdout=subprocess.PIPE, check=True).stdout
         self.assertTrue(text.startswith(b"P5\n256 256\n255\n"))
         self.assertEqual(set(text[15:]), {0, 255})
 

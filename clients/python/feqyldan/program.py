@@ -24,6 +24,9 @@ FASTER_FLAGS = set("abm avx avx2 bmi1 bmi2 f16c fma movbe xsave".split())
 # itself; a library can't.
 FASTER_CORE, PLAIN_CORE = "libfeqyldan-core-x86-64-v3.so", "libfeqyldan-core-default.so"
 PLAIN_FLAGS = set("cx16 lahf_lm popcnt sse4_1 sse4_2 ssse3".split())
+# The only build for ARM processors of 64 bits, which all of them can run, as a program and as a
+# library. In a package the program's name is PLAIN.
+ARM, ARM_CORE = "vx_main-aarch64", "libfeqyldan-core-aarch64.so"
 
 
 def find() -> str:
@@ -59,7 +62,8 @@ def inside() -> List[str]:
 def built() -> List[str]:
     """Returns the paths of the builds in this checkout that this machine's processor can run, the
     fastest first; none outside a checkout."""
-    return in_folder(os.path.join(CRATE, "out")) if os.path.isdir(CRATE) else []
+    plain = ARM if is_arm() else PLAIN
+    return in_folder(os.path.join(CRATE, "out"), plain=plain) if os.path.isdir(CRATE) else []
 
 
 def in_folder(folder: str, faster: str = FASTER, plain: str = PLAIN) -> List[str]:
@@ -72,22 +76,36 @@ def in_folder(folder: str, faster: str = FASTER, plain: str = PLAIN) -> List[str
 def cores() -> List[str]:
     """Returns the paths of the libraries inside this package, and of those built in this checkout,
     that exist and that this machine's processor can run, the fastest first."""
+    plain = ARM_CORE if is_arm() else PLAIN_CORE
     paths = [path for folder in (INSIDE, os.path.join(CRATE, "out"))
-             for path in in_folder(folder, FASTER_CORE, PLAIN_CORE) if os.path.isfile(path)]
-    return paths if paths and PLAIN_FLAGS <= _flags() else []
+             for path in in_folder(folder, FASTER_CORE, plain) if os.path.isfile(path)]
+    return paths if paths and runs_plain() else []
+
+
+def is_arm() -> bool:
+    """Returns whether this machine has an ARM processor of 64 bits."""
+    return os.uname().machine == "aarch64"
+
+
+def runs_plain() -> bool:
+    """Returns whether this machine's processor can run the plain build, or that for ARM, as a
+    library."""
+    return is_arm() or PLAIN_FLAGS <= _flags()
 
 
 def runs_faster() -> bool:
     """Returns whether this machine's processor can run the faster build."""
-    return FASTER_FLAGS <= _flags()
+    # On an emulated processor, /proc/cpuinfo may have the flags of the real one.
+    return not is_arm() and FASTER_FLAGS <= _flags()
 
 
 def _flags() -> Set[str]:
-    """Returns the flags that every processor of the machine has."""
+    """Returns the flags that every processor of the machine has. In a root without /proc these are
+    taken to be the ones that the plain build needs."""
     try:
         with open("/proc/cpuinfo", encoding="utf-8") as text:
             found = [set(line.split(":", 1)[1].split())
                      for line in text if line.startswith("flags")]
     except OSError:
-        return set()
+        return PLAIN_FLAGS
     return set.intersection(*found) if found else set()

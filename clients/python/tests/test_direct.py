@@ -55,7 +55,8 @@ class TestChoice(unittest.TestCase):
                      if name not in (core.VARIABLE, program.VARIABLE)}
         for patch in (mock.patch.dict(os.environ, variables, clear=True),
                       mock.patch.object(program, "INSIDE", "/no/such/package"),
-                      mock.patch.object(program, "CRATE", "/no/such/crate")):
+                      mock.patch.object(program, "CRATE", "/no/such/crate"),
+                      mock.patch.object(core, "INSTALLED", "libfeqyldan-none.so.0")):
             patch.start()
             self.addCleanup(patch.stop)
 
@@ -85,7 +86,8 @@ class TestChoice(unittest.TestCase):
         self.assertTrue(self.is_here(process=False))
 
     def test_what_is_refused(self):
-        with self.assertRaisesRegex(vx.ProgramNotFound, "FEQYLDAN_CORE isn't set"):
+        with self.assertRaisesRegex(vx.ProgramNotFound, "FEQYLDAN_CORE isn't set, .* the system "
+                                    "has none: libfeqyldan-none.so.0: "):
             vx.Server(process=False)
         with self.assertRaisesRegex(ValueError, "a program can't run in this process"):
             vx.Server("/usr/bin/vx_main", process=False)
@@ -112,6 +114,84 @@ class TestChoice(unittest.TestCase):
                         found = core.find()
                     self.assertEqual(found and os.path.basename(found), wanted)
 
+    def test_the_kind_for_arm(self):
+        """The plain one of a checkout, for x86-64, isn't taken."""
+        with tempfile.TemporaryDirectory() as folder:
+            built = os.path.join(folder, "out", program.ARM_CORE)
+            os.mkdir(os.path.dirname(built))
+            with mock.patch.object(program, "CRATE", folder), \
+                    mock.patch.object(program, "is_arm", return_value=True):
+                for name, found in ((program.PLAIN_CORE, None), (program.ARM_CORE, built)):
+                    with open(os.path.join(folder, "out", name), "wb"):
+                        pass
+                    # An emulated processor may have the flags of the real one.
+                    for flags in (set(), program.PLAIN_FLAGS | program.FASTER_FLAGS):
+                        with mock.patch.object(program, "_flags", return_value=flags):
+                            self.assertEqual(core.find(), found)
+
+    def test_an_installed_library_is_the_last(self):
+        with mock.patch.object(core, "INSTALLED", PATH):
+            self.assertTrue(self.is_here())
+            with mock.patch.object(program, "_flags", return_value=set()):
+                self.assertIsNone(core.find())
+            with mock.patch.object(program, "cores", return_value=["/the/first"]):
+                self.assertEqual(core.find(), "/the/first")
+
+
+# Prints where the server is that is neither in the package nor in this checkout.
+INSTALLED = """
+import feqyldan as vx
+from feqyldan import program
+program.INSIDE = program.CRATE = "/no/such/folder"
+try:
+    with vx.Server() as server, server.context() as context:
+        print(server, context.image_from([[1]]).read().tolist())
+except vx.ProgramNotFound as error:
+    print(error)
+"""
+
+
+@needs_core
+class TestInstalled(unittest.TestCase):
+    """The dynamic linker finds the library by its name, as that of the package libfeqyldan0."""
+
+    def setUp(self):
+        folder = tempfile.TemporaryDirectory()
+        self.addCleanup(folder.cleanup)
+        self.installed, self.other = (os.path.join(folder.name, name) for name in ("lib", "other"))
+        self.library = os.path.join(self.installed, core.INSTALLED)
+        for path in (self.installed, self.other):
+            os.mkdir(path)
+
+    def said(self, **variables):
+        """Returns what the script prints in another folder."""
+        environment = {**os.environ, **VARIABLES, "FEQYLDAN_CORE": "", "PATH": "/nowhere",
+                       "LD_LIBRARY_PATH": self.installed, **variables}
+        return subprocess.run([sys.executable, "-c", INSTALLED], cwd=self.other, env=environment,
+                              stdout=subprocess.PIPE, stderr=subprocess.STDOUT, text=True,
+                              timeout=120, check=False).stdout
+
+    def test_it_is_found(self):
+        shutil.copy(PATH, self.library)
+        self.assertEqual(self.said(), "<server, in this process> [[1]]\n")
+
+    def test_the_current_folder_is_not_searched(self):
+        shutil.copy(PATH, self.library)
+        with open(os.path.join(self.other, core.INSTALLED), "w", encoding="utf-8") as file:
+            file.write("no library")
+        for told in ("", core.INSTALLED):
+            self.assertEqual(self.said(FEQYLDAN_CORE=told), "<server, in this process> [[1]]\n")
+
+    @unittest.skipUnless(shutil.which("cc"), "there is no C compiler")
+    def test_one_of_another_version_is_refused(self):
+        source = os.path.join(self.other, "core.c")
+        with open(source, "w", encoding="utf-8") as file:
+            file.write("int feqyldan_open(void) { return 0; }\n")
+        subprocess.run(["cc", "-shared", "-fPIC", source, "-o", self.library], check=True)
+        self.assertRegex(self.said(), rf"^{core.INSTALLED} isn't the server's library of feqyldan "
+                         rf"{vx.__version__}: .*undefined symbol: feqyldan_connect. Install .* of "
+                         r"this version, .* vx.Server\(process=True\)\n$")
+
 
 class CoreTest(unittest.TestCase):
     limits = {}
@@ -137,8 +217,9 @@ class TestConnections(unittest.TestCase):
     def serve(self, number, frame):
         """Returns the status and the reply to a frame of a connection."""
         reply, length = ctypes.create_string_buffer(2000), ctypes.c_size_t()
-        status = self.core.serve(self.core.address, number, frame, len(frame), b"", 0, reply,
-                                 len(reply), b"", 0, ctypes.addressof(length))
+        status = self.core.serve(
+            self.core.address, core.number_of(number), *core.argument_of(frame), *core.NOTHING,
+            ctypes.byref(reply), core.size_of(len(reply)), *core.NOTHING, ctypes.byref(length))
         return status, reply.raw[:length.value]
 
     def ask(self, number, frame, code=wire.SUCCESS):
@@ -210,8 +291,9 @@ def held():
         return int(numbers.read().split()[1]) * os.sysconf("SC_PAGESIZE") >> 20
 def ask(number, frame):
     reply, length = ctypes.create_string_buffer(28), ctypes.c_size_t()
-    status = server.serve(server.address, number, frame, len(frame), b"", 0, reply, 28, b"", 0,
-                          ctypes.addressof(length))
+    status = server.serve(
+        server.address, core.number_of(number), *core.argument_of(frame), *core.NOTHING,
+        ctypes.byref(reply), core.size_of(28), *core.NOTHING, ctypes.byref(length))
     assert (status, reply.raw[7]) == (0, 0), (status, reply.raw)
 server = core.Core(core.find(), 2**40, 2**40)
 other, number = server.connect(), server.connect()
@@ -324,7 +406,7 @@ class TestCalls(CoreTest):
 
     def test_bytes_that_are_no_frame(self):
         connection = opened()
-        with self.assertRaisesRegex(vx.FeqyldanError, "takes no frame of 3 and 0 bytes"):
+        with self.assertRaisesRegex(vx.FeqyldanError, "takes no frame of 3 bytes"):
             connection.ask(Request("wrong", 7, 1), [b"abc"])
         connection.close()
 
@@ -460,9 +542,9 @@ class TestAddresses(unittest.TestCase):
             while "numpy" not in sys.modules:
                 pass
             core.asked.set()
-            print(core.address_of(memoryview(bytes(4))))
+            print(core.argument_of(memoryview(bytes(4))))
             importing.join()"""
-        self.assertEqual(run(script), (0, "7\n"))
+        self.assertEqual(run(script), (0, "(<cparam 'P' (0x7)>, <cparam 'L' (4)>)\n"))
 
 
 @needs_core
@@ -497,25 +579,22 @@ class TestStreams(CoreTest):
 
     def test_servers_work_at_the_same_time(self):
         """The thread of each server makes its calls: the one that takes frames makes none."""
-        callers = set()
         stations = list(self.stations(2))
-        for station in stations:
-            own = station.graph.context._connection._core
-            own.serve = noting(own.serve, callers)
+        callers = [noting_callers(station.graph.context) for station in stations]
         pictures = [bytes([shade]) * 640 * 480 for shade in range(20)]
         self.assertEqual(len(list(vx.stream(pictures, stations))), 20)
-        self.assertEqual(len(callers - {threading.get_ident()}), 2)
-        self.assertNotIn(threading.get_ident(), callers)
+        self.assertEqual(len(set.union(*callers) - {threading.get_ident()}), 2)
+        self.assertNotIn(threading.get_ident(), set.union(*callers))
 
     def test_the_thread_ends_with_the_server(self):
-        before = set(sys._current_frames())
         for is_closed in (True, False):
             with mock.patch.dict(os.environ, {core.VARIABLE: PATH}):
                 server = vx.Server(process=False)
             context = server.context()
+            callers = noting_callers(context)
             loop = Loop(context, 8, 8, False)
             list(loop.graph.stream(loop.pictures, loop.part, loop.out))
-            own, = set(sys._current_frames()) - before
+            own, = callers - {threading.get_ident()}
             if is_closed:
                 server.close()
             del server, context, loop
@@ -535,12 +614,16 @@ class TestStreams(CoreTest):
             list(stream)
 
 
-def noting(serve, callers):
-    """Returns a call that notes its thread."""
+def noting_callers(context):
+    """Returns a set that has each thread that calls the context's server from now on."""
+    callers, own = set(), context._connection._core
+    serve = own.serve
+
     def call(*arguments):
         callers.add(threading.get_ident())
         return serve(*arguments)
-    return call
+    own.serve = call
+    return callers
 
 
 FORK = """
@@ -600,6 +683,8 @@ import feqyldan as vx
 
 with vx.Server(process=False, quota=2**40) as server, server.context() as context:
     kept = context.image_from([[1, 2]])
+    # The first read imports NumPy, which takes memory too.
+    kept.read()
     with open("/proc/self/statm") as file:
         limit = int(file.read().split()[0]) * resource.getpagesize() + 100_000_000
     resource.setrlimit(resource.RLIMIT_AS, (limit, limit))

@@ -7,7 +7,7 @@ import unittest
 from unittest import mock
 
 from program import PROGRAM, needs_program, skip_module_in_process, vx
-from feqyldan import program
+from feqyldan import core, program
 
 skip_module_in_process("it is about the program of a process")
 
@@ -17,11 +17,12 @@ class TestFinding(unittest.TestCase):
         folder = tempfile.TemporaryDirectory()
         self.addCleanup(folder.cleanup)
         self.folder = folder.name
-        # A checkout without a build, and nothing on PATH or inside the package.
+        # A checkout without a build, and nothing on PATH, inside the package or installed.
         self.crate = os.path.join(self.folder, "crate")
         for patch in (mock.patch.dict(os.environ, {"PATH": os.path.join(self.folder, "bin")}),
                       mock.patch.object(program, "INSIDE", os.path.join(self.folder, "inside")),
-                      mock.patch.object(program, "CRATE", self.crate)):
+                      mock.patch.object(program, "CRATE", self.crate),
+                      mock.patch.object(core, "INSTALLED", "libfeqyldan-none.so.0")):
             patch.start()
             self.addCleanup(patch.stop)
         os.environ.pop(program.VARIABLE, None)
@@ -43,6 +44,9 @@ class TestFinding(unittest.TestCase):
                               ({"avx2"}, plain)):
             with mock.patch.object(program, "_flags", return_value=flags):
                 self.assertEqual(program.find(), wanted)
+        arm = self.put("crate", "out", "vx_main-aarch64")
+        with mock.patch.object(program, "is_arm", return_value=True):
+            self.assertEqual(program.find(), arm)
         inside = self.put("inside", "vx_main-default")
         self.assertEqual(program.find(), inside)
         for name in ("vx_main", "feqyldan"):
@@ -80,6 +84,13 @@ class TestFinding(unittest.TestCase):
         with mock.patch.dict(os.environ, {program.VARIABLE: PROGRAM}):
             with vx.Server() as server, server.context() as context:
                 self.assertEqual(context.image_from([[1]]).read().tolist(), [[1]])
+
+
+class TestProcessors(unittest.TestCase):
+    def test_a_root_without_proc(self):
+        with mock.patch("builtins.open", side_effect=FileNotFoundError):
+            self.assertTrue(program.runs_plain())
+            self.assertFalse(program.runs_faster())
 
 
 if __name__ == "__main__":

@@ -10,14 +10,19 @@ import sys
 import tempfile
 import unittest
 import urllib.request
+import zipfile
+from unittest import mock
 
 from program import PROGRAM, TOOLS, skip_module_in_process, vx
 from feqyldan import program
 from feqyldan.broker import command_line as broker
 from feqyldan.door import command_line as door
+from packages import library
 from test_packaging import files_of, missing
 
 skip_module_in_process("it is about programs in packages")
+
+CROSS = "aarch64-linux-gnu-"
 
 ROOT = os.path.realpath(os.path.join(TOOLS, ".."))
 FIRST = os.path.join(ROOT, "examples", "first.py")
@@ -37,6 +42,12 @@ def folder_for(test):
     folder = tempfile.TemporaryDirectory()
     test.addCleanup(folder.cleanup)
     return folder.name
+
+
+def package_for_arm(path, folder):
+    return subprocess.run([sys.executable, os.path.join(TOOLS, "package"), "--machine=aarch64",
+                           f"--aarch64={path}", folder], capture_output=True, text=True,
+                          check=False)
 
 
 class TestVersions(unittest.TestCase):
@@ -152,9 +163,7 @@ class TestPackages(unittest.TestCase):
         return run.stdout.splitlines()
 
     def test_a_program_for_another_processor_is_refused(self):
-        run = subprocess.run([sys.executable, os.path.join(TOOLS, "package"), "--machine=aarch64",
-                              f"--aarch64={PROGRAM}", folder_for(self)],
-                             capture_output=True, text=True, check=False)
+        run = package_for_arm(PROGRAM, folder_for(self))
         self.assertEqual((run.returncode, run.stdout), (1, ""))
         self.assertIn(f"{PROGRAM} isn't a program for aarch64", run.stderr)
 
@@ -210,12 +219,17 @@ class TestPackages(unittest.TestCase):
                                      "libfeqyldan0", "libfeqyldan-dev"])
         # It is built where GStreamer's headers are installed.
         self.assertIn(names[5:], ([], ["gstreamer1.0-feqyldan"]))
+        packages, version = dict(zip(names, self.debian)), vx.__version__
         needs = {name: self.run_there("dpkg-deb", "--field", package, "Depends").strip()
-                 for name, package in zip(names, self.debian)}
-        version = vx.__version__
+                 for name, package in packages.items()}
         for name in ("feqyldan-server", "libfeqyldan0"):
             self.assertRegex(needs[name], r"^libc6 \(>= [\d.]+\)$")
         self.assertEqual(needs["python3-feqyldan"], "python3 (>= 3.9)")
+        # A server of its own needs one of these, and a connection to a socket none.
+        self.assertEqual(self.run_there("dpkg-deb", "--field", packages["python3-feqyldan"],
+                                        "Recommends", "Breaks"),
+                         "Recommends: libfeqyldan0, feqyldan-server\n"
+                         f"Breaks: libfeqyldan0 (<< {version})\n")
         self.assertEqual(needs["feqyldan"], f"python3 (>= 3.9), feqyldan-server (= {version}), "
                                             f"python3-feqyldan (= {version})")
         self.assertEqual(needs["libfeqyldan-dev"], f"libfeqyldan0 (= {version})")
@@ -237,6 +251,15 @@ class TestPackages(unittest.TestCase):
         for name in ("README.md", "copyright", "changelog.gz", "docs/wire.md", "examples/first.py",
                      "CHANGELOG.md"):
             self.assertTrue(os.path.isfile(os.path.join(documents, name)), name)
+
+    def test_the_server_in_the_process_with_the_debian_packages(self):
+        """No program is on PATH, and the linker looks in the system's folders."""
+        self.unpack()
+        self.environment.update(PATH="/nowhere", LD_LIBRARY_PATH=f"{self.root}/{MULTIARCH}")
+        self.run_there(sys.executable, FIRST)
+        said = self.run_there(sys.executable, "-c", "import feqyldan as vx\n"
+                              "with vx.Server() as server:\n    print(server)\n")
+        self.assertEqual(said, "<server, in this process>\n")
 
     def test_the_studio_with_the_debian_packages(self):
         """It serves its page."""
@@ -428,6 +451,70 @@ class TestPackages(unittest.TestCase):
         self.assertEqual(run.returncode, 1)
         self.assertIn("is vx_main 9.9.9, and the Python package", run.stderr)
         self.assertEqual(os.listdir(self.folder), ["other"])
+
+
+@unittest.skipIf(ABSENT or shutil.which(f"{CROSS}gcc") is None,
+                 f"not there: {', '.join([*ABSENT, 'or a cross compiler'])}")
+class TestPackagesForArm(unittest.TestCase):
+    """Packages with stand-ins for the program and its libraries, which nothing here can run."""
+
+    @classmethod
+    def setUpClass(cls):
+        folder = tempfile.TemporaryDirectory()
+        cls.addClassCleanup(folder.cleanup)
+        cls.folder = folder.name
+        cls.program = cls.built("vx_main-aarch64")
+        cls.built("libfeqyldan-core-aarch64.so", "-shared")
+        subprocess.run([f"{CROSS}ar", "rcs", os.path.join(cls.folder, "libfeqyldan-core-aarch64.a"),
+                        cls.built("core.o", "-c")], check=True)
+        run = package_for_arm(cls.program, os.path.join(cls.folder, "packages"))
+        assert run.returncode == 0, run.stderr
+        cls.wheel, *cls.debian = run.stdout.splitlines()
+
+    @classmethod
+    def built(cls, name, *words):
+        path = os.path.join(cls.folder, name)
+        subprocess.run([f"{CROSS}gcc", "-fPIC", *words, "-x", "c", "-", "-o", path], text=True,
+                       input="void feqyldan_open(void) {}\nint main(void) { return 0; }\n",
+                       check=True)
+        return path
+
+    def test_their_names(self):
+        version = vx.__version__
+        self.assertRegex(self.wheel, rf"/feqyldan-{version}-py3-none-manylinux\S+_aarch64\.whl$")
+        self.assertEqual([os.path.basename(package) for package in self.debian], [
+            f"{name}_{version}_{kind}.deb" for name, kind in (
+                ("feqyldan-server", "arm64"), ("python3-feqyldan", "all"), ("feqyldan", "all"),
+                ("libfeqyldan0", "arm64"), ("libfeqyldan-dev", "arm64"))])
+
+    def test_the_debian_packages_have_the_server_as_a_library(self):
+        root = folder_for(self)
+        for package in self.debian[3:]:
+            subprocess.run(["dpkg", "-x", package, root], check=True)
+        self.assertEqual(sorted(os.listdir(f"{root}/usr/lib/aarch64-linux-gnu")), [
+            "libfeqyldan-core.a", "libfeqyldan-core.so.0", "libfeqyldan.a", "libfeqyldan.so",
+            "libfeqyldan.so.0", "pkgconfig"])
+        self.assertEqual(sorted(os.listdir(f"{root}/usr/include/feqyldan")),
+                         ["context.h", "core.h"])
+
+    def test_the_python_package_finds_what_is_in_the_wheel(self):
+        folder = folder_for(self)
+        with zipfile.ZipFile(self.wheel) as archive:
+            archive.extractall(folder)
+        home = os.path.join(folder, "feqyldan", "programs")
+        with mock.patch.object(program, "INSIDE", home), \
+                mock.patch.object(program, "is_arm", return_value=True):
+            found = [program.cores()[0], *program.inside()]
+        self.assertEqual(found, [os.path.join(home, name) for name in sorted(os.listdir(home))])
+
+    def test_each_library_is_needed(self):
+        for name in ("libfeqyldan-core-aarch64.so", "libfeqyldan-core-aarch64.a"):
+            path = os.path.join(self.folder, name)
+            os.rename(path, path + "_")
+            self.addCleanup(os.rename, path + "_", path)
+            with self.assertRaisesRegex(SystemExit, f"{path} isn't there: build it by tools/build"):
+                library.core_of(self.program)
+            self.doCleanups()
 
 
 if __name__ == "__main__":

@@ -30,7 +30,8 @@
  *   `*handle` overlap neither each other nor `front` or `back`, and nobody writes these during the
  *   call.
  * - malloc, realloc and free are of one allocator, and align blocks as the C standard says.
- * - The processor has SSE4.2 (x86-64-v2), and AVX2 (x86-64-v3) for libfeqyldan-core-x86-64-v3.
+ * - An x86-64 processor has SSE4.2 (x86-64-v2), and AVX2 (x86-64-v3) for
+ *   libfeqyldan-core-x86-64-v3. An ARM processor has 64 bits; each of these will do.
  *
  * Otherwise the behaviour is undefined. A fault of the program can spoil the server's memory, as
  * with any library.
