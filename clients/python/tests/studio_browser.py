@@ -140,6 +140,12 @@ class Page:
         """Adds a function or an image by the palette."""
         self.click(f'#palette [data-name="{name}"]', shift)
 
+    def pick(self, selector, words):
+        """Chooses an option of a menu."""
+        from selenium.webdriver.support.ui import Select
+        Select(self.find(selector)).select_by_visible_text(words)
+        self.idle()
+
     def keys(self, *keys):
         self.actions().send_keys(*keys).perform()
         self.idle()

@@ -1,5 +1,6 @@
 """The studio without a browser: runs of edited graphs, and the graph file."""
 
+import contextlib
 import importlib.util
 import io
 import json
@@ -16,6 +17,7 @@ from test_graph_files import FolderTest
 from feqyldan.__main__ import main
 from feqyldan.functions import FUNCTIONS, parameters_of
 from feqyldan.graph_drafts import outputs_of
+from feqyldan.images import AnyImage
 from feqyldan.samples import numpy_module
 from feqyldan.studio.bench import Bench
 from feqyldan.studio.calls import Studio
@@ -63,6 +65,12 @@ class StudioTest(FolderTest):
         self.addCleanup(made.close)
         return made.calls
 
+    def save(self, calls, told, name="station.json", **more):
+        """Saves contents as a page does that has just been loaded."""
+        about = calls["about"]({})
+        stamp = about["stamp"] if name == about["name"] else None
+        return calls["save"]({"contents": told, "name": name, "stamp": stamp, **more})
+
     def bench(self, pictures=None):
         made = Bench(self.file, self.pictures if pictures is None else pictures, Blobs())
         self.addCleanup(made.close)
@@ -70,6 +78,48 @@ class StudioTest(FolderTest):
 
 
 INVERTING = {"function": "not_", "input": "camera", "output": "out"}
+
+
+BLACK = [[0] * WIDTH] * HEIGHT
+REMEMBERING = contents(
+    {"function": "accumulate", "input": "camera", "accum": "sums"},
+    {"function": "max", "in1": "camera", "in2": "camera", "output": "old[0]"},
+    {"function": "absdiff", "in1": "camera", "in2": "old[-1]", "output": "moved"},
+    sums=image(format="S16"), moved={"kind": "virtual image"},
+    old=image(kind="delay", slots=2, ages=True))
+
+
+def difference(rows, others):
+    """Returns the samples of AbsDiff in a list."""
+    return [abs(one - other) for pair in zip(rows, others) for one, other in zip(*pair)]
+
+
+class Work:
+    """Counts what runs ask of the server within a `with`: pictures that are written, runs of whole
+    graphs, and runs of single nodes by their functions."""
+
+    def __init__(self):
+        self.done = {"pictures": 0, "graphs": 0}
+        self._patches = contextlib.ExitStack()
+
+    def __enter__(self):
+        for kind, method, name in ((AnyImage, "write", lambda *_: "pictures"),
+                                   (vx.Graph, "process", lambda *_: "graphs"),
+                                   (vx.Vxu, "_run", lambda _, call: call.name)):
+            self._patches.enter_context(mock.patch.object(
+                kind, method, self._counting(getattr(kind, method), name)))
+        return self
+
+    def _counting(self, method, name):
+        def counted(*arguments):
+            what = name(*arguments)
+            self.done[what] = self.done.get(what, 0) + 1
+            return method(*arguments)
+
+        return counted
+
+    def __exit__(self, *_):
+        self._patches.close()
 
 
 @needs_program
@@ -149,6 +199,100 @@ class TestRuns(StudioTest):
                 [abs(now - then) for now, then in zip(*rows)]
                 for rows in zip(self.rows[at], before)])
 
+    def test_the_graph_runs_once_on_each_picture(self):
+        """Sums and delays depend on earlier pictures. The strip goes through all of them once."""
+        pictures = self.pictures * 4
+        calls = self.studio(REMEMBERING, pictures)
+        told = {"contents": REMEMBERING, "name": "moved"}
+        with Work() as work:
+            heads = [unpacked(calls["strip"]({**told, "at": at}))[0] for at in range(len(pictures))]
+        self.assertEqual(work.done, {"pictures": 12, "graphs": 0, "accumulate": 12, "max": 12,
+                                     "absdiff": 12})
+        self.assertEqual([head["marked"] for head in heads], [
+            sum(map(bool, difference(self.rows[at % 3], self.rows[at % 3 - 1] if at else BLACK)))
+            for at in range(len(pictures))])
+
+    def test_a_run_goes_on_to_a_later_picture(self):
+        bench = self.bench(self.pictures * 4)
+        with Work() as work:
+            for at in (1, 1, 2, 7, 7, 11):
+                shown = bench.run(REMEMBERING, at).shown
+                self.assertEqual(shown["sums"].samples.tolist(), self.sums(at), at)
+        self.assertEqual(work.done, {"pictures": 12, "graphs": 8, "accumulate": 4, "max": 4,
+                                     "absdiff": 4})
+        # An earlier picture, and other contents, need the sums anew.
+        for at, told in ((4, REMEMBERING), (6, {**REMEMBERING, "nodes": REMEMBERING["nodes"][:1]})):
+            with Work() as work:
+                shown = bench.run(told, at).shown
+            self.assertEqual(shown["sums"].samples.tolist(), self.sums(at))
+            self.assertEqual((work.done["pictures"], work.done["graphs"]), (at + 1, at))
+
+    def sums(self, at):
+        """Returns the sums of the pictures up to an index."""
+        return [[sum(self.rows[picture % 3][y][x] for picture in range(at + 1))
+                 for x in range(WIDTH)] for y in range(HEIGHT)]
+
+    def test_a_bad_picture_among_those_before(self):
+        other = self.path("other.pgm")
+        vx.write_pgm(other, [[1, 2], [3, 4]])
+        bench = self.bench([*self.pictures, other, *self.pictures])
+        for at, is_bad in ((2, False), (3, True), (5, True), (3, True), (1, False)):
+            with Work() as work:
+                outcome = bench.run(REMEMBERING, at)
+            self.assertEqual([fault.object for fault in outcome.faults], ["camera"] * is_bad)
+            self.assertEqual({*map(str, outcome.waiting.values())}, {'object "camera"'} & {
+                'object "camera"' * is_bad})
+            self.assertEqual(bool(outcome.shown), not is_bad)
+            # It isn't run again up to the bad picture.
+            self.assertEqual(work.done["graphs"], 0 if is_bad else at)
+        fault, = bench.run(REMEMBERING, 5).faults
+        self.assertEqual(fault.code, "INVALID_DIMENSION")
+        self.assertRegex(fault.words, r"^/.*/other.pgm: .*\(2, 2\)")
+
+    def test_advice_for_an_input_that_is_not_connected(self):
+        told = contents({"function": "absdiff", "in1": "camera", "output": "out"},
+                        {"function": "threshold", "input": "camera", "output": "marks"},
+                        out=image(), marks=image())
+        head, _ = unpacked(self.studio()["run"]({"contents": told, "at": 0}))
+        self.assertEqual([(fault["operand"], fault["advice"]) for fault in head["faults"]], [
+            ("in2", "Choose an image in its menu, or drag a wire to it."), ("threshold", "")])
+
+    def test_a_picture_that_is_written_anew(self):
+        """Also one that the graph compares with, or that a run has passed."""
+        told = contents({"function": "absdiff", "in1": "camera", "in2": "good", "output": "out"},
+                        out=image(), good={"kind": "image", "file": "good.pgm"})
+        vx.write_pgm(self.path("good.pgm"), BLACK)
+        bench = self.bench()
+        for name, shade in (("part1.pgm", 7), ("good.pgm", 5), ("part1.pgm", 9)):
+            bench.run(told, 1)
+            vx.write_pgm(self.path(name), [[shade] * WIDTH] * HEIGHT)
+        self.assertEqual(bench.run(told, 1).shown["out"].samples.tolist(), [[4] * WIDTH] * HEIGHT)
+        self.assertEqual(bench.run(REMEMBERING, 1).shown["moved"].samples.tolist()[0][0],
+                         abs(self.rows[0][0][0] - 9))
+        vx.write_pgm(self.path("part0.pgm"), [[3] * WIDTH] * HEIGHT)
+        shown = bench.run(REMEMBERING, 2).shown
+        self.assertEqual(shown["sums"].samples.tolist(),
+                         [[sample + 12 for sample in row] for row in self.rows[2]])
+
+    def test_a_picture_that_is_gone(self):
+        told = contents(INVERTING, out=image(), good={"kind": "image", "file": "gone.pgm"})
+        bench = self.bench([*self.pictures, self.path("gone.pgm")])
+        for at, names in ((0, ["good"]), (3, ["camera", "good"])):
+            faults = bench.run(told, at).faults
+            self.assertEqual([fault.object for fault in faults], names)
+            for fault in faults:
+                self.assertEqual(fault.words, f"{self.path('gone.pgm')}: No such file or directory")
+        fault, = self.bench([self.path("gone.pgm"), *self.pictures]).run(REMEMBERING, 2).faults
+        self.assertEqual(fault.words, f"{self.path('gone.pgm')}: No such file or directory")
+
+    def test_a_graph_that_no_longer_remembers(self):
+        told = contents(INVERTING, out={"kind": "virtual image"})
+        bench = self.bench()
+        bench.run(told, 0)
+        bench.run({**told, "objects": {**told["objects"], **REMEMBERING["objects"]}}, 1)
+        self.assertEqual(bench.run(told, 0).shown["out"].samples.tolist(),
+                         [[255 - sample for sample in row] for row in self.rows[0]])
+
     def test_objects_of_earlier_runs_make_room(self):
         """Pictures that need more than half the quota, of ever other sizes."""
         with mock.patch("feqyldan.studio.bench.QUOTA", 2**21):
@@ -173,7 +317,7 @@ class TestRuns(StudioTest):
             cv2.imwrite(path, wide)
         numpy.save(paths[2], wide.astype(numpy.int16))
         for path in paths:
-            told = Document(self.file, [path], Blobs()).contents
+            told = Document(self.file, [path], Blobs()).read("station.json")["contents"]
             self.assertEqual(told["objects"]["camera"]["format"], "S16")
             shown = self.bench([path]).run(told, 0).shown["camera"]
             self.assertEqual(shown.samples.tolist(), wide.tolist())
@@ -210,7 +354,7 @@ class TestRuns(StudioTest):
         calls = self.studio(told)
         head, _ = unpacked(calls["run"]({"contents": told, "at": 2}))
         self.assertEqual(head["faults"], [])
-        calls["save"]({"contents": told})
+        self.save(calls, told)
         self.assertEqual(main(["run", self.file, "--in", *self.pictures, "--out",
                                self.path("out"), "--csv", self.path("out.csv"), "--quiet"]), 0)
         shown = calls["run"].__self__._chosen.shown
@@ -344,13 +488,13 @@ class TestFile(StudioTest):
         self.assertEqual((about["name"], calls["graphs"]({})), ("station.json", []))
         self.assertFalse(os.path.exists(self.file))
         told = contents(INVERTING, out=image())
-        reply = calls["save"]({"contents": told})
+        reply = self.save(calls, told)
         self.assertEqual((reply["fault"], calls["graphs"]({})), ("", ["station.json"]))
         self.assertEqual(self.text().decode(), vx.graph_text(told))
         self.assertEqual(stat.S_IMODE(os.stat(self.file).st_mode), 0o644)
 
     def test_what_run_refuses(self):
-        reply = self.studio()["save"]({"contents": contents()})
+        reply = self.save(self.studio(), contents())
         self.assertIn("it can't be an input: no node reads it", reply["fault"])
 
     def test_the_same_contents_keep_the_bytes(self):
@@ -360,32 +504,60 @@ class TestFile(StudioTest):
             file.write(text)
         os.chmod(self.file, 0o640)
         calls = self.studio()
-        calls["save"]({"contents": told})
+        self.save(calls, told)
         self.assertEqual(self.text(), text)
         self.assertEqual(stat.S_IMODE(os.stat(self.file).st_mode), 0o640)
         changed = contents(INVERTING, out=image(), more=image())
-        calls["save"]({"contents": changed})
+        self.save(calls, changed)
         self.assertEqual(self.text().decode(), vx.graph_text(changed))
 
     def test_a_file_that_another_program_changed(self):
         told = contents(INVERTING, out=image())
         calls = self.studio(told)
+        words = {"contents": told, "name": "station.json", "stamp": calls["about"]({})["stamp"]}
         for change in (lambda: self.put("station.json", "{}"), lambda: os.unlink(self.file)):
             change()
-            self.refused(409, calls["save"], "changed by another program", contents=told)
-            calls["save"]({"contents": told, "sure": True})
+            self.refused(409, calls["save"], "changed by another program", **words)
+            calls["save"]({**words, "sure": True})
             self.assertEqual(self.text().decode(), vx.graph_text(told))
+
+    def test_two_pages(self):
+        """A page doesn't replace what the other one has saved, and has a file of its own."""
+        calls = self.studio(contents())
+        one, other = calls["about"]({}), calls["about"]({})
+        told = {"contents": contents(INVERTING, out=image()), "name": "station.json"}
+        saved = calls["save"]({**told, "stamp": one["stamp"]})
+        self.refused(409, calls["save"], "changed by another program or window", **told,
+                     stamp=other["stamp"])
+        self.put("other.json", vx.graph_text(contents(mine={"kind": "image", "file": "b.pgm"})))
+        calls["open"]({"name": "other.json"})
+        calls["save"]({**told, "contents": contents(), "stamp": saved["stamp"]})
+        self.assertEqual(self.text().decode(), vx.graph_text(contents()))
+        # The pictures of the other page's file stay pictures of this one.
+        self.studio(contents(mine={"kind": "image", "file": "part0.pgm"}), pictures=[])
+        self.assertEqual(calls["about"]({"name": "other.json"})["files"],
+                         ["b.pgm", "part0.pgm", "part1.pgm", "part2.pgm"])
+
+    def test_what_was_saved_is_there_after_a_reload(self):
+        calls = self.studio()
+        told = contents(INVERTING, out=image())
+        self.save(calls, told)
+        about = calls["about"]({"name": "station.json"})
+        self.assertEqual((about["name"], about["contents"]), ("station.json", told))
+        self.save(calls, contents(), "other.json")
+        for name, wanted in (("other.json", contents()), ("station.json", told), ("", told),
+                             ("data.json", told), ("../station.json", told)):
+            self.assertEqual(calls["about"]({"name": name})["contents"], wanted, name)
 
     def test_another_name(self):
         told, calls = contents(INVERTING, out=image()), self.studio()
         self.put("other.json", vx.graph_text(contents()))
         self.put("data.json", "{}")
         for name in ("../a.json", "/tmp/a.json", "a.txt", ".a.json", "", "sub/a.json", "data.json"):
-            if name:
-                self.refused(403, calls["save"], "", contents=told, name=name)
+            self.refused(403, calls["save"], "", contents=told, name=name)
         self.refused(409, calls["save"], "other.json exists already", contents=told,
                      name="other.json")
-        self.assertEqual(calls["save"]({"contents": told, "name": "new.json"})["name"], "new.json")
+        self.assertEqual(self.save(calls, told, "new.json")["name"], "new.json")
         self.assertEqual(self.text("new.json").decode(), vx.graph_text(told))
         self.assertEqual(self.text("data.json"), b"{}")
         self.assertFalse(os.path.exists(self.file))
@@ -398,8 +570,8 @@ class TestFile(StudioTest):
         for name in ("data.json", "../other.json", "part0.pgm", os.path.abspath(self.file)):
             self.refused(403, calls["open"], "none of the graph files", name=name)
         reply = calls["open"]({"name": "other.json"})
-        self.assertEqual(reply["contents"]["nodes"], [INVERTING])
-        self.assertEqual(calls["about"]({})["name"], "other.json")
+        self.assertEqual((reply["name"], reply["contents"]["nodes"]), ("other.json", [INVERTING]))
+        self.assertEqual(calls["about"]({})["name"], "station.json")
 
     def test_a_file_that_the_page_cannot_show(self):
         for told, words in (({"a": 7}, 'object "a": an object must be a JSON object'),
@@ -435,7 +607,7 @@ class TestFile(StudioTest):
         self.assertEqual(head["faults"], [])
         light["nodes"].append(INVERTING)
         light["objects"]["out2"] = image()
-        calls["save"]({"contents": light})
+        self.save(calls, light)
         self.assertEqual(json.loads(self.text())["objects"]["table"], table)
 
     def test_a_full_disk_keeps_the_file(self):
@@ -444,7 +616,7 @@ class TestFile(StudioTest):
         before = self.text()
         with mock.patch("os.fsync", side_effect=OSError(28, "No space left on device")):
             with self.assertRaises(OSError):
-                calls["save"]({"contents": contents()})
+                self.save(calls, contents())
         self.assertEqual(self.text(), before)
         self.assertEqual([name for name in os.listdir(self.folder) if name.startswith(".")], [])
 
@@ -452,6 +624,22 @@ class TestFile(StudioTest):
         os.mkdir(self.path("graphs"))
         made = Document(self.path("graphs/a.json"), self.pictures, Blobs())
         self.assertEqual(made.files, [f"../part{number}.pgm" for number in range(3)])
+
+    def test_natural_order(self):
+        names = ["part2.pgm", "part10.pgm", "part1.pgm"]
+        for name in names:
+            vx.write_pgm(self.path(name), [[1]])
+        made = Document(self.file, [self.path(name) for name in names], Blobs())
+        self.assertEqual(made.files, ["part1.pgm", "part2.pgm", "part10.pgm"])
+
+    def test_the_first_picture_is_broken(self):
+        """The input has the size of the first picture that can be read."""
+        self.put("part.png", "")
+        gone = self.path("gone.png")
+        calls = self.studio(pictures=[gone, self.path("part.png"), *self.pictures])
+        self.assertEqual(calls["about"]({})["contents"], contents())
+        with self.assertRaisesRegex(OSError, "gone.png"):
+            self.studio(pictures=[gone])
 
 
 if __name__ == "__main__":

@@ -9,6 +9,7 @@ import signal
 import subprocess
 import sys
 import threading
+import time
 import unittest
 
 from program import PROGRAM, TOOLS, of_a_process, vx
@@ -185,7 +186,8 @@ class TestPage(PageTest):
         page = self.start()
         # The filter finds functions and images; Enter adds the first one.
         page.keys("/", "picture", ENTER)
-        page.find("#p-content").send_keys("good.pgm", ENTER)
+        # A menu takes only what is typed within a second, so here one letter.
+        page.find("#p-content").send_keys("g", ENTER)
         page.idle()
         self.assertEqual([told.get("file") for told in page.contents["objects"].values()],
                          [None, "good.pgm"])
@@ -205,7 +207,7 @@ class TestPage(PageTest):
         # An input's menu connects, a slider sets, and both are reached by P and Tab.
         page.keys(RIGHT, "p")
         self.assertEqual(page.run("return document.activeElement.id"), "p-input")
-        page.find("#p-input").send_keys("difference", ENTER)
+        page.find("#p-input").send_keys("d", ENTER)
         page.idle()
         self.assertEqual(page.contents["nodes"][2]["input"], "difference")
         page.control("z")
@@ -328,6 +330,67 @@ class TestPage(PageTest):
         self.assertEqual(page.contents, SCRATCHES)
         self.assertFalse(page.run("return studio.model.isModified"))
 
+    def test_a_reload_shows_what_was_saved(self):
+        page = self.start(SCRATCHES)
+        self.put("other.json", vx.graph_text(SCRATCHES))
+        page.choose("marks")
+        page.add("median3x3")
+        page.control("s")
+        page.until("return !studio.model.isModified")
+        self.driver.refresh()
+        page.idle()
+        self.assertEqual(page.functions[-1], "median3x3")
+        # Each tab keeps its own file.
+        page.control("o")
+        page.until("return document.getElementById('question').open")
+        page.find("#question-field select").send_keys("o", ENTER)
+        page.until("return studio.about.name === 'other.json'")
+        self.driver.refresh()
+        page.idle()
+        self.assertEqual(page.run("return studio.about.name"), "other.json")
+        self.assertEqual(page.contents, SCRATCHES)
+
+    def test_an_edit_while_the_file_is_saved(self):
+        page = self.start(SCRATCHES)
+        page.choose("marks")
+        page.add("median3x3")
+        page.run("studio.files.save().then(() => { window.isSaved = true });"
+                 "studio.edit(() => { studio.model.objects.limit.above = 9 })")
+        page.until("return window.isSaved")
+        self.assertEqual(self.saved()["objects"]["limit"]["above"], 24)
+        self.assertTrue(page.run("return studio.model.isModified"))
+
+    def test_a_studio_that_ended(self):
+        """The browser saves what the studio can't any more."""
+        page = self.start(SCRATCHES)
+        self.driver.execute_cdp_cmd("Browser.setDownloadBehavior", {
+            "behavior": "allow", "downloadPath": self.path("saved")})
+        page.choose("marks")
+        page.add("median3x3")
+        page.filled()
+        told = page.contents
+        self.studio.end()
+        page.control("s")
+        page.until("return document.getElementById('question').open")
+        page.keys(ENTER)
+        end = time.monotonic() + 60
+        while not os.path.exists(self.path("saved/station.json")) and time.monotonic() < end:
+            time.sleep(0.1)
+        self.assertEqual(self.saved("saved/station.json"), told)
+        self.assertTrue(page.run("return studio.model.isModified"))
+        self.assertIn("The studio has ended", page.status)
+
+    def test_the_choice_after_undo(self):
+        """The chosen node may be gone, also one without outputs."""
+        page = self.start(SCRATCHES)
+        page.run("studio.edit(() => studio.model.nodes.push({ function: 'noth' }))")
+        page.idle()
+        page.click("#cards [data-node='4'].cell")
+        self.assertEqual(page.find("#panel h2").text.split("\n")[0], "5 noth")
+        page.control("z")
+        self.assertEqual((page.status, page.run("return studio.chosen")), ("", "camera"))
+        self.assertEqual(page.find("#panel h2").text.split("\n")[0], "Input")
+
     def test_the_buttons_stay_when_the_file_is_saved(self):
         """A second click on Save isn't one on Save as."""
         page = self.start(SCRATCHES)
@@ -363,14 +426,30 @@ class TestPage(PageTest):
         self.assertEqual(page.run("return studio.chosen"), "delay[-1]")
         page.choose("camera")
         page.add("absdiff")
-        page.find("#p-in2").send_keys("delay[-1]", ENTER)
-        page.idle()
+        page.pick("#p-in2", "delay[-1]")
         self.assertEqual(page.faults, [])
         page.run("studio.go(1)")
         page.idle()
         wanted = bytes(abs(now - then) for rows in zip(part(2, True), part(1, False))
                        for now, then in zip(*rows))
         self.assertEqual(page.samples("difference"), wanted)
+
+    def test_the_strip_of_a_graph_with_sums(self):
+        """It goes through the pictures in their order, because each sum needs those before it."""
+        page = self.start()
+        page.run("studio.go(3)")
+        page.filled()
+        page.run("""const { strip } = studio, { show } = strip
+            window.shown = []
+            strip.show = (tile, ...rest) => {
+              shown.push(strip.tiles.indexOf(tile))
+              show.call(strip, tile, ...rest)
+            }""")
+        page.add("accumulate")
+        page.filled()
+        page.control("z")
+        page.filled()
+        self.assertEqual(page.run("return shown"), [0, 1, 2, 3, 4, 3, 4, 0, 1, 2])
 
     def test_rename(self):
         page = self.start(SCRATCHES)
@@ -380,7 +459,27 @@ class TestPage(PageTest):
             page.idle()
             self.assertEqual(page.contents["nodes"][1]["output"], name)
             self.assertEqual(page.contents["nodes"][2]["input"], name)
+            self.assertEqual("isn't possible as a name" in page.status, wish != name)
         self.assertEqual(page.run("return studio.chosen"), "bright")
+
+    def test_no_picture(self):
+        page = self.start(SCRATCHES)
+        page.choose("camera")
+        page.click("#panel h2 button")
+        self.assertEqual((page.find("#viewname").text, page.find("#zoom").text), ("", ""))
+        page.control("z")
+        self.assertEqual(page.find("#viewname").text, "camera")
+
+    def test_a_value_out_of_range(self):
+        """A run that is under way doesn't take the message away."""
+        page = self.start(SCRATCHES)
+        page.choose("over")
+        page.find("#p-limit-n").send_keys(CONTROL, "a", CONTROL, "256", TAB)
+        page.idle()
+        self.assertEqual(page.status, "256 isn't possible here: give a number from 0 to 255")
+        page.find("#p-limit-n").send_keys(CONTROL, "a", CONTROL, "26", TAB)
+        page.idle()
+        self.assertEqual(page.status, "")
 
     def test_the_sample_under_the_pointer(self):
         page = self.start(SCRATCHES)
@@ -411,6 +510,8 @@ class TestPage(PageTest):
         page.keys(PAGE_DOWN)
         self.assertEqual([fault["object"] for fault in page.faults], ["camera"])
         self.assertIn("(2, 2)", page.find("#problems").text)
+        page.choose("camera")
+        self.assertEqual(page.find("#panel .fault").text.count("must have the size"), 1)
         page.keys(PAGE_UP)
         self.assertEqual(page.faults, [])
 
@@ -500,8 +601,142 @@ for (const element of document.body.querySelectorAll('*')) {
 }
 return found
 """
+# The words of the page that have a backtick.
+BACKTICKS = """
+return [...document.body.querySelectorAll('*')].flatMap(
+  ({ childNodes, title, ariaLabel, placeholder }) => [
+    ...[...childNodes].filter(node => node.nodeType === 3).map(node => node.textContent),
+    title, ariaLabel, placeholder]).filter(words => words?.includes('`'))
+"""
 CONTROLS = {"button", "textbox", "searchbox", "combobox", "checkbox", "slider", "spinbutton",
             "separator", "radio", "listbox", "option", "MenuListPopup"}
+
+
+# The buttons of the bar that aren't wholly in the window, or have two lines, in JavaScript.
+CUT_OFF = """
+return [...document.querySelectorAll('#bar button')].filter(one => {
+  const { left, right, height } = one.getBoundingClientRect()
+  return left < 0 || right > innerWidth || height > 21
+}).map(one => one.id)
+"""
+
+
+class TestSizes(PageTest):
+    """Small windows, and long names and messages."""
+
+    def resize(self, width, height):
+        self.driver.execute_cdp_cmd("Emulation.setDeviceMetricsOverride", {
+            "width": width, "height": height, "deviceScaleFactor": 1, "mobile": False})
+
+    def setUp(self):
+        super().setUp()
+        self.addCleanup(self.resize, 1440, 900)
+
+    def test_long_names(self):
+        long = f"{'part_' * 40}.pgm"
+        vx.write_pgm(self.path(long), part(1, False))
+        self.put(f"{'station' * 20}.json", vx.graph_text(SCRATCHES))
+        self.studio = StudioProcess(self.folder, f"{'station' * 20}.json", "part1.pgm", long)
+        self.addCleanup(self.studio.end)
+        self.addCleanup(self.driver.get, "about:blank")
+        page = self.page = Page(self.driver, self.studio.address)
+        place = "return document.getElementById('next').getBoundingClientRect().left"
+        for width in (1024, 1440):
+            self.resize(width, 600)
+            at_first = page.run(place)
+            page.keys(PAGE_DOWN)
+            self.assertEqual(page.run(place), at_first, "the next click is on the same button")
+            self.assertEqual(page.run(CUT_OFF), [])
+            page.keys(PAGE_UP)
+
+    def test_a_long_message(self):
+        """It is shown whole, and goes away by a click."""
+        page = self.start(SCRATCHES)
+        self.resize(1024, 600)
+        page.run("studio.say(arguments[0], true)", "The server has ended. " * 20)
+        self.assertEqual(page.run(CUT_OFF), [])
+        self.assertTrue(page.run("""const box = document.getElementById('status')
+            return box.scrollWidth <= box.clientWidth && box.scrollHeight <= box.clientHeight"""))
+        page.click("#status")
+        self.assertEqual(page.status, "")
+
+    def test_a_small_window(self):
+        page = self.start(SCRATCHES)
+        for height, least in ((600, 180), (900, 420)):
+            self.resize(1024, height)
+            page.until(f"return innerHeight === {height}")
+            self.assertGreaterEqual(page.run("return studio.viewer.large.clientHeight"), least)
+        # A graph that was made high doesn't hide the picture when the window becomes lower.
+        page.run("document.getElementById('middle').style.setProperty('--graph', '700px')")
+        self.resize(1024, 600)
+        page.until("return innerHeight === 600")
+        self.assertGreaterEqual(page.run("return studio.viewer.large.clientHeight"), 120)
+
+    def test_a_large_graph(self):
+        """A new card is in view, and a card that is clicked stays under the pointer."""
+        place = "return studio.graph.cellOf(arguments[0]).getBoundingClientRect().toJSON()"
+        page = self.start()
+        for _ in range(7):
+            page.run("studio.choose('camera')")
+            page.add("not_")
+        around = page.run("return studio.graph.graph.getBoundingClientRect().toJSON()")
+        shown = page.run(place, "inverted7")
+        self.assertGreater(shown["top"], around["top"])
+        self.assertLess(shown["bottom"], around["bottom"])
+        before = page.run(place, "inverted6")
+        page.choose("inverted6")
+        self.assertEqual(page.run(place, "inverted6"), before)
+        page.run("studio.edit(() => { studio.model.objects.inverted7.format = 'S16' })")
+        page.idle()
+        # The list of faults takes no card's place.
+        page.run("studio.choose('inverted7')")
+        self.assertLess(page.run(place, "inverted7")["bottom"], page.run(
+            "return document.getElementById('problems').getBoundingClientRect().top"))
+
+    def test_a_large_kernel(self):
+        page = self.start(SCRATCHES)
+        self.resize(1024, 600)
+        page.choose("camera")
+        page.add("convolve")
+        page.run("studio.edit(() => { studio.model.objects.kernel.rows = "
+                 "Array.from({ length: 9 }, () => Array(9).fill(-99)) })")
+        page.idle()
+        self.assertEqual(page.run("return [...document.querySelectorAll('.kernel input')].filter("
+                                  "one => one.scrollWidth <= one.clientWidth).length"), 81)
+
+    def test_long_numbers(self):
+        """Extremes of S16 samples have a line each, and a long name leaves the sample in view."""
+        page = self.start(SCRATCHES)
+        self.resize(1024, 600)
+        page.choose("camera")
+        page.add("multiply")
+        page.run("""studio.edit(() => {
+            const { objects, nodes } = studio.model
+            Object.assign(nodes.at(-1), { in2: 'camera', shift: 0 })
+            objects[nodes.at(-1).output].format = 'S16'
+        })""")
+        page.idle()
+        page.run("studio.rename(studio.chosen, arguments[0])", "long" * 30)
+        page.idle()
+        page.add("min_max_loc")
+        words, tall, wide, room = page.run(
+            "const { textContent, offsetHeight, scrollWidth, clientWidth } = "
+            "document.querySelector('.numbers b');"
+            "return [textContent, offsetHeight, scrollWidth, clientWidth]")
+        self.assertEqual((len(words), tall < 20, wide <= room), (5, True, True))
+        page.choose("long" * 30)
+        large = page.find("#large")
+        page.actions().move_to_element(large).perform()
+        page.until("return /^x [0-9]/.test(document.getElementById('under').textContent)")
+        self.assertLessEqual(*page.run(
+            "return ['under', 'viewbar'].map("
+            "id => document.getElementById(id).getBoundingClientRect().right)"))
+
+    def test_thumbnails_keep_their_shape(self):
+        page = self.start(SCRATCHES)
+        for canvas in ("#strip canvas", "#cards canvas"):
+            self.assertEqual(page.run("return getComputedStyle(document.querySelector("
+                                      "arguments[0])).objectFit", canvas), "contain")
 
 
 class TestAccessibility(PageTest):
@@ -550,6 +785,12 @@ class TestAccessibility(PageTest):
                        and not node.get("name", {}).get("value", "").strip()]
             with self.subTest(state):
                 self.assertEqual(unnamed, [])
+
+    def test_no_backticks(self):
+        """Code is shown as code."""
+        for state in self.states():
+            with self.subTest(state):
+                self.assertEqual(self.page.run(BACKTICKS), [])
 
     def test_wires_as_text(self):
         page = self.start(SCRATCHES)

@@ -86,8 +86,8 @@ class TestWeb(unittest.TestCase):
 
     def setUp(self):
         def fails(told):
-            raise {"key": KeyError("a"), "system": OSError("no"), "client": vx.Closed("shut")}[
-                told["kind"]]
+            raise {"key": KeyError("a"), "system": OSError("no"), "client": vx.Closed("shut"),
+                   "file": OSError(28, "No space left on device", "a.json")}[told["kind"]]
 
         self.asked = []
         self.site = Site(0, "a token", {"about": lambda told: self.asked.append(told) or {"a": 1},
@@ -172,8 +172,11 @@ class TestWeb(unittest.TestCase):
             self.refuses(400, body=body)
 
     def test_errors_of_calls(self):
-        for kind, status in (("key", 400), ("system", 500), ("client", 500), ("none", 400)):
+        for kind, status in (("key", 400), ("system", 500), ("client", 500), ("file", 500),
+                             ("none", 400)):
             self.refuses(status, path="/api/fail", body=json.dumps({"kind": kind}))
+        _, body, _ = self.ask(path="/api/fail", body='{"kind": "file"}')
+        self.assertEqual(json.loads(body), {"error": "a.json: No space left on device"})
 
     def test_the_page(self):
         """Each file of the page is served, and none has code or addresses from elsewhere."""
@@ -186,6 +189,8 @@ class TestWeb(unittest.TestCase):
             self.assertEqual(headers["X-Frame-Options"], "DENY")
             text = body.decode().replace("http://www.w3.org/", "")
             self.assertNotRegex(text, r"https?://|//[a-z]+\.|innerHTML|eval\(|\son\w+=\"", name)
+            # The marks of code in these documents would be shown as they are.
+            self.assertNotRegex(text, "'`|`'", name)
         self.assertEqual(self.ask("GET", "/")[1], self.ask("GET", "/index.html")[1])
 
     def test_the_palette_has_each_function(self):

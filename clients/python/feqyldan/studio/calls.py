@@ -11,11 +11,16 @@ from ..functions import FUNCTIONS, OPERANDS, Functions, parameters_of
 from ..graph_files import FIELDS, GraphFileError
 from ..ranges import PARAMETER_RANGES, SIDES_OF_CONVOLUTIONS
 from ..verdicts import OPENED, TAKEN, formats_in_words
-from .bench import Bench, Outcome, Shown, fault_for_run
+from .bench import Bench, Outcome, fault_for_run
 from .document import Document
 from .drafts import Blobs
+from .runs import Shown
 from .views import marked, masks_in, part_of, thumb
 from .web import Call, Packed, Refusal
+
+# The parameters that take an image, and what to do if one has none.
+IMAGES = "input", "in1", "in2"
+CONNECT = "Choose an image in its menu, or drag a wire to it."
 
 
 class Studio:
@@ -28,7 +33,7 @@ class Studio:
         self._document = Document(path, pictures, self._blobs)
         self._chosen = Bench(path, pictures, self._blobs)
         self._others = Bench(path, pictures, self._blobs)
-        self._saving = threading.Lock()
+        self._filing = threading.Lock()
 
     @property
     def calls(self) -> Mapping[str, Call]:
@@ -40,35 +45,26 @@ class Studio:
         self._chosen.close()
         self._others.close()
 
-    def _about(self, _: Dict[str, Any]) -> Any:
+    def _about(self, told: Dict[str, Any]) -> Any:
+        with self._filing:
+            file = self._document.begin(str(told.get("name")))
         return {
-            **self._file(), "pictures": [os.path.basename(path) for path in self._pictures],
+            **file, "pictures": [os.path.basename(path) for path in self._pictures],
             "functions": {name: about(name) for name in FUNCTIONS}, "operands": OPERANDS,
             "fields": FIELDS, "ranges": PARAMETER_RANGES, "sides": SIDES_OF_CONVOLUTIONS}
-
-    def _file(self) -> Dict[str, Any]:
-        document = self._document
-        return {"name": document.name, "folder": document.folder, "contents": document.contents,
-                "files": document.files}
 
     def _graphs(self, _: Dict[str, Any]) -> Any:
         return self._document.graphs()
 
     def _open(self, told: Dict[str, Any]) -> Any:
-        with self._saving:
-            self._document.open(str(told["name"]))
-            for bench in (self._chosen, self._others):
-                bench.path = self._document.path
-            return self._file()
+        with self._filing:
+            return self._document.open(str(told["name"]))
 
     def _save(self, told: Dict[str, Any]) -> Any:
-        contents = self._document.checked(told["contents"])
-        with self._saving:
-            name = str(told.get("name") or self._document.name)
-            self._document.save(contents, name, bool(told.get("sure")))
-            for bench in (self._chosen, self._others):
-                bench.path = self._document.path
-            return {**self._file(), "fault": fault_for_run(self._document.path)}
+        contents, name = self._document.checked(told["contents"]), str(told["name"])
+        with self._filing:
+            saved = self._document.save(contents, name, told.get("stamp"), bool(told.get("sure")))
+        return {**saved, "fault": fault_for_run(self._document.path_of(name))}
 
     def _run(self, told: Dict[str, Any]) -> Packed:
         """Runs the contents. The reply has the thumbnails that the page doesn't have yet, and the
@@ -76,7 +72,8 @@ class Studio:
         contents, has = self._document.checked(told["contents"]), told.get("has", {})
         outcome = ran(self._chosen, contents, self._index(told))
         masks, shown = masks_in(contents), outcome.shown
-        head: Dict[str, Any] = {**faults(outcome), "shown": {}, "seconds": outcome.seconds}
+        head: Dict[str, Any] = {**faults(outcome), "shown": {}, "remembers": outcome.remembers,
+                                "seconds": outcome.seconds}
         packed = Packed(head)
         for name, one in shown.items():
             about = head["shown"][name] = described(one, name in masks)
@@ -91,10 +88,10 @@ class Studio:
         return packed
 
     def _part(self, told: Dict[str, Any]) -> Packed:
-        """Returns a part of an image of the last run."""
+        """Returns a part of an image of the page's last run."""
         one = self._chosen.shown.get(told["name"])
-        if one is None or one.kind != "image":
-            raise Refusal(404, f"there is no image {told['name']!r}")
+        if one is None or not is_marked(one, told.get("mark")):
+            raise Refusal(409, "another window has run its graph since")
         is_mask = bool(told.get("mask"))
         head = described(one, is_mask)
         packed = Packed(head)
@@ -102,11 +99,11 @@ class Studio:
         return packed
 
     def _pixel(self, told: Dict[str, Any]) -> Any:
-        """Returns the sample of each image of the last run at a pixel."""
-        x, y = int(told["x"]), int(told["y"])
+        """Returns the sample of each image of the page's last run at a pixel."""
+        x, y, marks = int(told["x"]), int(told["y"]), told["marks"]
         return {name: int(one.samples[y, x]) for name, one in self._chosen.shown.items()
-                if one.kind == "image" and 0 <= x < one.about["width"]
-                and 0 <= y < one.about["height"]}
+                if one.kind == "image" and is_marked(one, marks.get(name))
+                and 0 <= x < one.about["width"] and 0 <= y < one.about["height"]}
 
     def _strip(self, told: Dict[str, Any]) -> Packed:
         """Runs another picture. Returns a thumbnail of one image, and how many samples aren't 0."""
@@ -153,13 +150,20 @@ def faults(outcome: Outcome) -> Dict[str, Any]:
 
 
 def in_json(fault: GraphFileError) -> Dict[str, Any]:
+    is_unconnected = fault.operand in IMAGES and not fault.code
     return {"object": fault.object, "node": fault.node, "operand": fault.operand,
-            "code": fault.code, "words": fault.words, "advice": fault.advice}
+            "code": fault.code, "words": fault.words,
+            "advice": fault.advice or (CONNECT if is_unconnected else "")}
 
 
 def described(one: Shown, is_mask: bool) -> Dict[str, Any]:
     return {"kind": one.kind, "mark": f"{one.mark}{' mask' if is_mask else ''}", "mask": is_mask,
             **one.about}
+
+
+def is_marked(one: Shown, mark: Any) -> bool:
+    """Returns whether a page has this mark for these samples, as a mask or not."""
+    return str(mark).partition(" ")[0] == one.mark
 
 
 def full(packed: Packed, one: Shown, want: Dict[str, Any], is_mask: bool) -> Dict[str, Any]:

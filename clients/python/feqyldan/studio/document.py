@@ -1,67 +1,79 @@
-"""The graph file that the studio edits: opened, saved, and saved under another name."""
+"""
+The graph files that the studio's pages edit: opened, saved, and saved under another name.
+
+Several pages may edit a file. Each has the stamp of the bytes that it has read or saved, so that no
+page replaces what it doesn't know without a question.
+"""
 
 from __future__ import annotations
 
+import hashlib
 import os
-from typing import Any, Dict, List, Optional, Sequence, Set
+from typing import Any, Dict, List, Optional, Sequence, Set, Tuple
 
+from ..errors import BadPicture
 from ..files import load
 from ..graph_files import (
     VERSION, GraphFileError, Place, at_place, checked, files_in, graph_text, told_by)
 from ..json_files import GREATEST_FILE
 from ..samples import Format, samples_of
-from ..storage import naming, read_bytes, write_bytes
+from ..storage import naming, natural, read_bytes, write_bytes
 from .drafts import Blobs
 from .web import Refusal
 
-# The size of the input of a new graph without pictures.
-NEW_SIZE = 640, 480
+# The format and the sides of the input of a new graph without pictures.
+NEW_SHAPE = Format.U8, 640, 480
 
 
 class Document:
-    """A graph file in a folder. `contents` are the file's, with a short word for each long
-    field."""
+    """The graph files of a folder. Pages get contents with a short word for each long field."""
 
     def __init__(self, path: str, pictures: Sequence[str], blobs: Blobs) -> None:
         self.folder = os.path.dirname(os.path.abspath(path))
         if not os.path.isdir(self.folder):
             raise FileNotFoundError(f"{path}: there is no folder {self.folder}: create it first")
-        self._blobs = blobs
-        self._pictures = [os.path.relpath(os.path.abspath(picture), self.folder)
-                          for picture in pictures]
-        self._read(os.path.basename(path), pictures)
-
-    @property
-    def path(self) -> str:
-        return os.path.join(self.folder, self.name)
+        self._blobs, self._pictures = blobs, list(pictures)
+        self._files: Set[str] = {os.path.relpath(os.path.abspath(picture), self.folder)
+                                 for picture in pictures}
+        # The contents and the bytes of the files that were read, by name.
+        self._read: Dict[str, Tuple[Dict[str, Any], Optional[bytes]]] = {}
+        self._name = os.path.basename(path)
+        self.read(self._name)
 
     @property
     def files(self) -> List[str]:
         """The picture files that an image of the graph may be, by their paths from its folder."""
-        return sorted(self._files)
+        return sorted(self._files, key=natural)
 
-    def _read(self, name: str, pictures: Sequence[str] = ()) -> None:
-        path = os.path.join(self.folder, name)
+    def path_of(self, name: str) -> str:
+        return os.path.join(self.folder, name)
+
+    def read(self, name: str) -> Dict[str, Any]:
+        """Reads a graph file of the folder, or begins a new one. Returns what a page has to know of
+        it."""
+        path = self.path_of(name)
         text = content_of(path)
-        contents = new_contents(pictures) if text is None else told_by(path)
+        contents = new_contents(self._pictures) if text is None else told_by(path)
         check_objects(path, contents)
-        self.name = name
-        # What the file has now, and what it had when it was opened.
-        self._text = self._opened_text = text
-        self._opened = contents
-        self.contents = self._blobs.lightened(contents)
-        self._files: Set[str] = {*self._pictures, *files_in(contents)}
+        self._read[name] = contents, text
+        self._files |= set(files_in(contents))
+        return {"name": name, "folder": self.folder, "files": self.files, "stamp": stamp_of(text),
+                "contents": self._blobs.lightened(contents)}
 
     def graphs(self) -> List[str]:
         """Returns the names of the graph files in the folder."""
-        return [name for name in sorted(os.listdir(self.folder))
-                if name.endswith(".json") and is_graph_file(os.path.join(self.folder, name))]
+        return [name for name in sorted(os.listdir(self.folder), key=natural)
+                if name.endswith(".json") and is_graph_file(self.path_of(name))]
 
-    def open(self, name: str) -> None:
+    def begin(self, name: str) -> Dict[str, Any]:
+        """Reads the file that a page had before it was reloaded, or else the studio's first one."""
+        return self.read(name if name in self._read else self._name)
+
+    def open(self, name: str) -> Dict[str, Any]:
         """Reads another graph file of the folder."""
         if name not in self.graphs():
             raise Refusal(403, f"{name} is none of the graph files in {self.folder}")
-        self._read(name)
+        return self.read(name)
 
     def checked(self, contents: Any) -> Dict[str, Any]:
         """Returns contents from the page. Raises Refusal unless they are those of a graph file, and
@@ -75,34 +87,44 @@ class Document:
                               "command line")
         return contents
 
-    def save(self, contents: Dict[str, Any], name: str, is_sure: bool) -> None:
-        """Replaces the file, or a file of another name in the folder. Unless `is_sure`, refuses to
-        replace what another program has written."""
+    def save(self, contents: Dict[str, Any], name: str, stamp: Optional[str],
+             is_sure: bool) -> Dict[str, Any]:
+        """Replaces the page's file, which had the stamp, or without one writes a file of another
+        name. Unless `is_sure`, refuses to replace what the page doesn't know. Returns what a page
+        has to know of the file."""
         self._check_name(name)
-        path = os.path.join(self.folder, name)
-        now = content_of(path)
-        if not is_sure and now != (self._text if name == self.name else None):
-            words = "was changed by another program since it was read" if name == self.name else (
-                "exists already")
-            raise Refusal(409, f"{name} {words}")
+        now = stamp_of(content_of(self.path_of(name)))
+        if not is_sure and now != (stamp or ""):
+            raise Refusal(409, f"{name} exists already" if stamp is None else
+                          f"{name} was changed by another program or window since it was read")
         whole = self._blobs.whole(contents)
-        text = graph_text(whole).encode()
-        if self._opened_text is not None and whole == self._opened:
-            # With every edit undone, the file keeps its own layout.
-            text = self._opened_text
-        write_bytes(path, [text])
-        self.name, self._text = name, text
+        text = self._text_of(whole)
+        write_bytes(self.path_of(name), [text])
+        self._read.setdefault(name, (whole, text))
         self._files |= set(files_in(contents))
+        return {"name": name, "files": self.files, "stamp": stamp_of(text)}
+
+    def _text_of(self, whole: Dict[str, Any]) -> bytes:
+        """Returns the text of a graph file. With every edit undone, a file keeps its own layout."""
+        for contents, text in self._read.values():
+            if text is not None and contents == whole:
+                return text
+        return graph_text(whole).encode()
 
     def _check_name(self, name: str) -> None:
-        path = os.path.join(self.folder, name)
         is_plain = name == os.path.basename(name) and name.endswith(".json") and (
             not name.startswith("."))
         if not is_plain:
             raise Refusal(403, f"{name!r} is no name for a graph file: give a name that ends in "
                           ".json, without a folder")
-        if name != self.name and os.path.lexists(path) and not is_graph_file(path):
+        path = self.path_of(name)
+        if name not in self._read and os.path.lexists(path) and not is_graph_file(path):
             raise Refusal(403, f"{name} exists, and isn't a graph file: give another name")
+
+
+def stamp_of(text: Optional[bytes]) -> str:
+    """Returns a short text that differs for different bytes of a file; empty if there is none."""
+    return "" if text is None else hashlib.sha1(text).hexdigest()
 
 
 def check_objects(path: str, contents: Dict[str, Any]) -> None:
@@ -117,14 +139,25 @@ def check_objects(path: str, contents: Dict[str, Any]) -> None:
 
 
 def new_contents(pictures: Sequence[str]) -> Dict[str, Any]:
-    """Returns the contents of a new graph file, whose input has the size of the first picture."""
-    (width, height), fmt = NEW_SIZE, Format.U8
-    if pictures:
-        picture = load(pictures[0])
-        with naming(pictures[0]):
-            fmt, width, height, _ = samples_of(picture)
+    """Returns the contents of a new graph file, whose input has the size of the first picture that
+    can be read."""
+    fmt, width, height = shape_of_first(pictures) if pictures else NEW_SHAPE
     return {"feqyldan": VERSION, "nodes": [], "objects": {"camera": {
         "kind": "image", "format": str(fmt), "width": width, "height": height, "input": True}}}
+
+
+def shape_of_first(pictures: Sequence[str]) -> Tuple[Format, int, int]:
+    """Returns the format and the sides of the first picture that can be read. If there is none,
+    raises the error of the first picture."""
+    errors: List[Exception] = []
+    for path in pictures:
+        try:
+            picture = load(path)
+            with naming(path):
+                return samples_of(picture)[:3]
+        except (BadPicture, ImportError, OSError) as error:
+            errors.append(error)
+    raise errors[0]
 
 
 def content_of(path: str) -> Optional[bytes]:

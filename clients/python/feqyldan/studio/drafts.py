@@ -4,6 +4,7 @@ from __future__ import annotations
 
 import hashlib
 import json
+import os
 from collections import OrderedDict
 from typing import Any, Callable, Dict, Tuple
 
@@ -20,6 +21,22 @@ LONG = 4000
 def digest(value: Any) -> str:
     """Returns a short text that differs for different JSON values."""
     return hashlib.sha1(json.dumps(value, sort_keys=True).encode()).hexdigest()
+
+
+def state_of(path: str) -> Any:
+    """Returns what changes when a file is written anew; None if there is no such file."""
+    try:
+        found = os.stat(path)
+    except OSError:
+        return None
+    return found.st_mtime_ns, found.st_size, found.st_ino
+
+
+def state_in(graph: str, described: Any) -> Any:
+    """Returns the state of the picture file that an object of a graph file names; None if it names
+    none."""
+    file = described.get("file") if isinstance(described, dict) else None
+    return state_of(os.path.join(os.path.dirname(graph), file)) if isinstance(file, str) else None
 
 
 class Blobs:
@@ -79,6 +96,13 @@ class Pool:
             self._things.popitem(last=False)
 
 
+def remembers(contents: Dict[str, Any]) -> bool:
+    """Returns whether a file's graph has sums or a delay, which depend on earlier runs."""
+    return any(isinstance(described, dict) and described.get("kind") == "delay"
+               for described in contents["objects"].values()) or any(
+        isinstance(node, dict) and node.get("function") in ADDING for node in contents["nodes"])
+
+
 def no_action(name: str, thing: Any) -> None:
     """Does nothing with an object."""
 
@@ -92,10 +116,7 @@ class PooledDraft(Draft):
         super().__init__(context, path)
         self._contents, self._pool, self._blobs = contents, pool, blobs
         self._written = {name for node in contents["nodes"] for name in outputs_of(node).values()}
-        self.remembers = any(
-            isinstance(described, dict) and described.get("kind") == "delay"
-            for described in contents["objects"].values()) or any(
-            isinstance(node, dict) and node.get("function") in ADDING for node in contents["nodes"])
+        self.remembers = remembers(contents)
         self._on_made: Callable[[str, Any], None] = no_action
 
     @property
@@ -124,8 +145,14 @@ class PooledDraft(Draft):
                 name, self._blobs.whole_object(told) if isinstance(told, dict) else told)
 
         kind = told.get("kind") if isinstance(told, dict) else None
-        is_written = name in self._written
-        if kind == "virtual image" or self.remembers and (is_written or kind == "delay"):
+        if kind == "virtual image" or self.remembers and self.is_changed(name):
             return make()
         # An image that nodes wrote isn't 0 any more when no node writes it.
-        return self._pool.get(("written" if is_written else "", name), told, make)
+        return self._pool.get(("written" if name in self._written else "", name),
+                              [told, state_in(self._path, told)], make)
+
+    def is_changed(self, name: str) -> bool:
+        """Returns whether a run changes an object."""
+        described = self._contents["objects"][name]
+        return name in self._written or (
+            isinstance(described, dict) and described.get("kind") == "delay")

@@ -18,6 +18,7 @@ from http.server import BaseHTTPRequestHandler, ThreadingHTTPServer
 from typing import Any, Callable, Dict, List, Mapping, Tuple
 
 from ..errors import FeqyldanError
+from ..storage import cause_of
 
 PAGE = os.path.join(os.path.dirname(os.path.abspath(__file__)), "page")
 KINDS = {".html": "text/html; charset=utf-8", ".js": "text/javascript; charset=utf-8",
@@ -158,7 +159,7 @@ def done(call: Call, told: Dict[str, Any]) -> Any:
     try:
         return call(told)
     except (FeqyldanError, OSError, ImportError) as error:
-        raise Refusal(500, str(error)) from None
+        raise Refusal(500, cause_of(error)) from None
     except (AttributeError, IndexError, KeyError, TypeError, ValueError, RecursionError) as error:
         raise Refusal(400, f"the call isn't one of the page's: {error!r}") from None
 

@@ -1,12 +1,18 @@
 // Calls of the Python side. A reply with pictures is a head in JSON, and binary parts.
 
 const KEY = 'feqyldan-studio-token'
-// The token comes in the fragment, which browsers never send. It is kept for reloads of this tab.
+const FILE = 'feqyldan-studio-file'
+// The token comes in the fragment, which browsers never send. It is kept for reloads of this tab, and
+// so is the name of the graph file.
 const token = location.hash.slice(1)
 if (token) {
   sessionStorage.setItem(KEY, token)
+  sessionStorage.removeItem(FILE)
   history.replaceState(null, '', location.pathname)
 }
+
+export const fileOfTab = () => sessionStorage.getItem(FILE) ?? ''
+export const keepFileOfTab = name => sessionStorage.setItem(FILE, name)
 
 export class CallError extends Error {
   constructor (status, words) {

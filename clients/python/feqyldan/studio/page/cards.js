@@ -88,6 +88,7 @@ export class Card {
     const root = el('div', { className: 'cell', tabIndex: 0, ariaLabel: this.words() }, this.explanation())
     root.setAttribute('role', 'button')
     root.dataset.node = this.box.at
+    root.classList.toggle('chosen', this.studio.chosenNode === this.box.at)
     root.onclick = () => this.studio.chooseNode(this.box.at)
     return root
   }

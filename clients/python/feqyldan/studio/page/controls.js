@@ -36,7 +36,7 @@ export class Controls {
   check (id, now, words, set) {
     const box = el('input', { type: 'checkbox', id, checked: now })
     box.onchange = () => this.studio.edit(() => set(box.checked))
-    return el('label', {}, box, words)
+    return el('label', {}, box, ...words)
   }
 
   // Buttons of which one is pressed.
@@ -76,7 +76,7 @@ export function faultBox (fault) {
   box.setAttribute('role', 'alert')
   if (fault.code) box.append(el('b', { textContent: fault.operand ? `${fault.code} · ${fault.operand}` : fault.code }))
   box.append(fault.words)
-  if (fault.advice) box.append(el('small', { textContent: fault.advice }))
+  if (fault.advice && !fault.words.includes(fault.advice)) box.append(el('small', { textContent: fault.advice }))
   return box
 }
 

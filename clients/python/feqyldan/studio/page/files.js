@@ -1,9 +1,14 @@
 // The graph file: open another one, save, and save under another name.
-import { call } from './api.js'
+import { call, keepFileOfTab } from './api.js'
 import { byId, el } from './dom.js'
 import { ask } from './questions.js'
 
 const CHANGED = 409
+// The status of a call after the studio has ended.
+const ENDED = 0
+
+// The milliseconds that the browser has for a download.
+const PATIENCE = 60000
 
 export class Files {
   constructor (studio) {
@@ -26,7 +31,7 @@ export class Files {
       const lost = model.isModified ? ` The changes of ${this.name} aren't saved, and will be lost.` : ''
       const [choice, name] = await ask('Open a graph file', `The graph files in ${about.folder}.${lost}`, ['Open', 'Cancel'], field)
       if (choice !== 'Open') return
-      Object.assign(about, await call('open', { name }))
+      this.take(await call('open', { name }))
       this.studio.begin()
     })
   }
@@ -40,26 +45,47 @@ export class Files {
 
   async save (name = this.name) {
     await this.trying(async () => {
-      const reply = await this.send(name)
+      // The graph may be edited until the reply comes.
+      const contents = structuredClone(this.studio.model.contents)
+      const reply = await this.send(name, contents)
       if (!reply) return
-      Object.assign(this.studio.about, { name: reply.name, files: reply.files })
-      this.studio.model.markSaved()
-      this.studio.say(reply.fault ? `Saved, but run refuses it: ${reply.fault}` : `Saved ${reply.name}`, !!reply.fault)
+      const { fault, ...file } = reply
+      this.take(file)
+      this.studio.model.markSaved(contents)
+      this.studio.say(fault ? `Saved, but run refuses it: ${fault}` : `Saved ${file.name}`, !!fault)
     })
     this.studio.bar()
   }
 
-  // Returns the reply, or null if a file of another program isn't to be replaced.
-  async send (name) {
-    const { contents } = this.studio.model
+  // Takes what the Python side says of the file that this page has now.
+  take (file) {
+    Object.assign(this.studio.about, file)
+    keepFileOfTab(file.name)
+  }
+
+  // Returns the reply, or null if the file isn't saved: the studio has ended, or a file that this page
+  // doesn't know isn't to be replaced.
+  async send (name, contents) {
+    const told = { contents, name, stamp: name === this.name ? this.studio.about.stamp : null }
     try {
-      return await call('save', { contents, name })
+      return await call('save', told)
     } catch (error) {
+      if (error.status === ENDED && isWhole(contents)) { await this.download(name, contents); return null }
       if (error.status !== CHANGED) throw error
       const [choice] = await ask('Replace the file?', `${error.message}.`, ['Replace', 'Cancel'])
       if (choice !== 'Replace') { this.studio.say(`Not saved: ${error.message}`, true); return null }
-      return call('save', { contents, name, sure: true })
+      return call('save', { ...told, sure: true })
     }
+  }
+
+  // Lets the browser save the file, because the studio can't any more.
+  async download (name, contents) {
+    this.studio.say('The studio has ended: start it again.', true)
+    const [choice] = await ask('The studio has ended', `It can't write ${name} any more. The browser can download it.`, ['Download', 'Cancel'])
+    if (choice !== 'Download') return
+    const href = URL.createObjectURL(new Blob([JSON.stringify(contents, null, 1)], { type: 'application/json' }))
+    el('a', { href, download: name }).click()
+    setTimeout(() => URL.revokeObjectURL(href), PATIENCE)
   }
 
   async trying (action) {
@@ -67,4 +93,9 @@ export class Files {
       await action()
     } catch (error) { this.studio.say(error.message, true) }
   }
+}
+
+// Whether contents have no field that only the Python side has.
+function isWhole ({ objects }) {
+  return Object.values(objects).every(told => Object.values(told).every(value => !value?.kept))
 }

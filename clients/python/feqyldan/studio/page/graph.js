@@ -13,7 +13,7 @@ export class GraphView {
     for (const id of ['graph', 'world', 'cards', 'wires', 'problems']) this[id] = byId(id)
     Object.assign(this, { scale: 1, x: 0, y: 0, isFitted: true, views: [], sides: { wide: CARD, tall: 60 } })
     this.listen()
-    new ResizeObserver(() => this.isFitted && this.fit()).observe(this.graph)
+    new ResizeObserver(() => this.isFitted && this.refit()).observe(this.graph)
   }
 
   boxes () {
@@ -43,7 +43,8 @@ export class GraphView {
     this.cards.replaceChildren(...this.views.map(card => card.root))
     this.drawWires(boxes)
     this.drawProblems()
-    if (this.isFitted) this.fit()
+    if (this.isFitted) this.refit()
+    if (this.revealed !== this.studio.chosen) this.reveal(this.studio.chosen)
     if (focused !== undefined) this.cellOf(focused)?.focus({ preventScroll: true })
     this.repaint()
   }
@@ -92,10 +93,18 @@ export class GraphView {
   // ---- moving
 
   fit () {
-    const wide = this.graph.clientWidth - 2 * MARGIN
-    const tall = this.graph.clientHeight - 2 * MARGIN - this.problems.clientHeight
-    const scale = Math.max(LEAST_FIT, Math.min(1, wide / this.sides.wide, tall / this.sides.tall))
-    Object.assign(this, { scale, x: MARGIN, y: MARGIN, isFitted: true })
+    Object.assign(this, { x: MARGIN, y: MARGIN, isFitted: true })
+    this.refit()
+  }
+
+  // Shows the graph as large as it fits. Of one that is too large, the same part stays in view.
+  refit () {
+    const { wide, tall } = this.sides
+    const across = this.graph.clientWidth - MARGIN
+    const down = this.graph.clientHeight - MARGIN - this.problems.clientHeight
+    const scale = Math.max(LEAST_FIT, Math.min(1, (across - MARGIN) / wide, (down - MARGIN) / tall))
+    const inside = (from, room, size) => Math.min(MARGIN, Math.max(from, room - size * scale))
+    Object.assign(this, { scale, x: inside(this.x, across, wide), y: inside(this.y, down, tall) })
     this.move()
   }
 
@@ -105,9 +114,11 @@ export class GraphView {
   reveal (name) {
     const inside = this.cellOf(name)?.getBoundingClientRect()
     const around = this.graph.getBoundingClientRect()
+    this.revealed = name
     if (!inside) return
-    const dx = Math.max(0, around.left - inside.left + 8) - Math.max(0, inside.right - around.right + 8)
-    const dy = Math.max(0, around.top - inside.top + 8) - Math.max(0, inside.bottom - around.bottom + 8)
+    const bottom = around.bottom - this.problems.clientHeight
+    const dx = Math.max(0, around.left - inside.left + MARGIN) - Math.max(0, inside.right - around.right + MARGIN)
+    const dy = Math.max(0, around.top - inside.top + MARGIN) - Math.max(0, inside.bottom - bottom + MARGIN)
     if (!dx && !dy) return
     this.x += dx
     this.y += dy

@@ -1,5 +1,5 @@
 // The studio: what is chosen, and the edits of the graph.
-import { call } from './api.js'
+import { call, fileOfTab } from './api.js'
 import { byId, followPointer, setText } from './dom.js'
 import { Files } from './files.js'
 import { GraphView } from './graph.js'
@@ -74,8 +74,7 @@ class Studio {
   // ---- showing
 
   show () {
-    const { model } = this
-    if (this.chosen !== null && !model.object(this.chosen)) this.chosen = model.input() ?? null
+    this.keepChoice()
     const structure = this.structure()
     if (structure !== this.drawn) {
       this.drawn = structure
@@ -89,6 +88,13 @@ class Studio {
     this.viewer.draw()
     this.viewer.tell()
     this.bar()
+  }
+
+  // Chooses the input if an edit has removed what was chosen.
+  keepChoice () {
+    const { model } = this
+    const isThere = this.chosen === null ? model.nodes[this.outputless] : model.object(this.chosen)
+    if (!isThere) Object.assign(this, { chosen: model.input() ?? null, outputless: -1 })
   }
 
   // A text that changes whenever the cards have to be drawn anew.
@@ -108,7 +114,9 @@ class Studio {
     byId('undo').disabled = !model.past.length
     byId('redo').disabled = !model.future.length
     byId('stepper').hidden = !about.pictures.length
-    setText(byId('picture'), `${this.pictureName}  ${this.at + 1}/${about.pictures.length}`)
+    setText(byId('picture-name'), this.pictureName)
+    byId('picture').title = this.pictureName
+    setText(byId('picture-place'), `${this.at + 1}/${about.pictures.length}`)
   }
 
   say (words, isBad = false) {
@@ -243,6 +251,7 @@ class Studio {
     byId('redo').onclick = () => this.redo()
     byId('previous').onclick = () => this.step(-1)
     byId('next').onclick = () => this.step(1)
+    byId('status').onclick = () => this.say('')
     this.listenToTheme()
     this.listenToSplitter()
   }
@@ -269,6 +278,7 @@ class Studio {
   listenToSplitter () {
     const splitter = byId('splitter')
     const middle = byId('middle')
+    splitter.setAttribute('aria-valuenow', byId('graph').clientHeight)
     const resize = tall => {
       const height = Math.max(LEAST_GRAPH, Math.min(innerHeight - LEAST_VIEWER, tall))
       middle.style.setProperty('--graph', `${height}px`)
@@ -283,7 +293,7 @@ class Studio {
 }
 
 try {
-  window.studio = new Studio(await call('about'))
+  window.studio = new Studio(await call('about', { name: fileOfTab() }))
 } catch (error) {
   byId('status').textContent = error.message
   byId('status').classList.add('bad')

@@ -25,7 +25,7 @@ export class Model {
   get nodes () { return this.contents.nodes }
   get isModified () { return JSON.stringify(this.contents) !== this.saved }
 
-  markSaved () { this.saved = JSON.stringify(this.contents) }
+  markSaved (contents = this.contents) { this.saved = JSON.stringify(contents) }
 
   // Changes the contents. The edits of one gesture, such as the drag of a slider, are undone
   // together.

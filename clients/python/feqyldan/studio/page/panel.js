@@ -86,7 +86,7 @@ export class Panel {
     if (told.kind === 'delay') {
       part.append(
         row('slots', controls.slider('p-slots', studio.about.ranges['delay.slots'], told.slots, value => { told.slots = value })),
-        row('ages', controls.check('p-ages', !!told.ages, 'after each run', value => { told.ages = value })))
+        row('ages', controls.check('p-ages', !!told.ages, ['after each run'], value => { told.ages = value })))
     } else if (told.kind === 'image') part.append(this.contentRow(name, told))
     if (told.input) part.append(el('p', { textContent: 'Gets each picture before a run.' }))
     return part
@@ -94,7 +94,7 @@ export class Panel {
 
   contentRow (name, told) {
     const { studio } = this
-    const ofFile = told.samples ? ['samples in the file'] : []
+    const ofFile = told.samples ? ['samples in the file'] : told.fill ? [`${told.fill} everywhere`] : []
     const now = told.input ? 'input' : told.file ?? ofFile[0] ?? 'zeros'
     return row('content', this.controls.menu('p-content', ['input', 'zeros', ...studio.about.files, ...ofFile], now, value => {
       if (value === ofFile[0]) return
@@ -114,7 +114,12 @@ export class Panel {
     const told = studio.model.objects[base]
     const one = studio.result.shown[name]
     const field = el('input', { type: 'text', id: 'p-name', value: base, spellcheck: false })
-    field.onchange = () => { if (!studio.rename(base, field.value)) field.value = base }
+    field.onchange = () => {
+      const wish = field.value.trim()
+      if (wish === base || studio.rename(base, wish)) return
+      field.value = base
+      studio.say(`“${wish}” isn't possible as a name: another object has it, or it is empty, has a “/” or ends as a slot does.`, true)
+    }
     const part = section(TITLES[told.kind] ?? told.kind, row('name', field))
     const isSum = at >= 0 && 'accum' in studio.model.nodes[at]
     if (at >= 0 && ['image', 'virtual image'].includes(told.kind) && one?.kind === 'image' && !isSum) part.append(...this.resultRows(base, told, one, at))
@@ -124,7 +129,8 @@ export class Panel {
 
   resultRows (name, told, one, at) {
     const { studio, controls } = this
-    const rows = [row('result', controls.check('p-result', told.kind === 'image', '`run` writes it (R)', value => studio.model.setResult(name, value, one)))]
+    const words = [el('code', { textContent: 'run' }), ' writes it (R)']
+    const rows = [row('result', controls.check('p-result', told.kind === 'image', words, value => studio.model.setResult(name, value, one)))]
     const outputs = studio.model.functionOf(studio.model.nodes[at]).taken.map(([, , output]) => output)
     const fmts = ['U8', 'S16'].filter(fmt => outputs.includes(fmt))
     if (fmts.length < 2) return rows

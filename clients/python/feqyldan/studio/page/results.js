@@ -7,7 +7,7 @@ export const WHOLE = 4e6
 
 export class Results {
   constructor () {
-    Object.assign(this, { faults: [], waiting: {}, shown: {}, thumbs: {}, fulls: new Map() })
+    Object.assign(this, { faults: [], waiting: {}, shown: {}, remembers: false, thumbs: {}, fulls: new Map() })
   }
 
   faultsOfNode (at) { return at < 0 ? [] : this.faults.filter(fault => fault.node === at + 1) }
@@ -27,7 +27,8 @@ export class Results {
     for (const [name, full] of this.fulls) {
       if (reply.shown[name]?.mark !== full.mark || !wanted.includes(name)) this.fulls.delete(name)
     }
-    Object.assign(this, { faults: reply.faults, waiting: reply.waiting, shown: reply.shown, thumbs })
+    const { faults, waiting, shown, remembers } = reply
+    Object.assign(this, { faults, waiting, shown, remembers, thumbs })
   }
 
   // Takes a further part of an image, unless the image has changed since.

@@ -14,6 +14,8 @@ export class Runs {
   start (stamp = performance.now()) {
     this.stamp ??= stamp
     this.isDue = true
+    // What was said before was about an earlier change.
+    this.studio.say('')
     this.studio.strip?.stop()
     if (!this.isRunning) this.run()
   }
@@ -51,7 +53,6 @@ export class Runs {
     const took = performance.now() - stamp
     this.latencies.push({ took, call: came - sent, draw: drawn - came, graph: 1e3 * reply.seconds.graph })
     setText(byId('times'), `${took.toFixed(0)} ms · graph ${(1e3 * reply.seconds.graph).toFixed(1)} ms`)
-    studio.say('')
   }
 
   // The part of an image that is needed, and the mark of the samples that are here.

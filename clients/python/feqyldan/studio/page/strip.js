@@ -44,9 +44,11 @@ export class Strip {
     const mine = ++this.turn
     const name = this.studio.viewed
     const version = this.version()
-    // The tiles after the chosen one come first.
+    // The tiles after the chosen one come first. A graph that remembers pictures goes through all of
+    // them once, from the first one on.
+    const first = this.studio.result.remembers ? 0 : this.studio.at
     for (let k = 0; k < this.tiles.length; k++) {
-      const at = (this.studio.at + k) % this.tiles.length
+      const at = (first + k) % this.tiles.length
       if (this.tiles[at].version === version || name === null) continue
       try {
         const reply = await call('strip', { contents: this.studio.model.contents, at, name })

@@ -12,6 +12,8 @@ const VALID = '#e0a030'
 const EXTREMES = { max: '#e0482a', min: '#2a8fe0' }
 // Milliseconds after a move until a further part is asked for.
 const PATIENCE = 120
+// The status of a call for the samples of another window's run.
+const OTHER_RUN = 409
 // Pixels of a move by a key.
 const STEP = 60
 
@@ -59,7 +61,11 @@ export class Viewer {
     context.setTransform(1, 0, 0, 1, 0, 0)
     context.clearRect(0, 0, this.large.width, this.large.height)
     this.large.setAttribute('aria-label', full ? `${this.name}: ${full.fmt}, ${full.width} by ${full.height}` : 'No picture')
-    if (!full) return
+    if (!full) {
+      setText(byId('viewname'), this.name ?? '')
+      setText(byId('zoom'), '')
+      return
+    }
     if (this.isFitted) Object.assign(this, this.fitted(full))
     const base = this.studio.result.fulls.get(this.studio.overlaid)
     const isOver = base && base.width === full.width && base.height === full.height
@@ -158,13 +164,17 @@ export class Viewer {
     const part = this.partOf(full)
     if (full.covers(part)) return
     const { name } = this
+    const { mark, mask } = this.studio.result.shown[name] ?? {}
     this.timer = setTimeout(async () => {
       try {
-        this.studio.result.takePart(name, await call('part', { name, mask: this.studio.result.shown[name]?.mask, ...part }))
+        this.studio.result.takePart(name, await call('part', { name, mark, mask, ...part }))
         this.draw()
         // The histogram is of the part that is shown.
         this.studio.panel.refresh()
-      } catch (error) { this.studio.say(error.message, true) }
+      } catch (error) {
+        if (error.status === OTHER_RUN) this.studio.runs.start()
+        else this.studio.say(error.message, true)
+      }
     }, PATIENCE)
   }
 
@@ -268,7 +278,7 @@ export class Viewer {
         this.isLate = false
         if (!this.pointed) break
         const [x, y] = this.pointed
-        this.samples = await call('pixel', { x, y })
+        this.samples = await call('pixel', { x, y, marks: this.studio.result.has() })
         if (!this.pointed) break
         this.studio.graph.showSamples(this.samples)
         this.tell()
