@@ -83,9 +83,17 @@ def save(path: str, samples: Sequence[float], width: int, chance: random.Random)
     vx.write_pgm(path, memoryview(content).cast("B").cast("B", (len(content) // width, width)))
 
 
+def sides_told() -> Tuple[int, int]:
+    """Returns the width and the height that the command line gives."""
+    told = sys.argv[2:] or ["640", "360"]
+    if len(told) != 2 or not all(word.isdecimal() and int(word) for word in told):
+        sys.exit(f"{sys.argv[0]}: give WIDTH and HEIGHT in pixels, not {' '.join(told)}")
+    return int(told[0]), int(told[1])
+
+
 def main() -> None:
     folder = folder_told()
-    width, height = map(int, sys.argv[2:4]) if len(sys.argv) > 3 else (640, 360)
+    width, height = sides_told()
     os.makedirs(os.path.join(folder, "parts"), exist_ok=True)
     clean = good_flange(width, height)
     save(os.path.join(folder, "good.pgm"), clean, width, random.Random(0))

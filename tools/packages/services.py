@@ -23,12 +23,13 @@ SERVER_DESCRIPTION = """vision server with the behaviour of OpenVX
  on 8-bit and 16-bit grey images, for many clients. No client sees another's
  pixels.
  .
- This package has the server for both kinds of processor, and a systemd socket
- that starts a server for each connection."""
+ This package has each build of the server for the machine's processors, and a
+ systemd socket that starts a server for each connection."""
 PYTHON_DESCRIPTION = """vision server Feqyldan from Python
  Images, graphs, delays, immediate mode and 25 vision functions on NumPy arrays
- and other pictures. A server does the computing. A program starts one, or
- connects to a socket."""
+ and other pictures. A server does the computing: in the program's own process,
+ by the library of libfeqyldan0, in a process that it starts, or behind a
+ socket."""
 SERVICES_DESCRIPTION = """vision server Feqyldan for several programs
  Two services on a Unix socket: the door starts a server for each connection,
  and the broker lets programs share servers. Both limit connections per process
@@ -159,8 +160,9 @@ def build_python(wheel: str, folder: str) -> str:
             stage, folder,
             {"postinst": AFTER_INSTALL.format(lines=COMPILE), "prerm": FORGET_COMPILED},
             name=PYTHON, architecture="all", section="python", description=PYTHON_DESCRIPTION,
-            relations="Depends: python3 (>= 3.9)\nRecommends: feqyldan-server\n"
-                      "Suggests: python3-numpy, python3-distributed")
+            relations="Depends: python3 (>= 3.9)\nRecommends: libfeqyldan0, feqyldan-server\n"
+                      "Suggests: python3-numpy, python3-distributed\n"
+                      f"Breaks: libfeqyldan0 (<< {feqyldan.__version__})")
 
 
 def build_services(folder: str) -> str:

@@ -21,8 +21,8 @@ from .context import Context, Vxu
 from .errors import (
     BadPicture, BrokerFull, Closed, FeqyldanError, InvalidDimension, InvalidFormat, InvalidGraph,
     InvalidLink, InvalidParameters, InvalidReference, InvalidScope, InvalidType, InvalidValue,
-    MultipleWriters, NoMemory, NoResources, NotAPicture, NotYet, OptimizedAway, OrderWarning,
-    ProgramNotFound, Refused, ServerEnded, TimedOut, UnexpectedReply, WrongPicture,
+    MultipleWriters, NestedCall, NoMemory, NoResources, NotAPicture, NotYet, OptimizedAway,
+    OrderWarning, ProgramNotFound, Refused, ServerEnded, TimedOut, UnexpectedReply, WrongPicture,
     WrongPictureFormat, WrongPictureSample, WrongPictureSize)
 from .functions import FUNCTIONS, REPLICATE, UNDEFINED, Border, Policy, constant
 from .graph_files import GraphFile, GraphFileError, graph_text
@@ -52,10 +52,10 @@ __all__ = [
     "Description", "Distribution", "Extremes", "FUNCTIONS", "FeqyldanError", "Format", "Graph",
     "GraphFile", "GraphFileError", "Image", "InvalidDimension", "InvalidFormat", "InvalidGraph",
     "InvalidLink", "InvalidParameters", "InvalidReference", "InvalidScope", "InvalidType",
-    "InvalidValue", "Lut", "MinMax", "MultipleWriters", "NoMemory", "NoResources", "Node",
-    "NotAPicture", "NotYet", "OptimizedAway", "OrderWarning", "PARAMETER_RANGES", "Picture",
-    "Pipeline", "Policy", "Profile", "ProgramNotFound", "REPLICATE", "Range", "Rectangle",
-    "Refused", "Region", "Result", "S16", "SATURATE", "Server", "ServerEnded", "Slot",
+    "InvalidValue", "Lut", "MinMax", "MultipleWriters", "NestedCall", "NoMemory", "NoResources",
+    "Node", "NotAPicture", "NotYet", "OptimizedAway", "OrderWarning", "PARAMETER_RANGES",
+    "Picture", "Pipeline", "Policy", "Profile", "ProgramNotFound", "REPLICATE", "Range",
+    "Rectangle", "Refused", "Region", "Result", "S16", "SATURATE", "Server", "ServerEnded", "Slot",
     "SocketServer", "Station", "Threshold", "TimedOut", "Timing", "U32", "U8", "UNDEFINED",
     "UnexpectedReply", "Usage", "VirtualImage", "Vxu", "WRAP", "Watch", "Written", "WrongPicture",
     "WrongPictureFormat", "WrongPictureSample", "WrongPictureSize", "connect", "constant",

@@ -9,14 +9,16 @@ The command line: runs the graph of a file on pictures, draws it, and edits it i
 from __future__ import annotations
 
 import argparse
+import contextlib
 import glob
 import os
-import re
+import signal
 import sys
+import threading
 import time
 from collections import deque
 from contextlib import ExitStack
-from typing import Any, Deque, Iterable, Iterator, List, Optional, Sequence, Tuple, Union
+from typing import Any, Deque, Iterable, Iterator, List, Optional, Sequence, Tuple
 
 from . import __version__
 from .errors import FeqyldanError, Refused
@@ -27,6 +29,7 @@ from .reports import STANDARD_OUTPUT_NAME, Report, files_read, standard_output, 
 from .samples import samples_of
 from .server import Server
 from .sockets import connect
+from .storage import natural
 
 DESCRIPTION = "Runs a graph file, as Graph.save() writes it, on pictures, draws it, or edits it."
 # The errors that are written to standard error, and the exit status if pictures were skipped.
@@ -49,7 +52,8 @@ def arguments(words: Optional[Sequence[str]]) -> argparse.Namespace:
         "lines go to standard output. The exit status is 0 if all pictures ran, 3 if some were "
         "skipped, 1 after an error, and 2 if the words of the command are wrong."))
     run.add_argument("graph", help="JSON file of the graph")
-    run.add_argument("--in", dest="pictures", required=True, nargs="+", metavar="PATTERN",
+    run.add_argument("--in", dest="pictures", required=True, nargs="+", action="extend",
+                     metavar="PATTERN",
                      help="picture files, or quoted patterns such as 'parts/*.png'; files that "
                      "match a pattern run in natural order, part2 before part10 (the order matters "
                      "to a graph with a delay)")
@@ -59,9 +63,9 @@ def arguments(words: Optional[Sequence[str]]) -> argparse.Namespace:
     run.add_argument("--csv", metavar="FILE", help="file for numbers, or - for standard output; "
                      "its folder is created if it doesn't exist (default: standard output without "
                      "--out, otherwise none)")
-    run.add_argument("--regions", type=int, metavar="LEAST", help="add a column with the number of "
-                     "regions of at least LEAST nonzero samples of each image; needs OpenCV or "
-                     "SciPy (default: no such column)")
+    run.add_argument("--regions", type=least_from, metavar="LEAST", help="add a column with the "
+                     "number of regions of at least LEAST nonzero samples of each image; needs "
+                     "OpenCV or SciPy (default: no such column)")
     run.add_argument("--skip", action="store_true", help="name pictures that can't be read, or "
                      "have another size or format than the input, on standard error, and run the "
                      "rest (default: the first of them ends the run)")
@@ -95,9 +99,16 @@ def port_from(text: str) -> int:
     return int(text)
 
 
+def least_from(text: str) -> int:
+    """Returns the least number of samples of a region, for argparse."""
+    if not text.isdecimal() or int(text) < 1:
+        raise argparse.ArgumentTypeError(f"it must be a whole number of at least 1, not {text}")
+    return int(text)
+
+
 def main(words: Optional[Sequence[str]] = None) -> int:
-    told = arguments(words)
     try:
+        told = written_arguments(words)
         status: int = {"draw": draw, "run": run, "studio": studio}[told.command](told)
         if sys.stdout is not None:
             sys.stdout.flush()
@@ -112,6 +123,37 @@ def main(words: Optional[Sequence[str]] = None) -> int:
             drop_output()
         say(str(error))
         return 1
+
+
+def written_arguments(words: Optional[Sequence[str]]) -> argparse.Namespace:
+    """Does the same as arguments(). If that writes a text and ends the program, as for --help, the
+    text goes out here, where main() takes an error."""
+    with writing_to(STANDARD_OUTPUT_NAME):
+        try:
+            return arguments(words)
+        except SystemExit:
+            if sys.stdout is not None:
+                sys.stdout.flush()
+            raise
+
+
+@contextlib.contextmanager
+def ended_by_signals() -> Iterator[None]:
+    """Within the `with` SIGTERM and SIGHUP end the program as Ctrl-C does: it closes its server,
+    and removes a file that isn't complete."""
+    def end(number: int, _: Any) -> None:
+        raise SystemExit(128 + number)
+
+    is_main = threading.current_thread() is threading.main_thread()
+    taken = [number for number in (signal.SIGTERM, signal.SIGHUP)
+             if is_main and signal.getsignal(number) == signal.SIG_DFL]
+    try:
+        for number in taken:
+            signal.signal(number, end)
+        yield
+    finally:
+        for number in taken:
+            signal.signal(number, signal.SIG_DFL)
 
 
 def drop_output() -> None:
@@ -158,7 +200,9 @@ def pictures_in(folder: str) -> List[str]:
 def run(told: argparse.Namespace) -> int:
     paths = paths_of(told.pictures)
     with ExitStack() as ends:
-        server = ends.enter_context(connect(told.socket, retry=10) if told.socket else Server())
+        ends.enter_context(ended_by_signals())
+        server = ends.enter_context(connect(told.socket, retry=10) if told.socket is not None
+                                    else Server())
         context = ends.enter_context(server.context())
         contents = told_by(told.graph)
         station = Reader(context, told.graph).read(contents)
@@ -242,12 +286,6 @@ def paths_of(patterns: Sequence[str]) -> List[str]:
             raise FileNotFoundError(f"no file matches {pattern}: check the name or the pattern")
         found += paths
     return found
-
-
-def natural(path: str) -> Tuple[List[Union[str, int]], str]:
-    """Returns the sort key of a path: numbers in it sort by value, so f2 comes before f10."""
-    parts = re.split("([0-9]+)", path)
-    return [int(part) if at % 2 else part for at, part in enumerate(parts)], path
 
 
 def progress(paths: List[str], is_quiet: bool) -> Iterator[str]:

@@ -22,12 +22,14 @@ import threading
 import time
 from collections import deque
 from itertools import accumulate, islice
+from types import FrameType
 from typing import (
     Any, Callable, Deque, Dict, List, NamedTuple, Optional, Sequence, Tuple, Union)
 
 from . import pages
 from .errors import (
-    Closed, Fault, FeqyldanError, Refused, ServerEnded, TimedOut, UnexpectedReply, refusal)
+    Closed, Fault, FeqyldanError, NestedCall, Refused, ServerEnded, TimedOut, UnexpectedReply,
+    refusal)
 from .log import LOG
 from .wire import BODY_BYTES, CODES, GREATEST_LENGTH, GREATEST_SIDE
 
@@ -41,6 +43,10 @@ PARTS, REQUESTS = 64, 16
 PAUSE = 0.0005
 # Milliseconds that look() waits for the rest of a reply that has begun.
 REST = 5
+# The words of what isn't a request of its own, in errors.
+WAITING = "wait for replies"
+# The modules with the classes of connections.
+CONNECTIONS = {__name__, f"{__package__}.direct"}
 # The most buffers for long replies that are kept for reuse.
 KEPT = 4
 # The size of the buffer for short replies, in bytes.
@@ -167,10 +173,11 @@ class Request:
         """Stores the reply, and the position where it ends in the stream of replies. Raises
         UnexpectedReply if the body doesn't begin as expected."""
         code, begin = reply[7], self.body.begin
-        found = bytes(reply[HEAD.size : HEAD.size + len(begin)])
-        if begin and code == 0 and found != begin:
-            raise UnexpectedReply(f"{self.words}: the reply is of another object: its body begins "
-                                  f"with {found.hex(' ')}, not with {begin.hex(' ')}")
+        if begin and code == 0:
+            found = bytes(reply[HEAD.size : HEAD.size + len(begin)])
+            if found != begin:
+                raise UnexpectedReply(f"{self.words}: the reply is of another object: its body "
+                                      f"begins with {found.hex(' ')}, not with {begin.hex(' ')}")
         if self.on_answer is not None:
             self.on_answer(reply)
         if self.on_refusal is not None and code != 0:
@@ -343,6 +350,28 @@ class Replies:
             self._into = chunk, at, None
 
 
+def free(lock: Any, words: str) -> Any:
+    """Returns the lock of a connection. Raises NestedCall if it was taken by a call that goes on in
+    this thread, which a signal's handler interrupts."""
+    # After an interruption at the very end of a `with` the thread has the lock without such a call.
+    if lock._is_owned() and is_within_a_call():
+        raise NestedCall(f"{words}: a call of this server was interrupted, by a signal's handler "
+                         "say, and goes on only after it: note in the handler what is to be done, "
+                         "and do it later")
+    return lock
+
+
+def is_within_a_call() -> bool:
+    """Returns whether the call of a connection that asks this was made within another one: whether
+    the stack has that one's frames too, beyond those of other modules."""
+    frame: Optional[FrameType] = sys._getframe(1)
+    for is_of_a_call in (True, False):
+        while frame is not None and is_of_a_call is (
+                frame.f_globals.get("__name__") in CONNECTIONS):
+            frame = frame.f_back
+    return frame is not None
+
+
 class Connection:
     """
     The connection to a server. Several threads may use it: each call is completed before another
@@ -391,11 +420,11 @@ class Connection:
         pipe, because the server has read it when the reply comes. When this returns, also after one
         interruption, the caller may change what was sent; after a second interruption it may not.
         """
-        with self._lock:
+        with free(self._lock, request.words):
             request.may_lend = self._is_pipe
             try:
-                self.send(request, parts)
-                self.wait(request)
+                self._send(request, parts)
+                self._wait(request)
             except BaseException:
                 if request.has_lent:
                     self._await_reader()
@@ -414,48 +443,55 @@ class Connection:
         copied, because the next request follows soon. After an interruption the frame was queued
         completely or not at all.
         """
-        with self._lock:
-            if self._fault is not None:
-                self._refuse_if_ended()
-            try:
-                if not is_followed and not self._unsent and self._send_whole(request, parts):
-                    return
-                self._take(request, parts)
-                if is_followed:
-                    return
-                if request.end - self._unsent[0].start > SMALL:
-                    self._flush()
-                else:
-                    self._write()
-                    if self._unsent:
-                        self.own_unsent()
-            except BaseException:
-                self.own_unsent()
-                raise
+        with free(self._lock, request.words):
+            self._send(request, parts, is_followed)
+
+    def _send(self, request: Request, parts: List[Part], is_followed: bool = False) -> None:
+        if self._fault is not None:
+            self._refuse_if_ended()
+        try:
+            if not is_followed and not self._unsent and self._send_whole(request, parts):
+                return
+            self._take(request, parts)
+            if is_followed:
+                return
+            if request.end - self._unsent[0].start > SMALL:
+                self._flush()
+            else:
+                self._write()
+                if self._unsent:
+                    self.own_unsent()
+        except BaseException:
+            self.own_unsent()
+            raise
 
     def wait(self, request: Optional[Request] = None, limit: Optional[float] = None,
              wake: Optional[int] = None) -> bool:
         """Waits for the reply to a request, or for all replies if no request is given. Waits at
         most `limit` seconds, or until the file descriptor `wake` is readable. Returns whether the
         reply has come."""
+        with free(self._lock, WAITING if request is None else request.words):
+            return self._wait(request, limit, wake)
+
+    def _wait(self, request: Optional[Request], limit: Optional[float] = None,
+              wake: Optional[int] = None) -> bool:
         until = None if limit is None else time.monotonic() + limit
-        with self._lock:
-            if request is not None and request.answer is not None:
-                return True
-            if self._fault is not None:
-                self._refuse_if_ended()
-            if self._line[-1].end > self._counts[-1]:
-                self._mend()
-            blocks = self._may_block and limit is None and wake is None
-            while (request or self._line[-1]).answer is None:
-                if self._read(blocks and not self._unsent) or self._unsent and self._write():
-                    continue
-                left = None if until is None else until - time.monotonic()
-                if left is not None and left <= 0:
-                    return False
-                ready = self._await(self._poll_with(wake), left)
-                if wake is not None and any(descriptor == wake for descriptor, _ in ready):
-                    return False
+        if request is not None and request.answer is not None:
+            return True
+        if self._fault is not None:
+            self._refuse_if_ended()
+        if self._line[-1].end > self._counts[-1]:
+            self._mend()
+        blocks = self._may_block and limit is None and wake is None
+        while (request or self._line[-1]).answer is None:
+            if self._read(blocks and not self._unsent) or self._unsent and self._write():
+                continue
+            left = None if until is None else until - time.monotonic()
+            if left is not None and left <= 0:
+                return False
+            ready = self._await(self._poll_with(wake), left)
+            if wake is not None and any(descriptor == wake for descriptor, _ in ready):
+                return False
         return True
 
     def own_unsent(self) -> None:
@@ -478,7 +514,7 @@ class Connection:
     def look(self) -> None:
         """Reads the replies that have come, and sends what the server takes now. Waits only for the
         rest of a reply that has begun, for REST milliseconds at a time."""
-        with self._lock:
+        with free(self._lock, WAITING):
             self._refuse_if_ended()
             self._mend()
             if self._unsent:

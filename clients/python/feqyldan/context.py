@@ -13,8 +13,8 @@ from collections import deque
 from functools import partial
 from types import TracebackType
 from typing import (
-    TYPE_CHECKING, Any, Callable, Deque, Dict, Iterator, List, Optional, Sequence, Set, Tuple,
-    Type, TypeVar, Union)
+    TYPE_CHECKING, Any, Callable, Deque, Dict, Iterator, List, Optional, Set, Tuple, Type,
+    TypeVar, Union)
 
 from . import wire
 from .connection import GREATEST_REQUEST, Body, Connection, Explain, Part, Request
@@ -29,7 +29,7 @@ from .hints import OF_CONTEXTS, attribute_of
 from .images import AnyImage, Delay, Image
 from .objects import Convolution, Distribution, Lut, Made, MinMax, Named, Threshold, sides_of_frame
 from .pgm import GREATEST_WIDE_MAXVAL, header_of, is_pgm
-from .pipeline import Pipeline, calling_frame
+from .pipeline import Pipeline, Stretch, calling_frame
 from .ranges import PARAMETER_RANGES
 from .samples import (
     Format, Numbers, Rows, Samples, Size, entries_of, format_of, lengths_in_words, samples_of)
@@ -96,15 +96,16 @@ class Context(Uncopied):
     Each object can have a name=, which messages use.
     """
 
-    __slots__ = ("_server", "_connection", "_number", "_pipeline", "_alive", "_dead",
+    __slots__ = ("_server", "_connection", "_number", "_pipeline", "_stretch", "_alive", "_dead",
                  "_unclaimed", "_releasing", "_used", "_barred", "_is_closed", "__weakref__")
 
     def __init__(self, server: Server, connection: Union[Connection, DirectConnection],
                  number: int) -> None:
         self._server, self._connection, self._number = server, connection, number
-        # The open pipeline. The reference is weak: after an interruption within __enter__ nobody
-        # holds the pipeline, and it counts as closed.
+        # The open pipeline, and its refusals. The reference is weak: after an interruption within
+        # __enter__ nobody holds the pipeline, and it counts as closed.
         self._pipeline: Optional[weakref.ref[Pipeline]] = None
+        self._stretch: Optional[Stretch] = None
         # The objects in Python by their names on the server; and those that Python has freed, which
         # are released before the next request.
         self._alive: Dict[int, Death] = {}
@@ -267,7 +268,7 @@ class Context(Uncopied):
     def distribution(self, bins: int, offset: int = 0, range: int = 256, *,
                      name: str = "") -> Distribution:
         """Returns a distribution of 1 to 256 bins of the same width. The bins begin at the offset,
-        from 0 to 255, and together cover `range` values."""
+        from 0 to 255, and together cover `range` values, from 1 to 256."""
         sides = (within(bins, "a distribution's number of bins", UNSIGNED,
                         PARAMETER_RANGES["distribution.bins"].whole),
                  within(offset, "a distribution's offset", UNSIGNED,
@@ -341,12 +342,25 @@ class Context(Uncopied):
     def _enter_pipeline(self, pipeline: Pipeline) -> None:
         """Opens a pipeline: calls without a result no longer wait for their replies."""
         self._look_at_thread("open a pipeline")
-        if self._open_pipeline() is not None:
-            raise ValueError(f"{self} already has an open pipeline: make the calls in that one, or "
-                             "leave its 'with' first")
+        if self._pipeline is not None:
+            is_there = self._open_pipeline() is not None
+            self._close_pipeline()
+            if is_there:
+                raise ValueError(f"{self} already has an open pipeline, which is closed now, since "
+                                 "an interruption may have left it open: make the calls of both in "
+                                 "one, or leave the 'with' of the first one before")
         if self._why_closed is not None:
             raise Closed(f"open a pipeline: {self._why_closed}")
-        self._pipeline = weakref.ref(pipeline)
+        self._stretch, self._pipeline = pipeline._stretch, weakref.ref(pipeline)
+
+    def _close_pipeline(self) -> None:
+        """Closes a pipeline that an interruption at the very end of its `with` has left open.
+        Raises its first refusal unless it was raised before."""
+        stretch, self._pipeline, self._stretch = self._stretch, None, None
+        if stretch is not None and self._connection.fault is None:
+            self._connection.wait()
+            if not stretch.is_told:
+                stretch.raise_first()
 
     def _look_at_thread(self, words: str) -> None:
         if threading.get_ident() in self._barred:
@@ -357,11 +371,7 @@ class Context(Uncopied):
     def _open_pipeline(self) -> Optional[Pipeline]:
         return None if self._pipeline is None else self._pipeline()
 
-    def _leave_pipeline(self) -> None:
-        """Closes a pipeline: each call waits for its reply again."""
-        self._pipeline = None
-
-    def _send(self, words: str, make: Callable[..., bytes], *arguments: Any,
+    def _send(self, words: str, make: Callable[..., bytes], arguments: Tuple[Any, ...] = (),
               content: Optional[Part] = None, explain: Optional[Explain] = None,
               on_answer: Optional[Callable[[memoryview], None]] = None,
               body: Optional[Body] = None, into: Optional[memoryview] = None,
@@ -373,12 +383,22 @@ class Context(Uncopied):
         `body` is the expected body of a success, if the op alone doesn't determine it. The samples
         of the reply are read `into` a place, if one is given.
         """
-        why_closed = self._why_closed
-        if why_closed is not None:
-            raise Closed(f"{words}: {why_closed}")
+        if self._is_closed or self._server._ended_by is not None:
+            raise Closed(f"{words}: {self._why_closed}")
         if self._barred:
             self._look_at_thread(words)
-        frame = self._frame(words, make, arguments, 0 if content is None else len(content))
+        pipeline = self._open_pipeline()
+        if pipeline is None and self._pipeline is not None:
+            self._close_pipeline()
+        try:
+            frame = make(self._number, *arguments)
+        except (struct.error, ValueError) as error:
+            raise ValueError(f"{words}: {error}") from None
+        size = len(frame) - 4 + (0 if content is None else len(content))
+        if size > GREATEST_REQUEST:
+            # The server would end.
+            raise ValueError(f"{words}: the request has {size:,} bytes, and at most "
+                             f"{GREATEST_REQUEST:,} are allowed")
         if self._unclaimed or self._dead:
             self._release_forgotten()
         if self._server._dead:
@@ -386,7 +406,6 @@ class Context(Uncopied):
         request = Request(words, self._number, frame[6], explain, body)
         request.on_answer, request.into = on_answer, into
         parts = [frame] if content is None else [frame, content]
-        pipeline = None if self._pipeline is None else self._pipeline()
         if pipeline is not None:
             pipeline._take(request)
             self._connection.send(request, parts, pipeline._is_followed)
@@ -400,9 +419,9 @@ class Context(Uncopied):
               content: Optional[Part] = None,
               explain: Optional[Explain] = None) -> None:
         """Sends a request without a result; waits for its reply unless a pipeline is open."""
-        request = self._send(words, make, *arguments, content=content, explain=explain, waits=True)
+        request = self._send(words, make, arguments, content, explain, waits=True)
         if self._pipeline is None or self._pipeline() is None:
-            self._reply_to(request)
+            self._await_reply_to(request)
 
     def _ask(self, words: str, make: Callable[..., bytes], decode: Callable[[memoryview], Value],
              body: Optional[Body] = None, into: Optional[memoryview] = None) -> Value:
@@ -426,7 +445,7 @@ class Context(Uncopied):
         """Sends a request that creates an object, waits for the reply, and returns the object's
         name. The object takes `size` bytes of the quota."""
         thread = threading.get_ident()
-        request = self._send(words, make, *arguments, explain=self._limit_for(size), waits=True,
+        request = self._send(words, make, arguments, None, self._limit_for(size), waits=True,
                              on_answer=lambda reply: self._note_made(reply, size, thread))
         return int(wire.name_of(self._reply_to(request)))
 
@@ -450,18 +469,19 @@ class Context(Uncopied):
         """Sends a request that adds a node to a graph, waits for the reply, and returns the node's
         number. When the reply comes, also after an interruption, `added` is called with the
         number."""
-        request = self._send(f"add {call} to {graph}", wire.add_node, graph.name,
-                             *call.fields(self._references_of(call)), waits=True,
+        request = self._send(f"add {call} to {graph}", wire.add_node,
+                             (graph.name, *call.fields(self._references_of(call))), waits=True,
                              explain=lambda code: fault_of(call, code), on_answer=lambda reply: (
                                 added(wire.node_of(reply)) if reply[7] == wire.SUCCESS else None))
         return int(wire.node_of(self._reply_to(request)))
 
     def _release(self, name: int, words: str) -> None:
-        """Releases an object, unless the server is known to be gone."""
-        self._used.release(name)
-        self._alive.pop(name, None)
+        """Releases an object, unless the server is known to be gone. After an interruption it may
+        only be released when Python frees it."""
         if self._connection.fault is None:
             self._tell(f"release {words}", wire.release, name)
+        self._used.release(name)
+        self._alive.pop(name, None)
 
     def _references_of(self, call: Call) -> List[Optional[bytes]]:
         """Returns the references of a call's operands, as frames have them; None for an operand
@@ -489,21 +509,14 @@ class Context(Uncopied):
         return lambda code: Fault("" if code != wire.NO_RESOURCES
                                   else self._used.fault(size, self._server.quota))
 
-    def _frame(self, words: str, make: Callable[..., bytes], arguments: Sequence[Any],
-               content: int) -> bytes:
-        try:
-            frame = make(self._number, *arguments)
-        except (struct.error, ValueError) as error:
-            raise ValueError(f"{words}: {error}") from None
-        # The server ends if it reads a greater length.
-        size = len(frame) - 4 + content
-        if size > GREATEST_REQUEST:
-            raise ValueError(f"{words}: the request has {size:,} bytes, and at most "
-                             f"{GREATEST_REQUEST:,} are allowed")
-        return frame
-
     def _reply_to(self, request: Request) -> memoryview:
-        # A refusal is raised here, so an open pipeline needn't note it.
+        """Waits for the reply to a request, and returns it. Raises the refusal in it."""
+        self._await_reply_to(request)
+        return request.take_reply()
+
+    def _await_reply_to(self, request: Request) -> None:
+        """Waits for the reply to a request. Raises the refusal in it."""
+        # An open pipeline needn't note the refusal.
         request.on_refusal = None
         if request.answer is None:
             self._connection.wait(request)
@@ -514,7 +527,6 @@ class Context(Uncopied):
                 # It was noted if the reply had come before this call.
                 pipeline._stretch.drop(request)
             raise error
-        return request.take_reply()
 
     def _release_forgotten(self) -> None:
         """Releases the objects that Python has freed. After an interruption it may release some
@@ -649,8 +661,10 @@ def rows_of_kernel(coefficients: Rows) -> Tuple[Tuple[int, ...], ...]:
     """Returns the coefficients of a convolution, row by row. Raises TypeError or ValueError unless
     they are whole numbers in rows of the same length."""
     try:
-        given = [list(row) for row in coefficients]
-    except TypeError:
+        # The rows of a memoryview can't be had one by one.
+        told: Any = coefficients
+        given = [list(row) for row in (told.tolist() if isinstance(told, memoryview) else told)]
+    except (TypeError, NotImplementedError):
         raise TypeError("the coefficients of a convolution must be rows of numbers, as [[1, 2, 1], "
                         f"[2, 4, 2], [1, 2, 1]], not {coefficients!r}") from None
     rows = tuple(tuple(map(coefficient_of, row)) for row in given)

@@ -20,6 +20,7 @@ from .images import AnyImage
 from .log import LOG
 from .samples import is_array, numpy_module, of_two_sides, samples_of
 from .server import Server
+from .streams import look_at_nodes
 
 if TYPE_CHECKING:
     from distributed import Client, Future
@@ -113,11 +114,13 @@ class Line(NamedTuple):
 
 
 def line_of(context: Context, built: Any) -> Line:
-    """Returns the line of what a job's function has built. Raises TypeError if that isn't a tuple
-    of three that begins with a graph, and ValueError if the graph needs every picture."""
-    if not (isinstance(built, tuple) and len(built) == 3 and isinstance(built[0], Graph)):
+    """Returns the line of what a job's function has built. Raises TypeError if that isn't a graph
+    and two images, and ValueError if the graph doesn't use them, or needs every picture."""
+    if not (isinstance(built, tuple) and len(built) == 3 and isinstance(built[0], Graph)
+            and isinstance(built[1], AnyImage) and isinstance(built[2], AnyImage)):
         raise TypeError("the function that builds the graph must return a tuple of the graph, its "
                         f"input image and its output image, not {built!r}")
+    look_at_nodes(built[0], built[1], [built[2]])
     kept = kept_by(built[0])
     if kept:
         raise ValueError(f"{built[0]} keeps {kept} from one picture to the next, and each worker "

@@ -24,8 +24,9 @@ from contextlib import suppress
 from queue import SimpleQueue
 from typing import Any, Deque, List, Optional, Sequence, Set, Tuple
 
-from .connection import BEFORE_SAMPLES, HEAD, HEAD_AND_NAME, LEAD, Buffers, Part, Request
-from .core import Core, address_of
+from .connection import (
+    BEFORE_SAMPLES, HEAD, HEAD_AND_NAME, LEAD, WAITING, Buffers, Part, Request, free)
+from .core import NOTHING, Core, argument_of, number_of, size_of
 from .errors import Closed, FeqyldanError, UnexpectedReply
 from .log import LOG
 
@@ -72,17 +73,21 @@ class DirectConnection:
 
     def __init__(self, core: Core) -> None:
         self._core = core
-        self._number = core.connect()
+        self._link = core.address, number_of(core.connect())
         self._lock = threading.RLock()
         self._fault: Optional[FeqyldanError] = None
         self._buffers = Buffers()
+        # The memory of a reply that is short, or whose samples go to a place.
         self._short = ctypes.create_string_buffer(LEAST)
-        self._short_view = memoryview(self._short).cast("B")
+        self._before = ctypes.create_string_buffer(BEFORE_SAMPLES)
         # The length of a reply that no request has got yet, else 0; and the last request with its
         # reply's memory, and the number of bytes that a call writes to the request's place.
         self._length = ctypes.c_size_t(0)
-        self._last: Optional[Tuple[Request, memoryview, int]] = None
-        self._addresses = ctypes.addressof(self._short), ctypes.addressof(self._length)
+        self._last: Optional[Tuple[Request, Any, int]] = None
+        # The arguments for these.
+        self._length_at = ctypes.byref(self._length)
+        self._short_at = (ctypes.byref(self._short), size_of(LEAST), *NOTHING)
+        self._before_at = ctypes.byref(self._before), size_of(BEFORE_SAMPLES)
         # The requests of streams without a reply, and whether the last one's frame is incomplete.
         self._line: Deque[Request] = deque()
         self._is_open = False
@@ -98,8 +103,9 @@ class DirectConnection:
 
     def ask(self, request: Request, parts: List[Part]) -> None:
         """Makes the call of a request. Its reply has come when this returns."""
-        with self._lock:
-            self._serve_line()
+        with free(self._lock, request.words):
+            if self._line:
+                self._serve_line()
             self._serve(request, parts)
 
     def send(self, request: Request, parts: List[Part], is_followed: bool = False) -> None:
@@ -123,7 +129,7 @@ class DirectConnection:
         self._refuse_if_ended()
         if request is not None and request.is_ahead:
             return self._await(request, limit, wake)
-        with self._lock:
+        with free(self._lock, WAITING):
             self._serve_line()
         return True
 
@@ -176,34 +182,36 @@ class DirectConnection:
 
     def _serve(self, request: Request, parts: Sequence[Part]) -> None:
         """Answers a request, unless it has an answer."""
-        self._settle()
+        if self._last is not None:
+            self._settle()
         if self._fault is not None:
             self._refuse_if_ended()
         if request.answer is not None:
             return
-        frame, place, into = self._memory_for(request)
-        front, back = parts[0], b"" if len(parts) == 1 else parts[1]
-        samples, rest = address_of(back), address_of(into)
-        self._last = request, frame, len(into)
+        front, back = parts[0], NOTHING if len(parts) == 1 else argument_of(parts[1])
+        memory = self._memory_for(request)
         try:
-            self._core.serve(self._core.address, self._number, front, len(front), samples,
-                             len(back), place, len(frame), rest, len(into), self._addresses[1])
+            self._core.serve(*self._link, front, size_of(len(front)), *back, *memory,
+                             self._length_at)
         finally:
             self._settle()
         if request.answer is None:
-            raise FeqyldanError(f"{request.words}: the server takes no frame of {len(front):,} and "
-                                f"{len(back):,} bytes")
+            raise FeqyldanError(f"{request.words}: the server takes no frame of "
+                                f"{sum(map(len, parts)):,} bytes")
 
-    def _memory_for(self, request: Request) -> Tuple[memoryview, Any, Part]:
-        """Returns memory for a reply, with its address, and the memory that the rest of the reply
-        goes to: the place of the request's samples."""
+    def _memory_for(self, request: Request) -> Tuple[Any, ...]:
+        """Returns the arguments for the memory of a reply, and for the memory that the rest of the
+        reply goes to: the place of the request's samples. The request is now the last one."""
         size, into = HEAD.size + request.body.size, request.into
         if into is not None and len(into) >= LEAST:
-            return self._short_view[: size - len(into)], self._addresses[0], into
+            self._last = request, self._before, len(into)
+            return (*self._before_at, *argument_of(into))
         if size <= HEAD_AND_NAME:
-            return self._short_view, self._addresses[0], b""
+            self._last = request, self._short, 0
+            return self._short_at
         frame = memoryview(self._buffers.take(LEAD + max(size, LEAST)))[LEAD:]
-        return frame, address_of(frame), b""
+        self._last = request, frame, 0
+        return (*argument_of(frame), *NOTHING)
 
     def _settle(self) -> None:
         """Gives the reply of the last call to its request, unless that was done."""
@@ -269,20 +277,20 @@ class DirectConnection:
         return True
 
 
-def reply_of(request: Request, frame: memoryview, placed: int, length: int) -> memoryview:
+def reply_of(request: Request, frame: Any, placed: int, length: int) -> memoryview:
     """Returns the reply in a frame, whose samples go to the request's place if it has one. If
     `placed` isn't 0, the server has written them there, that many bytes. Raises UnexpectedReply if
     the reply doesn't answer the request."""
     if length > len(frame) + placed:
         raise UnexpectedReply(f"{request.words}: the reply has {length:,} bytes, more than "
                               f"{len(frame) + placed:,}")
-    size, client, op, code = HEAD.unpack_from(frame)
+    reply: Part = frame[:length]
+    size, client, op, code = HEAD.unpack_from(reply)
     request.look_at(size, client, op, code)
     if request.into is not None and code == 0 and not placed:
-        request.into[:] = frame[BEFORE_SAMPLES:length]
-    if code == 0 and (placed or request.into is not None):
-        return memoryview(bytes(frame[:BEFORE_SAMPLES]))
-    return memoryview(bytes(frame[:length])) if length <= HEAD_AND_NAME else frame[:length]
+        request.into[:] = reply[BEFORE_SAMPLES:]
+        reply = reply[:BEFORE_SAMPLES]
+    return memoryview(bytes(reply) if len(reply) <= BEFORE_SAMPLES else reply)
 
 
 def serve_lines(wanted: SimpleQueue[Any], connection: weakref.ref[DirectConnection]) -> None:

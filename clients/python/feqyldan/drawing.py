@@ -4,6 +4,7 @@ from __future__ import annotations
 
 import base64
 import html
+import re
 import shutil
 import subprocess
 from typing import TYPE_CHECKING, Any, Dict, Iterable, List, Mapping, NamedTuple, Optional, Tuple
@@ -15,6 +16,8 @@ if TYPE_CHECKING:
 PATIENCE = 20
 # The sides of a box, and the gaps between boxes, in points.
 BOX_WIDTH, BOX_HEIGHT, ACROSS, DOWN, MARGIN = 150, 40, 50, 16, 10
+# What is no character in XML.
+NO_CHARACTER = re.compile("[^\t\n\r -\ud7ff\ue000-\ufffd\U00010000-\U0010ffff]")
 _STYLES = {"virtual": 'shape=ellipse style=dashed', "object": 'shape=box style=filled '
            'fillcolor="#e8eef7"', "node": 'shape=cds style=filled fillcolor="#fdf0d5"'}
 
@@ -71,8 +74,17 @@ def _key_of(drawing: Drawing, operand: Any) -> str:
     return key
 
 
+def _shown(words: str) -> str:
+    """Returns words without the characters that a drawing can't have."""
+    return NO_CHARACTER.sub("\ufffd", words)
+
+
 def _quoted(words: str) -> str:
-    return words.replace("\\", "\\\\").replace('"', '\\"')
+    return _shown(words).replace("\\", "\\\\").replace('"', '\\"')
+
+
+def _escaped(words: str) -> str:
+    return html.escape(_shown(words))
 
 
 def _by_graphviz(text: str) -> Optional[str]:
@@ -127,8 +139,8 @@ def _box(box: Box, x: int, y: int) -> str:
     middle = x + BOX_WIDTH // 2
     return (f'<rect x="{x}" y="{y}" width="{BOX_WIDTH}" height="{BOX_HEIGHT}" rx="4" '
             f'fill="{fill}" stroke="#666"{dashes}/>'
-            f'<text x="{middle}" y="{y + 17}">{html.escape(box.title)}</text>'
-            f'<text x="{middle}" y="{y + 32}" fill="#666">{html.escape(box.about)}</text>')
+            f'<text x="{middle}" y="{y + 17}">{_escaped(box.title)}</text>'
+            f'<text x="{middle}" y="{y + 32}" fill="#666">{_escaped(box.about)}</text>')
 
 
 def html_of(pictures: Iterable[Tuple[str, Optional[bytes]]]) -> str:

@@ -16,6 +16,11 @@ class Closed(FeqyldanError, ValueError):
     """A context, a server or a connection is used after it was closed."""
 
 
+class NestedCall(FeqyldanError):
+    """A signal's handler makes a call while it interrupts another call of the same server. The
+    interrupted call goes on."""
+
+
 class ServerEnded(FeqyldanError):
     """
     The server has ended, or has closed its connection, and won't answer any more. `status` is its
@@ -237,8 +242,9 @@ ADVICE: Dict[Tuple[int, Optional[int]], str] = {
     (wire.INVALID_VALUE, wire.OPEN_CONTEXT):
         "Another program has a context open under this client number: use another server.",
     (wire.NO_RESOURCES, wire.OPEN_CONTEXT):
-        "The broker has its limit of connections in all, of this process or of this user: close "
-        "one, or start it with a higher limit (--connections, --per-process, --per-user).",
+        "The door or the broker has its limit of connections in all, of this process or of this "
+        "user: close one, or start it with a higher limit (--connections, --per-process, "
+        "--per-user).",
     (wire.INVALID_REFERENCE, wire.REMOVE_NODE):
         "The graph was closed, or the node was removed already.",
     (wire.INVALID_DIMENSION, wire.CREATE_IMAGE): _SIDES,

@@ -21,6 +21,9 @@ from .wire import GREATEST_SIDE
 
 # The first bytes of files of some kinds.
 NPY, PNG, JPEG = b"\x93NUMPY", b"\x89PNG\r\n\x1a\n", b"\xff\xd8\xff"
+SUN_RASTER = b"\x59\xa6\x6a\x95"
+# Endings of formats that change U8 samples a little.
+LOSSY = {".jpg", ".jpeg", ".jpe", ".jfif", ".mpo", ".webp", ".avif"}
 # A marker of a JPEG file. Within samples 0xff is followed by 0, or by 0xd0 to 0xd7.
 MARKER = re.compile(rb"\xff+([\x01-\xcf\xd8-\xfe])")
 END_OF_JPEG = b"\xd9"
@@ -55,7 +58,8 @@ def _in_npy(content: bytes) -> Any:
     numpy = needed_numpy("reading .npy")
     try:
         return numpy.load(io.BytesIO(content), allow_pickle=False)
-    except (ValueError, EOFError, MemoryError) as error:
+    except Exception as error:
+        # NumPy raises errors of many classes for a file that is damaged.
         raise WrongPicture(f"this isn't a whole .npy file of numbers: {error}") from None
 
 
@@ -70,6 +74,12 @@ def _decoded(content: bytes) -> Any:
             raise WrongPicture(f"this is a {kind} file without its end: it is cut off after "
                                f"{len(content):,} bytes; copy it again")
     _look_at_sides(content)
+    if content.startswith(SUN_RASTER):
+        # OpenCV returns zeros for one without a map of colours.
+        cv2 = None
+        if pil is None:
+            raise WrongPicture("this is a Sun raster, which takes PIL: install it, or convert the "
+                               "file to PNG")
     pixels = _by_cv2(cv2, content) if cv2 is not None else _by_pil(pil, content)
     if pixels is None:
         reader = "PIL" if cv2 is None else "OpenCV"
@@ -187,17 +197,29 @@ def _encoded(ending: str, pixels: Any) -> bytes:
     if cv2 is None and pil is None:
         raise _absent(f"writing {ending or 'a file without an ending'}",
                       "write .pgm, .png or .npy")
-    try:
-        content = _cv2_file(cv2, ending, pixels) if cv2 is not None else (
-            _pil_file(pil, ending, pixels))
-        there = _decoded(content) if pixels.dtype.itemsize > 1 else pixels
-    except WrongPicture:
-        there = None
-    if there is None or there.dtype.itemsize < pixels.dtype.itemsize or (there != pixels).any():
-        # OpenCV clips wide samples to 8 bits for formats that have no more.
+    content = _cv2_file(cv2, ending, pixels) if cv2 is not None else (
+        _pil_file(pil, ending, pixels))
+    if not _has_samples(content, pixels, ending):
+        instead = {1: ".png", 2: ".npy, or convert_depth it to U8"}.get(pixels.dtype.itemsize,
+                                                                        ".npy")
         raise ValueError(f"{ending} can't hold the {pixels.dtype} samples of this picture: save it "
-                         "as .npy, or convert_depth it to U8")
+                         f"as {instead}")
     return content
+
+
+def _has_samples(content: bytes, pixels: Any, ending: str) -> bool:
+    """Returns whether the bytes of a file have the samples of a picture. OpenCV clips wide samples
+    to 8 bits for formats that have no more, and all samples to one bit for .pbm."""
+    is_narrow: bool = pixels.dtype.itemsize == 1
+    if is_narrow and ending in LOSSY:
+        return True
+    try:
+        there = _decoded(content)
+    except WrongPicture:
+        # Some formats, such as PDF, can only be written.
+        return is_narrow
+    is_wide_enough: bool = there.dtype.itemsize >= pixels.dtype.itemsize
+    return is_wide_enough and bool(numpy_module().array_equal(there, pixels))
 
 
 def _cv2_file(cv2: Any, ending: str, pixels: Any) -> bytes:

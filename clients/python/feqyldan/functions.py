@@ -181,9 +181,8 @@ def call_of(name: str, operands: Tuple[Optional[Union[Operand, Named]], ...], po
             raise InvalidParameters(name, None, words)
     if operands[2] is None and operands[3] is None:
         raise InvalidParameters(name, None, "Its output is None: give an object to write to.")
-    if not isinstance(border, Border):
-        raise TypeError(f"{name}: a border must be vx.UNDEFINED, vx.REPLICATE or "
-                        f"vx.constant(value), not {border!r}")
+    if border is not UNDEFINED and border is not REPLICATE:
+        require_border(name, border)
     if not isinstance(policy, POLICIES):
         raise not_a_policy(name, policy)
     if isinstance(amount, POLICIES):
@@ -191,6 +190,15 @@ def call_of(name: str, operands: Tuple[Optional[Union[Operand, Named]], ...], po
                         f"{place_of(name, 'shift')}")
     return Call(name, operands, policy,
                 within(amount, f"{name}: a shift", BYTE, SHIFTS.get(name, NO_SHIFT).whole), border)
+
+
+def require_border(name: str, border: Any) -> None:
+    """Raises TypeError or ValueError for a border that a frame can't express."""
+    modes = "vx.UNDEFINED, vx.REPLICATE or vx.constant(value)"
+    if not isinstance(border, Border):
+        raise TypeError(f"{name}: a border must be {modes}, not {border!r}")
+    within(border.mode, f"{name}: a border's mode", BYTE, f"that of {modes}")
+    within(border.value, f"{name}: a border's value", BYTE, PARAMETER_RANGES["border"].whole)
 
 
 def not_a_policy(name: str, value: Any) -> Exception:

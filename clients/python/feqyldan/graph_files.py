@@ -35,7 +35,7 @@ from .images import AnyImage, Delay, Image, Slot
 from .json_files import contents_of, packed, text_of, unpacked
 from .objects import Convolution, Distribution, Lut, MinMax, Named, Threshold
 from .samples import Format, samples_of
-from .storage import Path, name_of_file, write_bytes
+from .storage import Path, cause_of, name_of_file, write_bytes
 from .usage import MOST_OBJECTS
 from .verdicts import ADDING
 
@@ -88,7 +88,7 @@ def fault_at(path: Path, place: Place, error: Exception) -> GraphFileError:
                               operand=parameter if place.node else "")
     if isinstance(error, Refused):
         return GraphFileError(path, str(error), place, error.name, error.operand, error.advice)
-    return GraphFileError(path, str(error), place)
+    return GraphFileError(path, cause_of(error), place)
 
 
 class GraphFile(NamedTuple):
@@ -312,7 +312,7 @@ def _entered(drawing: Drawing, name: str, objects: Dict[str, Any]) -> str:
     fields = [str(described[field]) for field in ("format", "width", "height", "above", "bins")
               if described.get(field) is not None]
     kind = str(described.get("kind", ""))
-    key = f"object{name.encode().hex()}"
+    key = f"object{name.encode('utf-8', 'surrogatepass').hex()}"
     drawing.boxes[key] = Box(key, name, " ".join([kind, *fields]),
                              "virtual" if kind == "virtual image" else "object")
     return key
@@ -465,6 +465,8 @@ class Reader:
         if len({"samples", "file", "fill"} & told.keys()) > 1:
             raise ValueError("give only one of samples, file and fill")
         if "file" in told:
+            if not isinstance(told["file"], str):
+                raise ValueError(f'"file" must be a path, not {told["file"]!r}')
             return self._context.load(os.path.join(os.path.dirname(self._path), told["file"]),
                                       name=name)
         image = self._context.image(format_named(told["format"]), told["width"], told["height"],
@@ -547,7 +549,7 @@ def one_of(kind: Any, name: Any, what: str) -> Any:
     """Returns the member of an enumeration with this name."""
     try:
         return kind[name]
-    except KeyError:
+    except (KeyError, TypeError):
         names = ", ".join(member.name for member in kind)
         raise ValueError(f"{what} must be one of {names}, not {name!r}") from None
 

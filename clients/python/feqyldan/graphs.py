@@ -135,7 +135,7 @@ class Graph(Named, Functions[Node]):
     def __init__(self, context: Context, made: Made) -> None:
         super().__init__(context, made)
         self._virtual_images: weakref.WeakSet[VirtualImage] = weakref.WeakSet()
-        # The call of each node, by its number.
+        # The call of each node, by its number. Each change makes a new dictionary.
         self._calls: Dict[int, Call] = {}
         # The names of the delays that each run ages.
         self._aging: Set[int] = set()
@@ -294,7 +294,8 @@ class Graph(Named, Functions[Node]):
     def _remove(self, node: Node) -> None:
         """Removes a node, as Node.remove() does."""
         words = f"remove {node}"
-        self._calls.pop(node.number, None)
+        self._calls = {number: call for number, call in self._calls.items()
+                       if number != node.number}
         self._context._tell(words, wire.remove_node, self.name, node.number)
 
     def close(self) -> None:
@@ -302,7 +303,7 @@ class Graph(Named, Functions[Node]):
         for image in list(self._virtual_images):
             image.close()
         super().close()
-        self._calls.clear()
+        self._calls = {}
 
     def _values(self) -> str:
         count = len(self._calls)
@@ -319,14 +320,14 @@ class Graph(Named, Functions[Node]):
 
     def _judge(self, verb: str, make: Callable[..., bytes]) -> None:
         # In a pipeline the graph may have changed by the time the reply comes.
-        calls, work = self._calls.copy(), self._context.server.work
-        self._context._tell(f"{verb} {self}", make, self.name,
-                            explain=lambda code: explained(code, [
-                               member_of(number, call) for number, call in calls.items()], work))
+        calls, context = self._calls, self._context
+        context._tell(f"{verb} {self._words}", make, self.name, explain=lambda code: explained(
+            code, [member_of(number, call) for number, call in calls.items()],
+            context.server.work))
 
     def _run(self, call: Call) -> Node:
         number = self._context._add_node(self, call, lambda number: (
-            self._calls.__setitem__(number, call)))
+            setattr(self, "_calls", {**self._calls, number: call})))
         return Node(self, number, call)
 
 

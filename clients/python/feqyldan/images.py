@@ -11,7 +11,7 @@ from .errors import Fault, FeqyldanError, refusal
 from .files import save
 from .objects import (
     Asked, Description, Made, Named, Rectangle, description_of, in_words, sides_of_frame)
-from .pgm import fault_of
+from .pgm import content_of, fault_of
 from .pictures import shown
 from .samples import (
     Format, Picture, Readable, Samples, Size, dtype_of, needed_numpy, picture_of, place_in,
@@ -225,7 +225,7 @@ class AnyImage(Readable):
     def write_pgm(self, text: bytes) -> None:
         """Replaces all samples by those of a PGM text, P5 or P2, whose picture has the image's
         format and size."""
-        content = memoryview(text).cast("B")
+        content = content_of(text)
         self.context._tell(f"write a PGM text to {self}", wire.write_image_pgm_head,
                            self._reference, len(content), content=content,
                            explain=lambda code: fault_of(text, code))

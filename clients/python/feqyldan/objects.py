@@ -110,7 +110,8 @@ class Named(Uncopied):
         server has ended."""
         if not self.closed:
             self._is_closed = True
-            self._context._release(self.name, self._words)
+            words, self._words = self._words, f"closed {self._words}"
+            self._context._release(self.name, words)
 
     def __enter__(self: Own) -> Own:
         return self
@@ -120,10 +121,11 @@ class Named(Uncopied):
         self._context._close_within(self, error)
 
     def __str__(self) -> str:
-        return f"closed {self._words}" if self._is_closed else self._words
+        return self._words
 
     def __repr__(self) -> str:
-        return f"<{self._words}{self._values()}{', closed' if self.closed else ''}>"
+        end = ", closed" if self.closed and not self._is_closed else ""
+        return f"<{self._words}{self._values()}{end}>"
 
     def _values(self) -> str:
         """Returns the end of repr(): the object's values, after its kind and its name."""

@@ -36,7 +36,8 @@ def vmsplice() -> Any:
 def can_lend() -> bool:
     """Returns whether NumPy is in use, which gives addresses of memory, and the system supports
     lending."""
-    return "numpy" in sys.modules and vmsplice() is not None
+    # None stands for a module that must not be imported.
+    return sys.modules.get("numpy") is not None and vmsplice() is not None
 
 
 def lend(counts: List[int], pipe: int, part: Any) -> None:

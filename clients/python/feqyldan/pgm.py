@@ -17,6 +17,8 @@ HEADER = re.compile(rb"P[25]" + 3 * (GAP + rb"0*([0-9]{1,9})"))
 COMMENT = re.compile(rb"#[^\r\n]*")
 # The greatest maxval of a picture for a U8 image, and for an S16 image.
 GREATEST_MAXVAL, GREATEST_WIDE_MAXVAL = 255, 32767
+# The greatest maxval of a PGM text: a sample has at most 16 bits.
+MOST_MAXVAL = 65535
 TOO_GREAT = ("S16 holds those from -32768 to 32767: load(path, scale=True) makes a U8 image, or "
              "read the file by cv2.imread(path, cv2.IMREAD_UNCHANGED), and write "
              "(array >> 1).astype(numpy.int16)")
@@ -39,13 +41,18 @@ def is_pgm(content: bytes) -> bool:
     return content[:2] in (b"P2", b"P5")
 
 
-def header_of(text: Any) -> Header:
-    """Returns the header of a PGM text. Raises BadPicture if the bytes don't begin as one."""
+def content_of(text: Any) -> memoryview:
+    """Returns the bytes of a PGM text. Raises NotAPicture if it is something else."""
     try:
-        found = HEADER.match(text)
+        return memoryview(text).cast("B")
     except TypeError:
         raise NotAPicture(f"a PGM text must be bytes, not {type(text).__name__}: context.load(path)"
                           " reads a file") from None
+
+
+def header_of(text: Any) -> Header:
+    """Returns the header of a PGM text. Raises BadPicture if the bytes don't begin as one."""
+    found = HEADER.match(content_of(text))
     if not found:
         raise WrongPicture("these bytes don't begin as a PGM text does, with the header of P5 or P2"
                            f"{_hint_at(bytes(text[:4]))}")
@@ -101,6 +108,8 @@ def pixels_of(text: bytes, scale: bool) -> memoryview:
     if not header.maxval or not header.width or not header.height:
         fault = (f"it has {header.width} by {header.height} pixels and the maxval {header.maxval}, "
                  "and each must be at least 1")
+    if header.maxval > MOST_MAXVAL:
+        fault = f"its maxval is {header.maxval}, and that of a PGM text is at most {MOST_MAXVAL}"
     if fault:
         raise WrongPicture(fault)
     numbers = _numbers_in(text, header)

@@ -56,8 +56,9 @@ def pgm(picture: Any) -> List[Any]:
     """Returns the parts of a PGM file, for the pictures that write_pgm() takes."""
     samples = samples_of(picture)
     if samples.fmt != Format.U8:
+        instead = ", or convert_depth it to U8" if samples.fmt == Format.S16 else ""
         raise ValueError(f"a PGM file has U8 samples, and this picture is {samples.fmt}: save it "
-                         "as .npy, or convert_depth it to U8")
+                         f"as .npy{instead}")
     return [b"P5\n%d %d\n255\n" % (samples.width, samples.height), samples.content]
 
 

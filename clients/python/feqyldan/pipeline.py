@@ -117,6 +117,10 @@ class Result(Uncopied, Generic[Value]):
         return self._decoded[0]
 
     def _await(self, timeout: Optional[float]) -> None:
+        if timeout is not None and not hasattr(timeout, "__float__"):
+            raise TypeError(f"a timeout must be a number of seconds or None, not {timeout!r}")
+        if timeout is not None and not timeout >= 0:
+            raise ValueError(f"a timeout must be at least 0 seconds, not {timeout!r}")
         if not self._connection.wait(self._request, timeout):
             raise NotYet(f"{self._request.words}: no reply in {timeout:g} seconds; call value() "
                          "again to wait longer")
@@ -172,15 +176,15 @@ class Pipeline(Uncopied):
 
     def read(self, thing: Union[AnyImage, Distribution, MinMax]) -> Result[Any]:
         """Sends the request of thing.read(), for a picture, counts or extremes."""
-        return self._ask(*thing._reading())
+        return self._ask(*asked_of(thing, "_reading", "an image, a distribution or extremes"))
 
     def read_pgm(self, image: AnyImage) -> Result[bytes]:
         """Sends the request of image.read_pgm()."""
-        return self._ask(*image._reading_pgm())
+        return self._ask(*asked_of(image, "_reading_pgm", "an image"))
 
     def query(self, image: Union[AnyImage, VirtualImage]) -> Result[Description]:
         """Sends the request of image.query()."""
-        return self._ask(*image._querying())
+        return self._ask(*asked_of(image, "_querying", "an image"))
 
     def wait(self) -> None:
         """
@@ -189,6 +193,7 @@ class Pipeline(Uncopied):
         """
         self._context._connection.wait()
         stretch, self._stretch = self._stretch, Stretch()
+        self._context._stretch = self._stretch
         if not stretch.is_told:
             stretch.raise_first()
 
@@ -216,7 +221,8 @@ class Pipeline(Uncopied):
 
     def __exit__(self, kind: Optional[Type[BaseException]], error: Optional[BaseException],
                  trace: Optional[TracebackType]) -> None:
-        self._context._leave_pipeline()
+        # Each call waits for its reply again. No interruption comes within this line.
+        self._context._pipeline = None
         if error is None:
             self._context._connection.wait()
             if not self._stretch.is_told:
@@ -227,6 +233,14 @@ class Pipeline(Uncopied):
              body: Optional[Body] = None) -> Result[Value]:
         request = self._context._send(words, make, body=body)
         return Result(self._context._connection, request, decode, self._stretch)
+
+
+def asked_of(thing: Any, name: str, kinds: str) -> Any:
+    """Returns what an object's method with this name says of its request. Raises TypeError for an
+    object without it."""
+    if not hasattr(thing, name):
+        raise TypeError(f"this call of a pipeline takes {kinds}, not {thing!r}")
+    return getattr(thing, name)()
 
 
 def number_of(request: Request) -> int:

@@ -8,6 +8,7 @@ from typing import TYPE_CHECKING, Any, Dict, NamedTuple, Tuple
 from .images import AnyImage
 from .objects import Distribution, MinMax
 from .verdicts import in_order, resolved
+from .whole import whole
 
 if TYPE_CHECKING:
     from .functions import Call
@@ -43,13 +44,14 @@ class Profile(Tuple[Timing, ...]):
 def profile(graph: Graph, rounds: int) -> Profile:
     """Returns the time of each node by itself, in the order of the graph. The nodes write to
     substitutes, so the graph's outputs don't change."""
+    rounds = max(1, whole(rounds, "the number of rounds of a profile"))
     graph.verify(warn=False)
     stand_ins = Doubles(graph)
     nodes = {node.number: node for node in graph.nodes}
     timings = []
     for member in in_order(graph._members):
         call = stand_ins.call(graph._calls[member.number])
-        best = min(_seconds(graph, call) for _ in range(max(1, rounds)))
+        best = min(_seconds(graph, call) for _ in range(rounds))
         timings.append(Timing(nodes[member.number], best))
     return Profile(timings)
 

@@ -6,7 +6,9 @@ from typing import Any, List, NamedTuple
 
 from .errors import NotAPicture, WrongPicture
 from .objects import Rectangle
-from .samples import Readable, needed_numpy, of_two_sides, refuse_none_and_paths
+from .samples import (
+    Readable, array_from, is_array, needed_numpy, of_two_sides, refuse_none_and_paths)
+from .whole import whole
 
 
 class Region(NamedTuple):
@@ -25,6 +27,8 @@ def regions(marks: Any, least: int = 1) -> List[Region]:
     is neither an image nor such an array. Needs NumPy, and OpenCV or SciPy.
     """
     numpy = needed_numpy("regions()")
+    if whole(least, "the least number of pixels of a region") < 1:
+        raise ValueError(f"a region has at least 1 pixel, so least can't be {least}")
     pixels = _pixels_of(numpy, marks) != 0
     try:
         import cv2
@@ -41,14 +45,18 @@ def _pixels_of(numpy: Any, marks: Any) -> Any:
     if isinstance(marks, Readable):
         return numpy.asarray(marks.read())
     refuse_none_and_paths(marks)
-    try:
-        pixels = numpy.asarray(marks)
-    except ValueError:
-        raise WrongPicture("the rows of marks must all have the same length") from None
+    pixels = array_from(marks) if is_array(marks) else _of_rows(numpy, marks)
     if pixels.dtype.kind not in "buifc":
         raise NotAPicture("marks must be an image, an array or rows of numbers, not "
                           f"{type(marks).__name__} of the type {pixels.dtype}")
     return of_two_sides(pixels)
+
+
+def _of_rows(numpy: Any, rows: Any) -> Any:
+    try:
+        return numpy.asarray(rows)
+    except ValueError:
+        raise WrongPicture("the rows of marks must all have the same length") from None
 
 
 def _by_cv2(cv2: Any, numpy: Any, pixels: Any) -> List[Region]:

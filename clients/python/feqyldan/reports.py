@@ -5,6 +5,7 @@ from __future__ import annotations
 import argparse
 import contextlib
 import csv
+import json
 import os
 import sys
 from contextlib import ExitStack
@@ -54,12 +55,16 @@ class Report:
                              "is read: name another file")
         if self._folder is None:
             return
-        wrong = [name for name in self._images if "/" in name]
-        if wrong and len(self._images) > 1:
-            raise ValueError(f'{told.graph}: the name "{wrong[0]}" has a "/", and --out names '
-                             'files by images: rename the image')
+        for name, fault in ((name, fault_of_name(name)) for name in self._images):
+            if fault and len(self._images) > 1:
+                raise ValueError(f"{told.graph}: the name {json.dumps(name)} {fault}, and --out "
+                                 "names files by images: rename the image")
+        numbers = None if told.csv in (None, STANDARD_OUTPUT) else identity(told.csv)
         writers: Dict[str, str] = {}
         for path, file in self._files_of(paths):
+            if identity(file) == numbers:
+                raise ValueError(f"--csv {told.csv} would be overwritten by the image of {path}: "
+                                 "name another file")
             if identity(file) in read:
                 raise ValueError(f"--out {self._folder}: the image of {path} would overwrite "
                                  f"{read[identity(file)]}, which is read: name another folder")
@@ -135,6 +140,15 @@ def opened(path: str) -> Iterator[TextIO]:
 def files_read(path: str, contents: Dict[str, Any]) -> List[str]:
     """Returns the path of a graph file, and those of the picture files that its contents name."""
     return [path, *(os.path.join(os.path.dirname(path), file) for file in files_in(contents))]
+
+
+def fault_of_name(name: str) -> str:
+    """Returns in words why an image's name can't be in the name of a file; empty if it can."""
+    try:
+        os.fsencode(name)
+    except UnicodeEncodeError:
+        return "has a character that a file name can't have"
+    return next((f"has a {json.dumps(letter)}" for letter in "/\0" if letter in name), "")
 
 
 def identity(path: str) -> Tuple[Any, ...]:

@@ -18,6 +18,7 @@ import struct
 import sys
 from enum import IntEnum
 from functools import lru_cache
+from itertools import chain
 from typing import TYPE_CHECKING, Any, Iterable, NamedTuple, Optional, Sequence, Tuple, Union
 
 from . import wire
@@ -150,7 +151,7 @@ def samples_of(value: Any, size: Optional[Size] = None) -> Samples:
     if isinstance(value, Readable):
         value = value.read()
     if is_array(value):
-        return _of_array(_array_from(value), size)
+        return _of_array(array_from(value), size)
     try:
         view = memoryview(value)
     except TypeError:
@@ -158,7 +159,7 @@ def samples_of(value: Any, size: Optional[Size] = None) -> Samples:
     return _of_buffer(view, size)
 
 
-def _array_from(value: Any) -> Any:
+def array_from(value: Any) -> Any:
     """Returns the value as an array. Refuses masked samples, because the mask would be lost, and a
     palette image of PIL, whose numbers aren't its greys."""
     numpy = numpy_module()
@@ -185,10 +186,16 @@ def _from_dlpack(value: Any) -> Any:
 
 
 def entries_of(value: Any, fmt: Format) -> bytes:
-    """Returns the big-endian bytes of numbers in one dimension; an array may also have one row or
-    one column."""
+    """Returns the big-endian bytes of numbers in one dimension; an array, also a memoryview, may
+    have several rows."""
     if is_array(value):
         value = numpy_module().asarray(value).reshape(-1).tolist()
+    elif isinstance(value, memoryview) and value.ndim == 2:
+        rows: Any = value.tolist()
+        value = chain.from_iterable(rows)
+    if not isinstance(value, Iterable):
+        raise TypeError("the entries of a lookup table must be whole numbers in a row, not "
+                        f"{value!r}")
     return _ordered(packed(list(value), fmt, "an entry")).tobytes()
 
 
@@ -231,15 +238,16 @@ def _bytes_of(pixels: Any, numpy: Any) -> memoryview:
     return memoryview(ordered.reshape(-1).view(numpy.uint8))
 
 
-def _hint_at(shape: Tuple[int, ...]) -> str:
-    """Returns a hint for an array whose shape isn't that of a picture."""
+def not_a_grey_picture(shape: Tuple[int, ...]) -> WrongPicture:
+    """Returns the error for an array whose shape isn't that of a picture, with a hint."""
+    hint = ""
     if 0 in shape:
-        return ": it is empty, as a slice outside of an array is"
-    if len(shape) == 3 and shape[0] == 1:
-        return ": that is a batch of one picture, which is array[0]"
-    if shape[2:] in ((3,), (4,)):
-        return ": make a grey one of it, as by cv2.cvtColor(array, cv2.COLOR_BGR2GRAY)"
-    return ""
+        hint = ": it is empty, as a slice outside of an array is"
+    elif len(shape) == 3 and shape[0] == 1:
+        hint = ": that is a batch of one picture, which is array[0]"
+    elif shape[2:] in ((3,), (4,)):
+        hint = ": make a grey one of it, as by cv2.cvtColor(array, cv2.COLOR_BGR2GRAY)"
+    return WrongPicture(f"a grey picture must have the shape (height, width), not {shape}{hint}")
 
 
 def _conversion_of(dtype: Any) -> str:
@@ -259,6 +267,8 @@ def _conversion_of(dtype: Any) -> str:
 
 
 def _of_buffer(view: memoryview, size: Optional[Size]) -> Samples:
+    if view.shape is not None and view.ndim > 1 and 0 in view.shape:
+        raise not_a_grey_picture(view.shape)
     fmt = FORMATS.get(view.format.lstrip(NATIVE))
     if fmt is not None and fmt.sample_bytes != view.itemsize:
         fmt = None
@@ -324,8 +334,7 @@ def of_two_sides(pixels: Any) -> Any:
     if pixels.ndim == 3 and pixels.shape[2] == 1:
         pixels = pixels.reshape(pixels.shape[:2])
     if pixels.ndim != 2 or pixels.size == 0:
-        raise WrongPicture("a grey picture must have the shape (height, width), not "
-                           f"{pixels.shape}{_hint_at(pixels.shape)}")
+        raise not_a_grey_picture(pixels.shape)
     return pixels
 
 

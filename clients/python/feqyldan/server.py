@@ -10,13 +10,12 @@ from contextlib import suppress
 from types import TracebackType
 from typing import Deque, Dict, List, Optional, Sequence, Type, TypeVar, Union
 
-from . import wire
+from . import core, wire
 from .connection import Connection, Request
 from .context import Context, Death
 from .core import Core
-from .core import find as find_core
 from .direct import DirectConnection
-from .errors import Closed, FeqyldanError, ProgramNotFound, Refused, ServerEnded
+from .errors import Closed, FeqyldanError, NestedCall, Refused, ServerEnded
 from .forks import FORKED, HELD, OPENING, Forked
 from .log import LOG
 from .process import PATIENCE, Process
@@ -41,9 +40,10 @@ class Server(Forked, Uncopied):
     A server that this process starts. It ends at the end of its `with`, or with this process.
 
     The server is a library in this process if libfeqyldan-core.so is found: by the environment
-    variable FEQYLDAN_CORE, inside this package, or built in this checkout. Otherwise it is a
-    process of its own. It is one also with `process=True`, with a `program` or a `timeout`, and if
-    the environment variable FEQYLDAN_PROGRAM is set. `process=False` allows only the library.
+    variable FEQYLDAN_CORE, inside this package, built in this checkout, or by the dynamic linker,
+    which finds that of Debian's package libfeqyldan0. Otherwise it is a process of its own. It is
+    one also with `process=True`, with a `program` or a `timeout`, and if the environment variable
+    FEQYLDAN_PROGRAM is set. `process=False` allows only the library.
 
     `program` is the path of vx_main, or the words of a command that ends with it. Without it, the
     program is the first of these: the value of FEQYLDAN_PROGRAM; `feqyldan` or `vx_main` on PATH;
@@ -173,9 +173,13 @@ class Server(Forked, Uncopied):
         try:
             if self._connection.fault is None:
                 self._connection.wait()
+        except NestedCall:
+            self._ended_by = None
+            raise
         finally:
-            had_ended = self._connection.fault is not None
-            ended = self._end(PATIENCE_AFTER_FAULT if had_ended else PATIENCE)
+            if self._ended_by is not None:
+                had_ended = self._connection.fault is not None
+                ended = self._end(PATIENCE_AFTER_FAULT if had_ended else PATIENCE)
         if ended is not None and ended.status != 0 and not had_ended:
             raise ended
 
@@ -267,20 +271,22 @@ def core_for(program: Union[Path, Sequence[str], None], process: Optional[bool],
     asks = program is not None or timeout is not None or bool(os.environ.get(VARIABLE))
     if asks if process is None else process:
         return None
-    path = find_core()
-    if path is None and process is False:
-        raise ProgramNotFound("the server's library wasn't found: FEQYLDAN_CORE isn't set, and "
-                              "neither the package nor a checkout has libfeqyldan-core.so for this "
-                              "processor. Install the wheel with the server, build it by "
-                              "tools/build, or leave out process=False")
-    return path
+    return core.find() if process is None else core.require("leave out process=False")
+
+
+def words_of(program: Union[Path, Sequence[str]]) -> Sequence[str]:
+    """Returns the words that start a program. Raises TypeError for anything else."""
+    words = (program,) if isinstance(program, (str, os.PathLike)) else program
+    if not words or not isinstance(words, (list, tuple)):
+        raise TypeError("a program must be a path, or the words of a command that ends with one, "
+                        f"not {program!r}")
+    return [os.fspath(word) for word in words]
 
 
 def command(program: Union[Path, Sequence[str]], quota: Optional[int],
             work: Optional[int]) -> List[str]:
     """Returns the words of the command that starts a server."""
-    words = [os.fspath(program)] if isinstance(program, (str, os.PathLike)) else list(program)
-    words.append("serve")
+    words = [*words_of(program), "serve"]
     for name, limit in (("quota", quota), ("work", work)):
         if limit is not None:
             words += [f"--{name}", str(limit_of(name, limit))]

@@ -242,7 +242,10 @@ def status(path: Path, *, timeout: float = 10.0) -> Dict[str, Any]:
     OSError if it doesn't come within `timeout` seconds, and UnexpectedReply if the path is another
     kind of socket.
     """
-    path, until = os.fspath(path), time.monotonic() + timeout
+    seconds = seconds_of(timeout)
+    if seconds is None:
+        raise TypeError("the timeout of status() must be a number of seconds, not None")
+    path, until = os.fspath(path), time.monotonic() + seconds
     with socket.socket(socket.AF_UNIX, socket.SOCK_STREAM) as stream:
         try:
             limit_connecting(stream, timeout)

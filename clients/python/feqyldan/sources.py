@@ -9,10 +9,13 @@ import threading
 import time
 import zlib
 from collections import deque
+from contextlib import suppress
 from queue import SimpleQueue
-from typing import TYPE_CHECKING, Any, Callable, Deque, Dict, Iterable, Iterator, Optional, Sequence
+from typing import (
+    TYPE_CHECKING, Any, Callable, Deque, Dict, Iterable, Iterator, Optional, Sequence, Tuple)
 
-from .errors import WrongPicture
+from .errors import Closed, WrongPicture
+from .forks import FORKED, HELD, Forked
 from .samples import is_array
 
 if TYPE_CHECKING:
@@ -22,6 +25,8 @@ if TYPE_CHECKING:
 PATIENCE = 2.0
 # The number of rows in a frame's fingerprint, which shows whether its array was overwritten.
 PRINTED = 16
+# Address, shape, strides and type of an array's samples.
+Place = Tuple[int, Tuple[int, ...], Tuple[int, ...], str]
 
 
 class Source:
@@ -101,8 +106,10 @@ def leave_all() -> None:
     for taker in takers:
         taker.leave()
     until = time.monotonic() + PATIENCE
-    for taker in takers:
-        taker.join(max(0.0, until - time.monotonic()))
+    # A second Ctrl-C ends the wait.
+    with suppress(KeyboardInterrupt):
+        for taker in takers:
+            taker.join(max(0.0, until - time.monotonic()))
 
 
 atexit.register(leave_all)
@@ -110,29 +117,29 @@ atexit.register(leave_all)
 
 class Prints:
     """
-    The arrays of frames that have no result yet, by the address of their samples. A fingerprint of
-    some rows of each array shows whether it was overwritten too early.
+    The arrays of frames that have no result yet, by the place and the layout of their samples. A
+    fingerprint of some rows of each array shows whether it was overwritten too early.
     """
 
     def __init__(self) -> None:
-        self._prints: Dict[int, int] = {}
+        self._prints: Dict[Place, int] = {}
         self._fault: Optional[str] = None
 
     def take(self, frame: Any) -> None:
         """Notes a frame that the iterator has just yielded."""
         if is_pixels(frame):
-            start, found = start_of(frame), print_of(frame)
-            if self._prints.get(start, found) != found:
+            place, found = place_of(frame), print_of(frame)
+            if self._prints.get(place, found) != found:
                 self._fault = ("the iterator of a stream overwrote an array before the result of "
                                "its frame had come, so two frames were mixed: yield array.copy()")
-            self._prints[start] = found
+            self._prints[place] = found
 
     def let_go(self, frame: Any) -> None:
         """Notes that the result of a frame has come."""
         if self._fault is not None:
             raise WrongPicture(self._fault)
         if is_pixels(frame):
-            self._prints.pop(start_of(frame), None)
+            self._prints.pop(place_of(frame), None)
 
 
 def is_pixels(frame: Any) -> bool:
@@ -142,8 +149,10 @@ def is_pixels(frame: Any) -> bool:
     return kind is not None and isinstance(frame, kind) and frame.ndim > 1
 
 
-def start_of(pixels: Any) -> int:
-    return int(pixels.__array_interface__["data"][0])
+def place_of(pixels: Any) -> Place:
+    """Returns the address of an array's samples, and the array's shape, strides and type."""
+    start = int(pixels.__array_interface__["data"][0])
+    return start, pixels.shape, pixels.strides, pixels.dtype.str
 
 
 def print_of(pixels: Any) -> int:
@@ -152,7 +161,7 @@ def print_of(pixels: Any) -> int:
     return zlib.crc32(pixels[:: max(1, len(pixels) // PRINTED)].tobytes())
 
 
-class Threaded(Source):
+class Threaded(Source, Forked):
     """Frames that a thread takes from an iterator, one ahead, so that results can be yielded while
     the iterator waits for a camera. The thread must not use the contexts of the stream."""
 
@@ -168,7 +177,13 @@ class Threaded(Source):
         self._is_closed = self._is_over = False
         taker = Taker(self._take_all, iter(frames), self.close)
         self.descriptor, self._writer = os.pipe()
+        HELD.add(self)
         taker.start()
+
+    def _lose(self) -> None:
+        # The thread, which may hold the lock, isn't here.
+        self._lock, self._is_closed = threading.Lock(), True
+        self.error = Closed(f"run the stream: {FORKED}")
 
     def _take_all(self, frames: Iterator[Any]) -> None:
         thread = threading.get_ident()

@@ -5,11 +5,12 @@ from __future__ import annotations
 import contextlib
 import errno
 import os
+import re
 import secrets
 import stat
-from typing import Any, Iterator, Sequence, Union
+from typing import Any, Iterator, List, Sequence, Tuple, Union
 
-from .errors import BadPicture, Refused
+from .errors import BadPicture, Closed, Refused
 
 Path = Union[str, "os.PathLike[str]"]
 # The most bytes of a file that is read: more than any picture for an image has.
@@ -27,6 +28,19 @@ def name_of_file(path: Any) -> str:
         raise ValueError(f"a path has no byte 0, and this one begins with {name[:20]!r}: give the "
                          "path of the file, not its bytes")
     return name
+
+
+def cause_of(error: Exception) -> str:
+    """Returns the words of an error. Those of the system's errors are the file and the cause."""
+    if isinstance(error, OSError) and error.filename is not None:
+        return f"{os.fsdecode(error.filename)}: {error.strerror}"
+    return str(error)
+
+
+def natural(path: str) -> Tuple[List[Union[str, int]], str]:
+    """Returns the sort key of a path: numbers in it sort by value, so f2 comes before f10."""
+    parts = re.split("([0-9]+)", path)
+    return [int(part) if at % 2 else part for at, part in enumerate(parts)], path
 
 
 def read_bytes(path: Path, most: int = GREATEST_FILE) -> bytes:
@@ -95,5 +109,5 @@ def naming(path: str) -> Iterator[None]:
     except Refused as refused:
         raise refused.in_words(f"{path}: {refused.request}") from None
     except (BadPicture, ImportError, ValueError) as error:
-        kind = type(error) if isinstance(error, (BadPicture, ImportError)) else ValueError
+        kind = type(error) if isinstance(error, (BadPicture, Closed, ImportError)) else ValueError
         raise kind(f"{path}: {error}") from None

@@ -18,6 +18,7 @@ from .objects import Distribution, MinMax, Named
 from .pipeline import Pipeline, Result
 from .samples import Samples, is_array, samples_of
 from .sources import source_of
+from .whole import whole
 
 if TYPE_CHECKING:
     from .context import Context
@@ -42,7 +43,7 @@ def stream(frames: Iterable[Frame], stations: Sequence[Station],
     same time. Besides one frame for each station, up to `ahead` frames are sent before the first
     result has come. A graph with a delay or with sums needs all frames, so it must be the only one.
     """
-    if ahead < 0:
+    if whole(ahead, "ahead, the number of frames sent ahead,") < 0:
         raise ValueError(f"ahead, the number of frames sent ahead, must be 0 or more, not {ahead}")
     turns = [Turn(station) for station in stations_in(stations)]
     look_at_frames(frames, turns[0].camera)
@@ -70,6 +71,9 @@ def station_of(given: Any) -> Station:
 def look_at_frames(frames: Any, camera: AnyImage) -> None:
     """Raises TypeError for a path and for a value that isn't iterable, and BadPicture for a single
     picture, whose rows would be used as frames."""
+    if isinstance(frames, memoryview) and frames.ndim > 1:
+        raise TypeError("the frames of a stream must be pictures in a list, and this is a "
+                        f"memoryview of shape {frames.shape}: a picture is [picture]")
     if isinstance(frames, str) or not (hasattr(frames, "__iter__")
                                        or hasattr(frames, "__getitem__")):
         raise TypeError("the frames of a stream must be pictures in a list, or from an iterator, "
@@ -242,7 +246,7 @@ class Turn:
             pipeline._is_followed = False
             results.append(pipeline.read(self._out[-1]))
         finally:
-            self._context._leave_pipeline()
+            self._context._pipeline = None
             # Something is left unsent only after an exception.
             self._context._connection.own_unsent()
         return Sent(frame, pipeline, tuple(results), self._is_single)
@@ -302,6 +306,9 @@ def look_at_output(thing: Any) -> None:
 def look_at_nodes(graph: Graph, camera: AnyImage, out: Sequence[Any]) -> None:
     """Raises ValueError if no node reads the camera, if an output is used by no node, or if no node
     writes an output: results would have no meaning."""
+    if graph.closed and not graph.context.closed:
+        raise InvalidReference("run the stream", None, "Close it after the stream.", "",
+                               f"It uses {graph}.")
     read, written = graph._reads | graph._aging, graph._writes
     if name_of(camera) not in read:
         raise ValueError(f"the frames of a stream go to {camera}, which no node of {graph} reads: "

@@ -6,7 +6,8 @@ the fault is found again from the operands of the nodes, by the rules in docs/wi
 
 from __future__ import annotations
 
-from typing import Any, Dict, FrozenSet, List, NamedTuple, Optional, Sequence, Set, Tuple
+from typing import (
+    Any, Callable, Dict, FrozenSet, List, NamedTuple, Optional, Sequence, Set, Tuple)
 
 from . import wire
 from .errors import Fault
@@ -283,7 +284,7 @@ def _fault_of(member: Member, known: Dict[bytes, Cell],
     in1 = known[member.in1.reference]
     in2 = None if member.in2 is None else known[member.in2.reference]
     node = f"{str(member)[0].upper()}{str(member)[1:]}"
-    found = _found(member, known, members)
+    found = _found(member, known, members, of_format)
     for parameter, output in member.operands[len(member.inputs):]:
         formats = in1.fmt, None if in2 is None else in2.fmt, known[output.reference].fmt
         if formats not in TAKEN[member.function]:
@@ -296,6 +297,7 @@ def _fault_of(member: Member, known: Dict[bytes, Cell],
     for parameter, other in member.operands[1:]:
         cell = known[other.reference]
         if cell.is_image and (cell.width, cell.height) != (in1.width, in1.height):
+            found = _found(member, known, members, of_size)
             words = f"{node}, has images of different sizes.{found}"
             return Verdict(wire.INVALID_DIMENSION, Fault(words, (member.number,), parameter))
     return None
@@ -308,22 +310,33 @@ def _not_taken(function: str, formats: Formats) -> int:
         taken[: at + 1] == formats[: at + 1] for taken in TAKEN[function]))
 
 
-def _found(member: Member, known: Dict[bytes, Cell], members: Sequence[Member]) -> str:
-    """Returns in words how the virtual images of a node were resolved, and why."""
+def of_format(cell: Cell) -> Any:
+    return cell.fmt
+
+
+def of_size(cell: Cell) -> Any:
+    return cell.width, cell.height
+
+
+def _found(member: Member, known: Dict[bytes, Cell], members: Sequence[Member],
+           part: Callable[[Cell], Any]) -> str:
+    """Returns in words how a part of the descriptions of a node's virtual images was resolved, and
+    why: the format or the size."""
     writers = {cell.reference: other for other in members for cell in other.outputs}
     cells = {cell.reference: cell for cell in (*member.inputs, *member.outputs)
-             if cell != known[cell.reference]}
-    return "".join(_closing(cell, writers[cell.reference], known) for cell in cells.values())
+             if part(cell) != part(known[cell.reference])}
+    return "".join(_closing(cell, writers[cell.reference], known, part is of_format)
+                   for cell in cells.values())
 
 
-def _closing(cell: Cell, writer: Member, known: Dict[bytes, Cell]) -> str:
+def _closing(cell: Cell, writer: Member, known: Dict[bytes, Cell], is_format: bool) -> str:
     """Returns in words what a virtual image gets from its writer, and how to give it another
-    format, if that is possible."""
+    format, if that is asked for and possible."""
     now = known[cell.reference]
     resolved_as = in_words(now.fmt, now.width, now.height)
     words = (f" {cell.words[0].upper()}{cell.words[1:]} is {resolved_as}, because node "
              f"{writer.number}, {writer.function}, writes it")
-    if cell.fmt is None:
+    if is_format:
         inputs = [known[read.reference].fmt for read in (writer.in1, writer.in2) if read]
         as_bytes = (*inputs, *[None] * (2 - len(inputs)), U8)
         is_free = now.fmt != U8 and as_bytes in TAKEN[writer.function]

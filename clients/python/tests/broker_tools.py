@@ -19,7 +19,7 @@ PACKAGE = os.path.join(HERE, "..")
 sys.path[:0] = [HERE, PACKAGE, os.path.join(HERE, "..", "..", "..", "tools")]
 
 import feqyldan as vx  # noqa: E402
-from feqyldan import core, wire  # noqa: E402
+from feqyldan import program, wire  # noqa: E402
 from plain_server import HOLD, WHO_ASKED  # noqa: E402
 
 if os.environ.get("FEQYLDAN_CORE"):
@@ -28,10 +28,10 @@ PROGRAM = os.environ.get("FEQYLDAN_PROGRAM")
 
 
 def found_library() -> Optional[str]:
-    """Returns the path of the library that the package finds, or of the one next to the program."""
+    """Returns the path of the library in the package or this checkout, or next to the program."""
     home, name = os.path.split(os.path.realpath(PROGRAM or ""))
     beside = os.path.join(home, f"libfeqyldan-core-{name.partition('-')[2] or 'default'}.so")
-    return core.find() or (beside if os.path.isfile(beside) else None)
+    return next(iter(program.cores()), beside if os.path.isfile(beside) else None)
 
 
 # The library of a broker with the vision server.

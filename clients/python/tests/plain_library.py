@@ -26,15 +26,15 @@ class PlainLibrary:
     def connect(self) -> int:
         return next(self.numbers)
 
-    def answer(self, link: int, front: memoryview, rest: Any, most: int) -> memoryview:
+    def answer(self, link: int, front: bytes, rest: memoryview, most: int) -> bytes:
         _length, client, op = HEAD.unpack_from(front)
         self.note(link, op)
-        text = bytes(front[HEAD.size :]) + bytes(rest)
+        text = front[HEAD.size :] + bytes(rest)
         body = plain_server.answer(op, text, bytes(self.asked))
         code = text[0] if op == plain_server.REFUSE else 0
         if len(body) + 8 > most:
             raise ReplyTooLong(f"its reply would have {len(body) + 8} bytes")
-        return memoryview(wire.reply_frame(client, op, code, body))
+        return wire.reply_frame(client, op, code, body)
 
     def disconnect(self, link: int) -> None:
         self.note(link, wire.RELEASE_CONTEXT)

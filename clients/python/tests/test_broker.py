@@ -90,7 +90,7 @@ class Frames(BrokerTest):
             def is_quick(frame: bytes) -> bool:
                 there.sendall(frame)
                 incoming.receive(here)
-                return incoming.take(TURN_BYTES).are_quick
+                return incoming.take(TURN_BYTES)[-1]
 
             on_images = wire.bitwise_not(CLIENT, 1, 2), wire.read_image(CLIENT, 1)
             self.assertTrue(is_quick(wire.open_context(CLIENT)))

@@ -4,6 +4,7 @@ server (plain_server.py, plain_library.py)."""
 import array
 import contextlib
 import fcntl
+import itertools
 import multiprocessing
 import os
 import select
@@ -147,6 +148,24 @@ class Descriptors(BrokerTest):
         self.assertEqual(honest.ask(plain(50)), success(50))
         self.assertEqual(broker.state()["connections"]["open"] > 0, True)
         self.assertLess(time.monotonic() - start, SOON)
+
+
+def accepts(path: str) -> bool:
+    with socket.socket(socket.AF_UNIX) as sock:
+        return sock.connect_ex(path) == 0
+
+
+class EarlySignals(unittest.TestCase):
+    def test_as_soon_as_programs_can_connect(self) -> None:
+        """The broker and the door end as at any other time, and leave no socket."""
+        for kind, number in itertools.product((Broker, Door), (signal.SIGTERM, signal.SIGINT)):
+            with kind(tells_state=True) as broker:
+                until = time.monotonic() + LATE
+                while not accepts(broker.path) and time.monotonic() < until:
+                    time.sleep(0.0005)
+                broker.process.send_signal(number)
+                self.assertEqual(broker.process.wait(LATE), 0, broker.words())
+                self.assertEqual(os.listdir(broker.folder.name), ["log"])
 
 
 class StandardError(BrokerTest):

@@ -33,6 +33,17 @@ def inverse(context, width, height):
     return graph, source, target
 
 
+def several(context, width, height):
+    """Returns a graph with a list of outputs, as a stream takes them."""
+    graph, source, target = inverse(context, width, height)
+    return graph, source, [target]
+
+
+def swapped(context, width, height):
+    graph, source, target = inverse(context, width, height)
+    return graph, target, source
+
+
 def held_inverse(path, context, width, height):
     """Returns the same as inverse(), but waits with the widest graphs until a file exists at a
     path."""
@@ -211,6 +222,10 @@ class TestCluster(unittest.TestCase):
                                     "must return a tuple of the graph, its input image and its "
                                     "output image"):
             self.map(lambda *given: inverse(*given)[1:], [picture(1)])[0].result()
+        with self.assertRaisesRegex(TypeError, "its input image and its output image"):
+            self.map(several, [picture(1)])[0].result()
+        with self.assertRaisesRegex(ValueError, "no node of graph 3 reads: are camera and out"):
+            self.map(swapped, [picture(1)])[0].result()
 
     @of_a_process
     def test_a_server_is_killed(self):
@@ -253,6 +268,8 @@ class TestCluster(unittest.TestCase):
                      [[row[: 1 + number % WIDTH] for row in rows]
                       for number, rows in enumerate(pictures)])
         self.ends(running[victim])
+        # A worker that is closed while it starts writes a traceback.
+        self.client.wait_for_workers(2, timeout=30)
 
 
 if __name__ == "__main__":

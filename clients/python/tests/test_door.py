@@ -18,8 +18,8 @@ import unittest.mock
 from typing import Dict, List
 
 from broker_tools import (
-    CLIENT, LATE, PACKAGE, PLAIN, PROGRAM, Broker, BrokerTest, Door, Program, all_of, children_of,
-    files_of, plain, runs, success)
+    CLIENT, HERE, LATE, PACKAGE, PLAIN, PROGRAM, Broker, BrokerTest, Door, Program, all_of,
+    children_of, files_of, plain, runs, success)
 import feqyldan as vx
 from feqyldan import program, wire
 from feqyldan.door.program import NICE, TRIAL_SECONDS, chosen
@@ -45,6 +45,23 @@ def ready_after_pause(*words):
         time.sleep(0.01)
     return ready(*words)
 Events.ready = ready_after_pause
+"""
+# Runs a program of bench/door that takes a second to close its connection, and prints the processes
+# that run after its end.
+CLOSES_SLOWLY = """
+import importlib.util, multiprocessing, os, sys, time
+from importlib.machinery import SourceFileLoader
+multiprocessing.set_start_method("fork")
+sys.path.insert(0, sys.argv[1])
+loader = SourceFileLoader("door", os.path.join(sys.argv[1], "door"))
+door = importlib.util.module_from_spec(importlib.util.spec_from_loader("door", loader))
+loader.exec_module(door)
+class Way:
+    connect = context = __enter__ = lambda self: self
+    def __exit__(self, *_):
+        time.sleep(1)
+door.Programs(1, lambda context: lambda: None, Way(), 0.01).ended()
+print(multiprocessing.active_children())
 """
 needs_program = unittest.skipUnless(PROGRAM, "FEQYLDAN_PROGRAM doesn't name the server's program")
 
@@ -564,6 +581,10 @@ class Telling(DoorTest):
             vx.status(door.path)
         with self.assertRaisesRegex(FileNotFoundError, "'/no/such/socket'"):
             vx.status("/no/such/socket")
+        for wrong, kind in ((None, TypeError), ("1", TypeError), (float("nan"), ValueError),
+                            (1e300, ValueError), (0, ValueError)):
+            with self.assertRaisesRegex(kind, "timeout .*must be a number of seconds"):
+                vx.status(door.status_path, timeout=wrong)
 
     def test_a_state_that_is_longer_than_a_socket_holds(self) -> None:
         state = b"x" * 3_000_000
@@ -671,6 +692,14 @@ class Telling(DoorTest):
             door.terminate()
             self.assertEqual(door.wait(LATE), 0)
             self.assertEqual(sorted(os.listdir(folder)), ["socket", "status"])
+
+
+class Bench(unittest.TestCase):
+    def test_programs_end_before_their_servers(self) -> None:
+        bench = os.path.join(HERE, "..", "..", "..", "bench")
+        found = subprocess.run([sys.executable, "-c", CLOSES_SLOWLY, bench], text=True, check=True,
+                               stdout=subprocess.PIPE, timeout=LATE).stdout
+        self.assertEqual(found, "[]\n")
 
 
 if __name__ == "__main__":

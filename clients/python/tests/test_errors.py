@@ -155,6 +155,12 @@ class TestRefusals(ProgramTest):
             with self.assertRaisesRegex(TypeError,
                                         "add: a policy must be vx.WRAP or vx.SATURATE, not"):
                 self.context.vxu.add(image, image, wrong, deep)
+        with self.assertRaisesRegex(ValueError, "box3x3: a border's value must be a whole number "
+                                                "from 0 to 255, not 300"):
+            self.context.vxu.box3x3(image, image, vx.Border(1, 300))
+        with self.assertRaisesRegex(ValueError, "box3x3: a border's mode must be that of "
+                                                "vx.UNDEFINED, .* not 256"):
+            self.context.vxu.box3x3(image, image, vx.Border(256))
         for wrong in (2, None, "REPLICATE", (2, 0), vx.constant):
             with self.assertRaisesRegex(TypeError,
                                         r"box3x3: a border must be vx.UNDEFINED, "
@@ -283,6 +289,9 @@ class TestEnds(unittest.TestCase):
             vx.Server("/no/such/program")
         self.assertEqual((no.exception.errno, no.exception.filename),
                          (errno.ENOENT, "/no/such/program"))
+        for wrong in (5, [], b"/no/such/program"):
+            with self.assertRaisesRegex(TypeError, "a program must be a path, or the words of"):
+                vx.Server(wrong)
         nobody = "no server listens at this path: start a door or a broker, .*: '"
         self.assertRaisesRegex(FileNotFoundError, f"{nobody}/no/such/socket", vx.connect,
                                "/no/such/socket")

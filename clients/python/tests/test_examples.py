@@ -138,6 +138,12 @@ class Examples(unittest.TestCase):
         said = self.run_example("flanges.py", self.folder, "64", "36")
         self.assertIn("scratched are 2, 4, 6, 9, 11", said)
         self.assertEqual(len(os.listdir(os.path.join(self.folder, "parts"))), 12)
+        for words in (["640"], ["a", "b"], ["0", "36"], ["-5", "7"]):
+            run = subprocess.run([sys.executable, os.path.join(EXAMPLES, "flanges.py"), self.folder,
+                                  *words], stderr=subprocess.PIPE, text=True,
+                                 env={**os.environ, "PYTHONPATH": os.path.join(HERE, "..")})
+            self.assertEqual(run.returncode, 1)
+            self.assertRegex(run.stderr, "give WIDTH and HEIGHT in pixels, not [^\n]*\n$")
 
     @of_a_process
     def test_a_robot(self):

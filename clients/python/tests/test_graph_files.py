@@ -6,6 +6,7 @@ import json
 import os
 import pickle
 import random
+import signal
 import subprocess
 import sys
 import tempfile
@@ -207,7 +208,11 @@ class TestFiles(FolderTest, ProgramTest):
         for objects, nodes, words in (
                 ({"a": {**image, "format": "U9"}}, [], 'object "a": a format must be one of U8, '
                                                        "S16, U32, not 'U9'"),
+                ({"a": {**image, "format": []}}, [], 'object "a": a format must be one of U8, '
+                                                     r"S16, U32, not \[\]"),
                 ({"a": {"kind": "image", "format": "U8"}}, [], "object \"a\": 'width' is missing"),
+                ({"a": {"kind": "image", "file": 5}}, [],
+                 'object "a": "file" must be a path, not 5'),
                 ({"a": {**image, "width": 9000}}, [], 'object "a": create a U8 image of 9000 by 1'),
                 ({"a": {**image, "valid": [0, 0, 3, 1]}}, [], 'object "a": make .* the valid rect'),
                 ({"a": {**image, "valid": 3}}, [], r'object "a": .* must be \(x0, .*, not 3'),
@@ -497,6 +502,14 @@ class TestDrawings(ProgramTest):
             self.assertEqual(cycle._repr_svg_().count("<rect"), 4)
             self.assertIn("<svg", self.context.graph()._repr_svg_())
 
+    def test_names_with_characters_that_xml_lacks(self):
+        graph = self.context.graph()
+        graph.not_(self.context.image(vx.U8, 2, 1, name="a\x01\ud800z"), graph.virtual_image())
+        self.assertIn("a\ufffd\ufffdz", graph.to_dot())
+        with mock.patch("shutil.which", return_value=None):
+            drawn = xml.etree.ElementTree.fromstring(graph._repr_svg_())
+        self.assertIn("a\ufffd\ufffdz", "".join(drawn.itertext()))
+
 
 class TestDrawingsOfFiles(FolderTest):
     """Without a server."""
@@ -538,6 +551,8 @@ class TestProfiles(ProgramTest):
                    if hasattr(operand, "read") and not operand._is_virtual]
         before = [values_of([(None, [thing.read()])]) for thing in objects]
         usage = self.context.usage()
+        self.assertRaisesRegex(TypeError, "the number of rounds of a profile must be a whole",
+                               graph.profile, "2")
         profile = graph.profile(rounds=2)
         self.assertEqual(sorted(one.node.number for one in profile), [*range(1, 12)])
         self.assertTrue(all(one.seconds > 0 for one in profile))
@@ -579,6 +594,18 @@ class TestHelpers(FolderTest, ProgramTest):
             self.holds(self.context.load(self.path("deep.npy")), [[-1, 300]])
         self.assertRaisesRegex(FileNotFoundError, "none.png", self.context.load,
                                self.path("none.png"))
+
+    @unittest.skipUnless(numpy and importlib.util.find_spec("cv2"), "OpenCV isn't installed")
+    def test_a_format_of_two_values(self):
+        """OpenCV writes any picture to a bitmap."""
+        self.context.image_from([[0, 255]]).save(self.path("mask.pbm"))
+        self.holds(self.context.load(self.path("mask.pbm")), [[0, 255]])
+        grey = self.context.image_from([[0, 100, 255]])
+        with self.assertRaisesRegex(ValueError, "grey.pbm: .pbm can't hold the uint8 samples of "
+                                    "this picture: save it as .png$"):
+            grey.save(self.path("grey.pbm"))
+        grey.save(self.path("grey.jpg"))
+        self.assertEqual({*os.listdir(self.folder)}, {"mask.pbm", "grey.jpg"})
 
     @unittest.skipUnless(numpy and importlib.util.find_spec("cv2")
                          and importlib.util.find_spec("PIL"), "OpenCV or PIL isn't installed")
@@ -645,7 +672,10 @@ class TestHelpers(FolderTest, ProgramTest):
             self.assertRaisesRegex(ImportError, "neither is installed", vx.regions, marks)
         for mask in (pixels > 0, pixels.astype("float32"), pixels.tolist(), pixels[..., None]):
             self.assertEqual(len(vx.regions(mask)), 3)
+        for least, kind in ((0, ValueError), (1.5, TypeError), (None, TypeError)):
+            self.assertRaisesRegex(kind, "least", vx.regions, marks, least)
         for wrong, words in (
+                (numpy.ma.masked_less(pixels, 9), "some of these samples are masked"),
                 ("marks.png", "this is 'marks.png': context.load"), (None, "None is no picture"),
                 (numpy.zeros((4, 5, 3), "uint8"), r"\(4, 5, 3\): make a grey one of it"),
                 (numpy.zeros((0, 5), "uint8"), r"not \(0, 5\)"), (pixels[0], r"not \(30,\)"),
@@ -655,6 +685,14 @@ class TestHelpers(FolderTest, ProgramTest):
                 vx.regions(wrong)
         with self.assertRaisesRegex(vx.OptimizedAway, "virtual image"):
             vx.regions(self.context.graph().virtual_image(vx.U8))
+
+    @unittest.skipUnless(numpy and importlib.util.find_spec("PIL"), "PIL isn't installed")
+    def test_regions_of_a_palette(self):
+        """In this picture of PIL, 0 is the number of white."""
+        import PIL.Image
+        marks = PIL.Image.new("P", (2, 1))
+        marks.putpalette([255, 255, 255, 0, 0, 0])
+        self.assertRaisesRegex(vx.BadPicture, "with a palette", vx.regions, marks)
 
 
 @needs_program
@@ -716,6 +754,11 @@ class TestCommandLine(FolderTest):
                                    "--skip", "--out", "marks", status=3)
         self.assertIn("2 of 2 pictures were skipped", said)
 
+    def test_patterns_in_two_options(self):
+        words = "run", "station.json", "--in", "part1.pgm"
+        self.assertEqual(self.run_command(*words, "part2.pgm"),
+                         self.run_command(*words, "--in", "part2.pgm"))
+
     def test_standard_output(self):
         words = "run", "station.json", "--in", "part1.pgm"
         plain, _ = self.run_command(*words)
@@ -729,10 +772,14 @@ class TestCommandLine(FolderTest):
                                    "> found.csv\n")
         self.run_command(*words, "--out", "marks", before=">&- ")
         self.run_command("run", "none.json", "--in", "part1.pgm", status=1, before="2>&- ")
+        # Its reader has ended, before the words of argparse or ours come.
+        for command in (("--help",), ("run", "--help"), words):
+            _, said = self.run_command(*command, status=1, before="exec > >(exec true); sleep 1; ")
+            self.assertEqual(said, "")
 
     def test_full_disks(self):
         words = "run", "station.json", "--in", "part*.pgm"
-        for command in (words, ("draw", "station.json")):
+        for command in (words, ("draw", "station.json"), ("--help",)):
             with open("/dev/full", "w") as full:
                 _, said = self.run_command(*command, status=1, stdout=full)
             self.assertEqual(said, "feqyldan: [Errno 28] No space left on device: 'standard output'"
@@ -746,6 +793,20 @@ class TestCommandLine(FolderTest):
                                    status=1, before="ulimit -f 1; ")
         self.assertEqual(said, "feqyldan: [Errno 27] File too large: 'marks/noise.png'\n")
         self.assertEqual(os.listdir(self.path("marks")), [])
+
+    def test_a_signal_leaves_no_file(self):
+        """It comes when a picture is on its way to the disk."""
+        self.copying(8, 6)
+        for number in (signal.SIGTERM, signal.SIGHUP):
+            # nohup has programs ignore SIGHUP.
+            code = (f"import os, signal, sys; signal.signal({number}, signal.SIG_DFL); "
+                    f"os.fsync = lambda _: os.kill(os.getpid(), {number}); "
+                    "from feqyldan.__main__ import main; sys.exit(main(sys.argv[1:]))")
+            run = subprocess.run([sys.executable, "-c", code, "run", "copy.json", "--in",
+                                  "part1.pgm", "--out", "marks"], cwd=self.folder, timeout=90,
+                                 env={**os.environ, "PYTHONPATH": PACKAGE, **VARIABLES})
+            self.assertEqual(run.returncode, 128 + number)
+            self.assertEqual(os.listdir(self.path("marks")), [])
 
     def copying(self, width, height):
         """Writes a graph that copies its input to a file."""
@@ -810,6 +871,9 @@ class TestCommandLine(FolderTest):
             self.assertIn(fault, said)
             self.assertEqual(len(said.splitlines()), 1, said)
         self.run_command("walk", status=2)
+        for least in ("0", "-1", "x"):
+            self.run_command("run", "station.json", "--in", "part1.pgm", "--regions", least,
+                             status=2)
 
     def plain(self, *outputs):
         """Writes a graph with these outputs to a file, and twelve pictures of two samples, also as
@@ -842,6 +906,9 @@ class TestCommandLine(FolderTest):
                 _, said = self.run_command("run", "plain.json", "--in", "a/*.png", *words, status=1)
                 self.assertRegex(said, "would overwrite .*, which is read: name another")
         self.assertEqual(self.contents("a"), before)
+        _, said = self.run_command("run", "plain.json", "--in", "b/f1.pgm", "--out", "c", "--csv",
+                                   "c/f1.png", status=1)
+        self.assertRegex(said, "--csv c/f1.png would be overwritten by the image of b/f1.pgm")
         # Of other names they may be where the pictures are.
         self.run_command("run", "plain.json", "--in", "b/f1.pgm", "--out", "b", "--csv", "b/b.csv")
         self.assertTrue(os.path.exists(self.path("b/b.csv")))
@@ -862,6 +929,17 @@ class TestCommandLine(FolderTest):
         _, said = self.run_command(*words, "--out", "marks", status=1)
         self.assertIn('plain.json: the name "../evil" has a "/"', said)
         self.run_command(*words)
+
+    def test_outputs_that_are_in_no_file_name(self):
+        self.plain("marks", "a\0b", "\ud800")
+        words = "run", "plain.json", "--in", "a/f1.pgm", "--out", "marks"
+        self.assertIn(r'the name "a\u0000b" has a "\u0000"', self.run_command(*words, status=1)[1])
+        contents = json.loads(read_bytes(self.path("plain.json")))
+        del contents["objects"]["a\0b"]
+        contents["nodes"] = [node for node in contents["nodes"] if "a\0b" not in node.values()]
+        self.put("plain.json", vx.graph_text(contents))
+        self.assertIn(r'the name "\ud800" has a character that a file name',
+                      self.run_command(*words, status=1)[1])
 
     def test_natural_order(self):
         """Folders aren't pictures; the folder of the CSV file is created."""

@@ -389,7 +389,16 @@ class StatusSockets(Hostile):
             found = os.stat(broker.status_path)
             self.assertEqual((found.st_mode & 0o777, found.st_gid), (0o660, group))
             self.assertEqual(os.stat(broker.path).st_mode & 0o777, 0o600)
-            self.assertEqual(self.begin_any("--status-group", "no-such-group").status(), 2)
+            for wrong in ("no-such-group", str(2**32 - 1), str(10**11)):
+                self.assertEqual(self.begin_any("--status-group", wrong).status(), 2)
+
+    def test_it_has_a_path_of_its_own(self) -> None:
+        for self.kind in (Door, Broker):
+            with tempfile.TemporaryDirectory() as folder:
+                path = os.path.join(folder, "one")
+                broker = self.begin_any("--status", path, path=path)
+                self.assertEqual(broker.status(), 2)
+                self.assertTrue(broker.says(f"--socket and --status are both {path}: give two"))
 
     @needs_root
     def test_a_flood_leaves_an_operator_an_answer(self) -> None:

@@ -128,6 +128,53 @@ class TestAtRandom(unittest.TestCase):
                         self.assertEqual(out[0, 0], 255 - frame[0])
                 loop.one(loop.pictures[times % 3])
 
+    def test_a_handler_that_makes_calls(self):
+        """They are answered, or refused if they interrupt another call, which goes on."""
+        found, until = set(), time.monotonic() + 30
+        with vx.Server(SERVED) as server, server.context() as context, server.context() as other:
+            loop, small = Loop(context, 300, 200, False), other.image_from([[3]])
+
+            def work(*_):
+                try:
+                    found.add(small.read()[0, 0])
+                except vx.NestedCall:
+                    found.add("nested")
+
+            before = signal.signal(signal.SIGALRM, work)
+            signal.setitimer(signal.ITIMER_REAL, 0.01, 0.01)
+            try:
+                while found != {3, "nested"} and time.monotonic() < until:
+                    loop.one(loop.pictures[0])
+            finally:
+                signal.setitimer(signal.ITIMER_REAL, 0)
+                signal.signal(signal.SIGALRM, before)
+            self.assertEqual(found, {3, "nested"})
+
+    def test_a_handler_that_closes_the_server(self):
+        """It is closed, or goes on if the handler interrupts a call."""
+        chance, found = random.Random(4), []
+        for _ in range(20):
+            server = vx.Server(SERVED)
+            loop = Loop(server.context(), 300, 200, False)
+
+            def close(*_, server=server):
+                try:
+                    server.close()
+                except vx.NestedCall:
+                    found.append(server)
+
+            before = signal.signal(signal.SIGALRM, close)
+            signal.setitimer(signal.ITIMER_REAL, chance.uniform(1e-6, LATEST))
+            try:
+                while server not in found:
+                    loop.one(loop.pictures[0])
+                loop.one(loop.pictures[1])
+                server.close()
+            except vx.Closed:
+                self.assertNotIn(server, found)
+            finally:
+                signal.signal(signal.SIGALRM, before)
+
 
 class Everywhere:
     """Raises KeyboardInterrupt before the n-th line that runs in the package's connections, or

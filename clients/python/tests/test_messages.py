@@ -55,8 +55,9 @@ class TestPictures(ProgramTest):
             self.says(zeros.astype(dtype), f"uint8, int16 or uint32, not {dtype}: .*{words}",
                       TypeError)
         self.says(numpy.zeros((3, 4, 3), numpy.uint8), r"\(3, 4, 3\): make a grey one", ValueError)
-        self.says(zeros[9:], r"\(0, 4\): it is empty, as a slice outside of an array is",
-                  vx.WrongPicture)
+        for empty in (zeros[9:], memoryview(zeros[9:])):
+            self.says(empty, r"\(0, 4\): it is empty, as a slice outside of an array is",
+                      vx.WrongPicture)
         self.says(zeros[None], r"\(1, 3, 4\): that is a batch of one picture, which is array\[0\]",
                   ValueError)
         self.says(numpy.ma.masked_less(zeros, 1), "a picture has no mask", ValueError)

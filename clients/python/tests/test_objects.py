@@ -2,6 +2,7 @@
 
 import array
 import gc
+import sys
 import threading
 import unittest
 from unittest import mock
@@ -95,6 +96,14 @@ class TestSamples(ProgramTest):
             self.test_what_is_read_is_the_callers_own()
             image = self.context.image(U8, 3, 2)
             self.assertIsInstance(image.read(), memoryview)
+
+    def test_numpy_that_must_not_be_imported(self):
+        """None stands for such a module. It is no NumPy that memory could be lent by."""
+        entries, rows = range(-32768, 32768), [[7] * 512] * 512
+        with mock.patch.dict(sys.modules, {"numpy": None}):
+            for _ in range(2):
+                self.context.lut(S16, entries)
+                self.assertEqual(self.context.image_from(rows).read().tolist(), rows)
 
     @needs_numpy
     def test_arrays_come_back(self):
@@ -232,6 +241,17 @@ class TestReleases(ProgramTest):
         self.assertTrue(other.closed)
         self.context.image(U8, 10, 10)
         self.assertRaises(vx.InvalidReference, image.read)
+
+    def test_a_close_that_is_interrupted(self):
+        """The object isn't lost: it counts until Python frees it, and is then released."""
+        image = self.context.image(U8, 10, 10)
+        with mock.patch.object(vx.Context, "_tell", side_effect=KeyboardInterrupt):
+            self.assertRaises(KeyboardInterrupt, image.close)
+        self.assertEqual(self.context.usage().objects, 1)
+        self.assertRaises(vx.NoResources, self.context.image, U8, 1, 1)
+        del image
+        gc.collect()
+        self.context.image(U8, 10, 10)
 
     def test_what_python_forgets(self):
         for _ in range(3):

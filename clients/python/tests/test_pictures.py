@@ -3,6 +3,7 @@
 import contextlib
 import importlib
 import importlib.util
+import io
 import os
 import resource
 import stat
@@ -114,6 +115,22 @@ class TestPng(unittest.TestCase):
                                  ("L", (3, 2), sum(ROWS, [])))
 
 
+class TestTexts(ProgramTest):
+    def test_what_is_no_text(self):
+        image = self.context.image(vx.U8, 1, 1)
+        for wrong in ("P2 1 1 255 3", None, [1], io.BytesIO(b"P2 1 1 255 3"),
+                      memoryview(b"P2 1 1 255 3")[::2]):
+            for call in (image.write_pgm, self.context.image_from_pgm):
+                self.assertRaisesRegex(vx.NotAPicture, "a PGM text must be bytes, not", call, wrong)
+
+    def test_advice_for_wide_samples(self):
+        for fmt, instead in ((vx.S16, "save it as .npy, or convert_depth it to U8$"),
+                             (vx.U32, "save it as .npy$")):
+            with tempfile.TemporaryDirectory() as folder:
+                self.assertRaisesRegex(ValueError, instead, self.context.image(fmt, 1, 1).save,
+                                       os.path.join(folder, "a.pgm"))
+
+
 class TestFiles(ProgramTest):
     def setUp(self):
         super().setUp()
@@ -191,7 +208,9 @@ class TestFiles(ProgramTest):
         self.holds(self.context.load(self.path, scale=True), [[255, 0]])
         for text, words in ((b"P2 2 1 255 7 x", "numbers after its header"),
                             (b"P2 2 1 255 7 8 9", "numbers after its header"),
-                            (b"P2 2 1 255 7 999999999", "a sample of 999999, above its maxval")):
+                            (b"P2 2 1 255 7 999999999", "a sample of 999999, above its maxval"),
+                            (b"P2 1 1 65536 65536", "its maxval is 65536, .* is at most 65535"),
+                            (b"P5 1 1 65536 \0\1", "its maxval is 65536, .* is at most 65535")):
             self.write(text)
             with self.assertRaisesRegex(vx.WrongPicture, f"picture: .*{words}"):
                 files.load(self.path)
@@ -204,6 +223,13 @@ class TestFiles(ProgramTest):
             self.write(text)
             self.assertRaises(kind, self.context.read_pgm, self.path)
         self.assertRaises(FileNotFoundError, self.context.read_pgm, self.path + "s")
+
+    def test_a_closed_context(self):
+        self.write(b"P5 1 1 255 a")
+        self.context.close()
+        for load in (self.context.load, self.context.read_pgm):
+            with self.assertRaisesRegex(vx.Closed, "picture: .*: the context was closed"):
+                load(self.path)
 
     def test_pgm_files_are_written(self):
         image = self.context.image_from(ROWS)
@@ -399,8 +425,8 @@ class TestOtherFiles(ProgramTest):
                              (True, "a.npy: scale=True takes unsigned samples")):
             with self.assertRaisesRegex(vx.BadPicture, words):
                 self.context.load(os.path.join(self.folder, "a.npy"), scale)
-        for content in (b"\x93NUMPY\1\0", files.read_bytes(os.path.join(
-                self.folder, "a.npy"))[:-3]):
+        whole = files.read_bytes(os.path.join(self.folder, "a.npy"))
+        for content in b"\x93NUMPY\1\0", whole[:-3], whole.replace(b"(1, 1)", b"(1, 1,"):
             with self.assertRaisesRegex(vx.BadPicture, "b.npy: this isn't a whole .npy file"):
                 self.context.load(self.put("b.npy", content))
 
@@ -417,6 +443,29 @@ class TestOtherFiles(ProgramTest):
             self.context.image_from(palette)
         self.holds(self.context.image_from(palette.convert("L")), [[10, 200, 90]])
         self.holds(self.context.image_from(numpy.asarray(palette)), [[0, 1, 2]])
+
+    def test_sun_rasters(self):
+        """OpenCV returns zeros for one without a map of colours."""
+        path = self.put("a.ras", struct.pack(">8I", 0x59a66a95, 2, 1, 8, 2, 1, 0, 0) + b"\x09\xc8")
+        for missing in self.readers():
+            if missing == "cv2":
+                self.holds(self.context.load(path), [[9, 200]])
+            else:
+                self.assertRaisesRegex(vx.BadPicture, "a Sun raster, which takes PIL",
+                                       self.context.load, path)
+
+    def test_jpeg_2000(self):
+        """OpenCV writes other samples than it got."""
+        path = os.path.join(self.folder, "noise.jp2")
+        noise = self.context.image_from(numpy.frombuffer(os.urandom(64 * 64), "uint8").reshape(
+            64, 64))
+        try:
+            noise.save(path)
+        except ValueError as error:
+            self.assertIn("noise.jp2", str(error))
+            self.assertFalse(os.path.exists(path))
+        else:
+            self.holds(self.context.load(path), noise.read().tolist())
 
 
 if __name__ == "__main__":

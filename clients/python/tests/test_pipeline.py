@@ -122,6 +122,41 @@ class TestPipelines(ProgramTest):
         image.write([[4, 5, 6]])
         self.holds(image, [[4, 5, 6]])
 
+    def test_what_it_cant_read(self):
+        image, graph = self.context.image(vx.U8, 2, 1), self.context.graph()
+        with self.context.pipeline() as ahead:
+            for call, wrong in ((ahead.read, graph), (ahead.read, self.context.delay(image, 2)),
+                                (ahead.read_pgm, None), (ahead.query, [image])):
+                self.assertRaisesRegex(TypeError, "this call of a pipeline takes .*, not", call,
+                                       wrong)
+
+    def test_one_that_an_interruption_left_open(self):
+        """The next one says so and closes it."""
+        image, ahead = self.context.image(vx.U8, 2, 1), self.context.pipeline()
+        ahead.__enter__()
+        with self.assertRaisesRegex(ValueError, "has an open pipeline, which is closed now, since"):
+            self.context.pipeline().__enter__()
+        with self.context.pipeline() as second:
+            image.write([[1, 2]])
+            result = second.read(image)
+        self.assertEqual(result.value().tolist(), [[1, 2]])
+
+    def test_refusals_in_one_that_an_interruption_left_open(self):
+        """They aren't lost: the next call, or the next pipeline, raises the first one."""
+        image, graph = self.context.image(vx.U8, 2, 1), self.context.graph()
+        for _ in range(2):
+            graph.not_(self.context.image(vx.U8, 2, 1), image)
+        for is_there, call in ((True, self.context.pipeline().__enter__), (False, image.read),
+                               (False, lambda: image.write([[1, 2]]))):
+            ahead = self.context.pipeline()
+            ahead.__enter__()
+            graph.process()
+            if not is_there:
+                del ahead
+            self.assertRaises(vx.MultipleWriters, call)
+            image.write([[3, 4]])
+            self.holds(image, [[3, 4]])
+
     def test_threads(self):
         """Threads, each with a context of its own, on one server."""
         faults = []

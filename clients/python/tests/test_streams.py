@@ -174,6 +174,11 @@ class TestRefusedFrames(StationTest):
             self.assertEqual(self.sums.read()[0, 0], 1)
             self.sums.fill(0)
 
+    def test_a_graph_that_is_closed_before(self):
+        self.graph.close()
+        with self.assertRaisesRegex(vx.Closed, "run the stream: .* It uses closed graph"):
+            next(self.graph.stream([self.picture(1)], self.part, self.out))
+
     def test_a_refusal_that_the_package_cant_foresee(self):
         """Frames that were sent ahead have run."""
         made = [wire.reply_frame(0, op, 0, bytes([0, 0, 0, number])) for op, number in (
@@ -223,6 +228,11 @@ class TestPolling(StationTest):
             found = context.min_max()
             with context.pipeline() as ahead:
                 result = ahead.read(found)
+                self.assertRaisesRegex(TypeError, "a timeout must be a number of .*, not '5'",
+                                       result.value, "5")
+                for wrong in (-1, float("nan")):
+                    self.assertRaisesRegex(ValueError, "a timeout must be at least 0 seconds",
+                                           result.value, wrong)
                 with self.assertRaisesRegex(vx.NotYet, "read extremes 1: no reply in 0.01 seconds"):
                     result.value(timeout=0.01)
                 self.assertIsInstance(vx.NotYet("x"), TimeoutError)
@@ -371,6 +381,11 @@ class TestStreams(StationTest):
             shades.append(out[3, 3])
             seen.release()
         self.assertEqual(shades, [*range(9)])
+        # A frame of a wrong size that begins where the frame before it does.
+        stream, seen = self.graph.stream(iter([buffer, buffer[:3]]), self.part, self.out), []
+        with self.assertRaises(vx.WrongPictureSize):
+            seen.extend(frame for frame, _ in stream)
+        self.assertEqual(len(seen), 1)
         # Arrays of their own, and one that stays as it is.
         for frames in ((frame.copy() for frame in camera(9)), itertools.repeat(buffer, 9)):
             self.assertEqual(len([*self.graph.stream(frames, self.part, self.out)]), 9)
@@ -478,6 +493,9 @@ class TestStreams(StationTest):
                      lambda: vx.stream([], []),
                      lambda: [*self.graph.stream([], self.part, [])]):
             self.assertRaises(ValueError, call)
+        for ahead in (1.5, None, "2"):
+            self.assertRaisesRegex(TypeError, "ahead, .* must be a whole number", self.graph.stream,
+                                   [], self.part, self.out, ahead)
         self.assertRaisesRegex(TypeError, "a list of them, not int", self.graph.stream, [],
                                self.part, 5)
         for wrong in (None, "out", self.context.delay(self.part, 2), [self.out, None]):
@@ -488,6 +506,9 @@ class TestStreams(StationTest):
         for frames in (7, None, "film.mp4", pathlib.Path("film.mp4")):
             with self.assertRaisesRegex(TypeError, "must be pictures in a list, .*, not .*(7|N|f)"):
                 self.graph.stream(frames, self.part, self.out)
+        # Without NumPy, read() returns one.
+        with self.assertRaisesRegex(TypeError, r"a memoryview of shape \(4, 6\)"):
+            self.graph.stream(memoryview(bytes(24)).cast("B", (4, 6)), self.part, self.out)
         with self.server.context() as other:
             with self.assertRaises(vx.InvalidScope):
                 next(self.graph.stream([[[1]]], other.image(vx.U8, 1, 1), self.out))
@@ -522,6 +543,55 @@ with vx.Server() as server, server.context() as context:
     if HOW == "close":
         stream.close()
 """
+
+
+FORKED = """
+import os
+from feqyldan.sources import Threaded
+
+source = Threaded(iter([[[1]]]), [])
+with source._lock:
+    child = os.fork()
+    if child == 0:
+        source.close()
+        os._exit(0)
+print(os.waitpid(child, 0)[1])
+source.close()
+"""
+
+
+# A child goes on with a stream of its parent.
+FORKED_WITHIN = """
+import os
+import feqyldan as vx
+
+with vx.Server() as server, server.context() as context:
+    part, out, graph = context.image(vx.U8, 2, 1), context.image(vx.U8, 2, 1), context.graph()
+    graph.not_(part, out)
+    for frames in ([[[1, 2]]] * 9, iter([[[1, 2]]] * 9)):
+        stream = graph.stream(frames, part, out)
+        next(stream)
+        child = os.fork()
+        if child == 0:
+            try:
+                print("went on to the end of", len([*stream]), flush=True)
+            except vx.Closed:
+                print("closed", flush=True)
+            os._exit(0)
+        os.waitpid(child, 0)
+        print(len([*stream]), flush=True)
+"""
+
+
+class TestForks(ProcessTest):
+    def test_while_the_thread_of_an_iterator_holds_a_lock(self):
+        said = self.start(FORKED).communicate(timeout=PATIENCE)[0]
+        self.assertEqual(said, "0\n")
+
+    @needs_program
+    def test_in_the_middle_of_a_stream(self):
+        said = self.start(FORKED_WITHIN).communicate(timeout=PATIENCE)[0]
+        self.assertEqual(said, "closed\n8\n" * 2)
 
 
 @needs_program

@@ -82,6 +82,23 @@ class TestWords(ProgramTest):
                   " Virtual image 4 (open) is S16, 3 by 1, because node 2, add, writes it and its "
                   "format is open; graph.virtual_image(vx.U8) has one.")
 
+    def test_sizes_that_were_open(self):
+        """A format that was open has nothing to do with it."""
+        between, wide = self.graph.virtual_image(), self.context.image(S16, 4, 1)
+        self.graph.add(self.source, self.source, vx.WRAP, between)
+        self.graph.absdiff(between, wide, self.graph.virtual_image())
+        self.says(vx.InvalidDimension,
+                  "Node 2, absdiff(virtual image 4 (open), image 5 (S16, 4 by 1), virtual image 6 "
+                  "(open)), has images of different sizes. Virtual image 4 (open) is S16, 3 by 1, "
+                  "because node 1, add, writes it. Virtual image 6 (open) is S16, 3 by 1, because "
+                  "node 2, absdiff, writes it.")
+
+    def test_a_size_that_was_declared(self):
+        self.graph.not_(self.source, self.graph.virtual_image(None, 4, 1))
+        self.says(vx.InvalidDimension,
+                  "Node 1, not_(image 1 (U8, 3 by 1), virtual image 4 (open, 4 by 1)), has images "
+                  "of different sizes.")
+
     def test_sizes(self):
         wide = self.context.image(U8, 4, 1)
         self.graph.not_(self.source, self.target)
@@ -163,7 +180,7 @@ class TestWords(ProgramTest):
     @of_a_process
     def test_after_an_interruption(self):
         """The reply to the interrupted call comes later, and has the number of the node."""
-        with mock.patch.object(type(self.context._connection), "wait",
+        with mock.patch.object(type(self.context._connection), "_wait",
                                side_effect=KeyboardInterrupt):
             self.assertRaises(KeyboardInterrupt, self.graph.not_, self.source, self.source)
         self.assertRaises(vx.InvalidGraph, self.graph.verify)

@@ -63,8 +63,16 @@ class TestWholeNumbers(ProgramTest):
             image, out = self.context.image_from([[1, 2]]), self.context.image(U8, 2, 1)
             self.context.vxu.table_lookup(image, self.context.lut(U8, shaped), out)
             self.holds(out, [[254, 253]])
+        shaped = memoryview(bytes(range(255, -1, -1))).cast("B", (16, 16))
+        image, out = self.context.image_from([[1, 2]]), self.context.image(U8, 2, 1)
+        self.context.vxu.table_lookup(image, self.context.lut(U8, shaped), out)
+        self.holds(out, [[254, 253]])
+        kernel = self.context.convolution(memoryview(bytes(range(9))).cast("B", (3, 3)))
+        self.assertEqual(kernel.coefficients, ((0, 1, 2), (3, 4, 5), (6, 7, 8)))
         with self.assertRaisesRegex(ValueError, "needs 256 entries, .*, not 3"):
             self.context.lut(U8, [1, 2, 3])
+        with self.assertRaisesRegex(TypeError, "entries of a lookup table must be .*, not None"):
+            self.context.lut(U8, None)
 
     def test_limits_and_values(self):
         for wanted in ({"above": 0}, {"between": (0, 9)}):

@@ -14,6 +14,7 @@ from ..service import options
 from ..service.lines import Unusable
 from ..service.machine import open_standard_files, processors, raise_file_limit
 from ..service.options import memory_from, number_from, part_of_memory, seconds_from
+from ..service.signals import held
 from .connection import Limits
 from .incoming import AHEAD
 from .loop import Broker
@@ -129,24 +130,20 @@ def told_by(words: Optional[List[str]]) -> Limits:
     return told
 
 
-def found_library() -> str:
-    """Returns the path of the library, which vx.Server() finds too. Raises Unusable if there is
-    none."""
-    path = core.find()
-    if path is None:
-        raise Unusable("the server's library wasn't found: FEQYLDAN_CORE isn't set, and neither "
-                       "the package nor a checkout has libfeqyldan-core.so for this processor; "
-                       "install the wheel with the server, or set FEQYLDAN_CORE")
-    return path
-
-
 def main(words: Optional[List[str]] = None) -> int:
     """Runs the broker until it ends, and returns its exit status."""
     open_standard_files()
     told = told_by(words)
     use_one_heap()
+    # A signal that comes as soon as programs can connect doesn't leave the sockets behind.
+    with held():
+        return run(told)
+
+
+def run(told: Limits) -> int:
+    """Runs the broker, and returns its exit status."""
     try:
-        path = found_library()
+        path = core.require(f"set {core.VARIABLE}")
         raise_file_limit(f"{told.connections} connections", told.connections)
         kept = kept_for_python(told.connections)
         libraries = [Library(path, told.quota, told.work)

@@ -7,8 +7,8 @@ from typing import TYPE_CHECKING, Any, List, Optional, Set
 from ..service.admission import Owner
 from ..service.descriptors import Descriptors
 from ..service.events import READ, WRITE
-from .incoming import AHEAD, CHUNK, Frames, Incoming, Total
-from .memory import PAGES
+from .incoming import AHEAD, CHUNK, Incoming, Total
+from .memory import PAGES, Memory
 
 if TYPE_CHECKING:
     from .server import Server
@@ -19,16 +19,17 @@ Limits = argparse.Namespace
 
 
 class Turn:
-    """The requests of one connection that its server works on, or without frames the release of the
-    connection's contexts; and what comes of them: the replies and their number, the codes of the
-    refusals, the seconds, and the fault if there was one."""
+    """The requests of one connection that its server works on, see incoming.Requests, or without
+    any the release of the connection's contexts; and what comes of them: the replies and their
+    number, the codes of the refusals, the seconds, and the fault if there was one."""
 
-    __slots__ = ("connection", "frames", "size", "began", "replies", "count", "refusals", "seconds",
-                 "fault")
+    __slots__ = ("connection", "began", "front", "memory", "is_quick", "replies", "count",
+                 "refusals", "seconds", "fault")
 
-    def __init__(self, connection: "Connection", frames: Optional[Frames], now: float) -> None:
-        self.connection, self.frames, self.began = connection, frames, now
-        self.size = 0 if frames is None else len(frames.front) + len(frames.rest)
+    def __init__(self, connection: "Connection", began: float, front: bytes = b"",
+                 memory: Optional[Memory] = None, is_quick: bool = False) -> None:
+        self.connection, self.began = connection, began
+        self.front, self.memory, self.is_quick = front, memory, is_quick
         self.replies, self.count, self.seconds = memoryview(b""), 0, 0.0
         self.refusals: List[int] = []
         self.fault: Optional[Exception] = None
@@ -77,17 +78,19 @@ class Connection:
     def wanted(self) -> int:
         """Returns the events to watch for. The connection isn't read while the server has a long
         frame of it, so that it never has two."""
-        is_held_up = self.turn is not None and self.turn.size > AHEAD
+        is_held_up = self.turn is not None and self.turn.memory is not None
         reads = self.reads and not is_held_up and self.incoming.has_room
         return (READ if reads else 0) | (WRITE if self.outgoing else 0)
 
     def next_turn(self, turn_bytes: int, now: float) -> Turn:
         """Returns the next requests. After the connection's end that is the release of its
         contexts."""
-        return Turn(self, None if self.is_leaving else self.incoming.take(turn_bytes), now)
+        if self.is_leaving:
+            return Turn(self, now)
+        return Turn(self, now, *self.incoming.take(turn_bytes))
 
     def may_ask(self) -> bool:
-        return self.turn is None and self.incoming.is_whole and self.left <= AHEAD
+        return self.incoming.is_whole and self.turn is None and self.left <= AHEAD
 
     def has_finished(self) -> bool:
         """Returns whether the connection sends no more, and has all of its replies."""

@@ -2,7 +2,7 @@
 
 import socket
 import struct
-from typing import NamedTuple, Optional
+from typing import Optional, Tuple
 
 from .. import wire
 from ..service.descriptors import Descriptors
@@ -19,27 +19,23 @@ CHUNK = 262_144
 TURN_BYTES, SHARED_TURN_BYTES = 512, 256
 # The requests whose time grows with their frames, and whose replies are short. Any other one may
 # take long, and its reply may be long.
-QUICK = frozenset((
+QUICK = frozenset(map(int, (
     wire.OPEN_CONTEXT, wire.QUERY_IMAGE, wire.WRITE_IMAGE, wire.CREATE_LUT, wire.CREATE_THRESHOLD,
     wire.CREATE_CONVOLUTION, wire.CREATE_DISTRIBUTION, wire.CREATE_MIN_MAX, wire.READ_MIN_MAX,
     wire.CREATE_GRAPH, wire.CREATE_VIRTUAL_IMAGE, wire.ADD_NODE, wire.REMOVE_NODE, wire.AGE_DELAY,
-    wire.REGISTER_AUTO_AGING))
+    wire.REGISTER_AUTO_AGING)))
 # The same where a connection has asked for at most FEW_SAMPLES samples in all: then no function
 # takes more than some microseconds.
-QUICK_ON_FEW, FEW_SAMPLES = QUICK | {wire.IMMEDIATE}, 1024
+QUICK_ON_FEW, FEW_SAMPLES = QUICK | {int(wire.IMMEDIATE)}, 1024
 # The width and the height in a frame that makes an image.
 SIDES = struct.Struct(">8xHH")
 # Where bytes are read before it is known how many come.
 READ_AHEAD = memoryview(bytearray(AHEAD))
 
 
-class Frames(NamedTuple):
-    """The requests of a turn: whole frames of which none may take long, or one frame. The end of a
-    long frame is in `rest`."""
-
-    front: bytearray
-    rest: Memory
-    are_quick: bool
+# The requests of a turn: whole short frames of which none may take long, or the first bytes of one
+# long frame; the memory of the long frame; and whether the loop may make the requests.
+Requests = Tuple[bytes, Optional[Memory], bool]
 
 
 class TotalReached(Exception):
@@ -73,63 +69,53 @@ class Incoming:
         # Bytes of the total that are taken for this connection.
         self.taken = 0
         self.held = bytearray()
-        # The size of the first frame in bytes, once its length has come; or what is wrong with the
-        # length.
-        self.size: Optional[int] = None
+        # The size of the first frame in bytes, or 0 until its length has come; whether it is
+        # complete; and what is wrong with the length.
+        self.size, self.is_whole = 0, False
         self.fault: Optional[str] = None
-        # What follows `held` in a long frame, and how many bytes of it have come.
-        self.rest: Optional[Memory] = None
+        # The memory of a long frame, and how many bytes of it have come.
+        self.memory: Optional[Memory] = None
         self.filled = 0
         # The samples of all images that the connection has asked for.
         self.samples = 0
 
     @property
-    def is_long(self) -> bool:
-        return self.size is not None and self.size > AHEAD and len(self.held) >= LEAST_FRAME
-
-    @property
     def announced(self) -> int:
         """The size of a long frame for which no memory is taken yet, else 0."""
-        return self.size or 0 if self.is_long and self.rest is None else 0
-
-    @property
-    def is_whole(self) -> bool:
-        """Whether the first frame is complete."""
-        return self.size is not None and len(self.held) + self.filled >= self.size
+        return self.size if self.size > AHEAD and self.memory is None else 0
 
     @property
     def has_room(self) -> bool:
-        return not self.is_whole if self.is_long else len(self.held) < AHEAD
+        return not self.is_whole if self.size > AHEAD else len(self.held) < AHEAD
 
     @property
     def has_part(self) -> bool:
         """Whether there is an incomplete frame and nothing else."""
-        return bool(self.held) and not self.is_whole
+        return bool(self.held or self.memory) and not self.is_whole
 
     def receive(self, sock: socket.socket) -> int:
         """Reads the bytes that have come, as far as there is room, and returns how many."""
-        if self.is_long:
-            return self.receive_rest(sock)
-        most = AHEAD - len(self.held)
+        if self.size > AHEAD:
+            return self.receive_long(sock)
+        held = self.held
+        most = AHEAD - len(held)
         self.total.look_for(most)
-        with READ_AHEAD[:most] as room:
-            count = self.descriptors.read_into(sock, room)
+        count = self.descriptors.read_into(sock, READ_AHEAD[:most])
         self.take_share(count)
-        with READ_AHEAD[:count] as data:
-            with_reserve(lambda: self.held.extend(data))
-        if self.size is None:
-            self.look()
+        with_reserve(lambda: held.extend(READ_AHEAD[:count]))
+        self.look()
         return count
 
-    def receive_rest(self, sock: socket.socket) -> int:
-        assert self.size is not None
-        if self.rest is None:
-            size = self.size - len(self.held)
-            self.take_share(size)
-            self.rest = memory_for(size, 0)
-        with memoryview(self.rest) as rest, rest[self.filled : self.filled + CHUNK] as room:
+    def receive_long(self, sock: socket.socket) -> int:
+        if self.memory is None:
+            self.take_share(self.size - len(self.held))
+            self.memory, self.filled = memory_for(self.size, 0), len(self.held)
+            self.memory[: self.filled] = self.held
+            self.held.clear()
+        with memoryview(self.memory) as whole, whole[self.filled : self.filled + CHUNK] as room:
             count = self.descriptors.read_into(sock, room)
         self.filled += count
+        self.is_whole = self.filled == self.size
         return count
 
     def take_share(self, count: int) -> None:
@@ -142,10 +128,11 @@ class Incoming:
 
     def look(self) -> None:
         """Reads the length of the first frame, if it has come."""
-        self.size = None
-        if len(self.held) < 4:
+        held = self.held
+        self.size, self.is_whole = 0, False
+        if len(held) < 4:
             return
-        length = int.from_bytes(self.held[:4], "big")
+        length = int.from_bytes(held[:4], "big")
         if not wire.LEAST_LENGTH <= length <= wire.GREATEST_LENGTH:
             self.fault = (f"bad length {length}: {wire.LEAST_LENGTH} to {wire.GREATEST_LENGTH} are "
                           "allowed")
@@ -153,20 +140,19 @@ class Incoming:
             self.fault = (f"it sent a frame of {4 + length} bytes, and at most {self.most} are "
                           "held (--bytes-held)")
         else:
-            self.size = 4 + length
+            self.size, self.is_whole = 4 + length, 4 + length <= len(held)
 
-    def take(self, turn_bytes: int) -> Frames:
+    def take(self, turn_bytes: int) -> Requests:
         """Returns the requests of a turn. The first frame must be complete."""
-        if self.rest is None:
-            frames = self.take_short(turn_bytes)
+        if self.memory is None:
+            requests = self.take_short(turn_bytes)
         else:
-            frames = Frames(self.held, self.rest, False)
-            self.held, self.rest, self.filled = bytearray(), None, 0
+            requests, self.memory = (self.memory[:LEAST_FRAME], self.memory, False), None
         self.give_share(self.taken - len(self.held))
         self.look()
-        return frames
+        return requests
 
-    def take_short(self, turn_bytes: int) -> Frames:
+    def take_short(self, turn_bytes: int) -> Requests:
         held, at, is_quick, has_few = self.held, 0, True, self.samples <= FEW_SAMPLES
         quick = QUICK_ON_FEW if has_few else QUICK
         while is_quick and len(held) - at >= LEAST_FRAME:
@@ -179,9 +165,9 @@ class Incoming:
             at, is_quick = end, op in quick
         if not is_quick:
             self.note_samples(op)
-        self.held = with_reserve(lambda: held[at:])
-        del held[at:]
-        return Frames(held, bytearray(), is_quick or (has_few and op == wire.READ_IMAGE))
+        front = with_reserve(lambda: bytes(held[:at]))
+        del held[:at]
+        return front, None, is_quick or (has_few and op == wire.READ_IMAGE)
 
     def note_samples(self, op: int) -> None:
         """Adds the samples for which the first frame asks."""
@@ -192,5 +178,6 @@ class Incoming:
             self.samples = FEW_SAMPLES + 1
 
     def clear(self) -> None:
-        self.held, self.size, self.rest, self.filled = bytearray(), None, None, 0
+        self.held, self.memory = bytearray(), None
+        self.look()
         self.give_share(self.taken)

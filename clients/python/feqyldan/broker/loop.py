@@ -24,6 +24,8 @@ from .server import Library, ReplyTooLong, Server
 
 # Seconds between two checks of the clock: while the broker stops, and while a turn is put off.
 STOP_LOOKS, PUT_OFF_LOOKS = 0.1, 0.001
+# The most turns of a server that begin before other events are looked for.
+TURNS_AT_ONCE = 8
 # Why a connection is ended.
 MOST_ARE_HELD = "no more are held (--total-held)"
 NO_MEMORY = "the broker has no memory for its {} (--memory)"
@@ -97,8 +99,8 @@ class Broker(Front):
         while self.done:
             self.complete(self.done.popleft())
         for server in self.servers:
-            if server.line and server.turn is None:
-                self.begin_turn(server)
+            if server.line.places:
+                self.begin_turns(server)
         self.look_at_clock()
 
     def timeout(self) -> Optional[float]:
@@ -184,23 +186,21 @@ class Broker(Front):
         it for the next events. Replies to frames that came before its end, or before a length out
         of range, are still sent."""
         if connection.may_ask() and self.stops_at is None:
-            self.server_of(connection).line.add(connection)
+            (connection.server or self.server_for(connection)).line.add(connection)
         if connection.incoming.fault:
             connection.reads = False
-        if connection.has_finished():
+        if not connection.reads and connection.has_finished():
             self.end(connection, connection.fault())
         else:
             self.watch(connection)
 
-    def server_of(self, connection: Connection) -> Server:
-        """Returns a connection's server. A new connection gets the server with the fewest
-        connections. One that has worked on a turn for longer than the patience is chosen last."""
-        if connection.server is None:
-            min(self.servers, key=lambda server: (
-                server.seconds_at_turn(self.now) > self.limits.patience,
-                len(server.members))).add(connection)
-        assert connection.server is not None
-        return connection.server
+    def server_for(self, connection: Connection) -> Server:
+        """Gives a new connection to the server with the fewest connections. One that has worked on
+        a turn for longer than the patience is chosen last."""
+        server = min(self.servers, key=lambda server: (
+            server.seconds_at_turn(self.now) > self.limits.patience, len(server.members)))
+        server.add(connection)
+        return server
 
     def watch(self, connection: Connection) -> None:
         wanted = connection.wanted()
@@ -246,6 +246,12 @@ class Broker(Front):
 
     # ---- turns
 
+    def begin_turns(self, server: Server) -> None:
+        """Begins the next turns of a server, until it has one that isn't served at once."""
+        for _ in range(TURNS_AT_ONCE):
+            if server.turn is None and server.line.places:
+                self.begin_turn(server)
+
     def begin_turn(self, server: Server) -> None:
         """Begins the next turn of a server that has none, unless it is put off."""
         if server.puts_off(self.now):
@@ -253,16 +259,17 @@ class Broker(Front):
             return
         connection = server.line.take()
         try:
-            turn = connection.next_turn(SHARED_TURN_BYTES if server.line else TURN_BYTES, self.now)
+            turn = connection.next_turn(SHARED_TURN_BYTES if server.line.places else TURN_BYTES,
+                                        self.now)
         except MemoryError:
             self.end(connection, NO_MEMORY.format("requests"))
             if connection.is_leaving:
                 server.line.add(connection)
             return
-        self.counts.bytes_in += turn.size
+        self.counts.bytes_in += len(turn.memory or turn.front)
         if server.begin(turn):
             self.complete(turn)
-            self.soon = 0.0 if server.line else self.soon
+            self.soon = 0.0 if server.line.places else self.soon
         elif connection.is_open:
             self.watch(connection)
 
@@ -275,8 +282,7 @@ class Broker(Front):
         assert connection.server is not None
         connection.server.end(turn, self.now)
         self.counts.note(turn)
-        if turn.frames is not None:
-            PAGES.give(turn.frames.rest)
+        PAGES.give(turn.memory)
         if fault is not None and not isinstance(fault, (MemoryError, ReplyTooLong)):
             raise fault
         try:
@@ -349,7 +355,7 @@ class Broker(Front):
             "memory_bytes": memory, "peak_memory_bytes": peak,
             "servers": [
                 {"server": k, "connections": len(server.members), "requests": server.requests,
-                 "waiting": len(server.line),
+                 "waiting": len(server.line.places),
                  "busy_seconds": round(server.seconds_at_turn(self.now), 6)}
                 for k, server in enumerate(self.servers)]}
 
@@ -373,7 +379,7 @@ class Broker(Front):
         self.stops_at, self.look_seconds = self.now + self.limits.grace, STOP_LOOKS
         self.stop_listening()
         for server in self.servers:
-            while server.line:
+            while server.line.places:
                 server.line.take()
         for connection in [*self.open]:
             connection.reads = False

@@ -6,20 +6,19 @@ import itertools
 import threading
 import time
 from queue import SimpleQueue
-from typing import Callable, Deque, List, Optional, Set, Tuple
+from typing import Any, Callable, Deque, List, Optional, Set, Tuple, Union
 
 from .. import wire
-from ..core import Core
+from ..core import NOTHING, Core, argument_of, number_of, size_of
 from ..errors import FeqyldanError
-from ..service.visitors import HEAD
+from ..service.visitors import HEAD, LEAST_FRAME
 from .connection import Connection, Limits, Turn
-from .incoming import AHEAD, Frames
+from .incoming import AHEAD
 from .memory import Memory, memory_for, with_reserve
 
+Reply = Union[bytes, Memory]
 # The results of feqyldan_serve.
 OK, TOO_SHORT = 0, 1
-# The first byte of some memory, whose address a call gets.
-BYTE = ctypes.c_char.from_buffer
 # The place of the code in a reply.
 CODE = 7
 # The length of the buffer for replies, in bytes: enough except for those that have samples. Python
@@ -44,9 +43,11 @@ class Library:
 
     def __init__(self, path: str, quota: int, work: int) -> None:
         self.core = Core(path, quota, work)
-        self.reply, self.length = bytearray(SHORT_REPLY), ctypes.c_size_t(0)
-        self.view, self.length_at = memoryview(self.reply), ctypes.byref(self.length)
-        self.nothing = ctypes.byref(ctypes.c_char())
+        self.reply: Any = ctypes.create_string_buffer(SHORT_REPLY)
+        self.length = ctypes.c_size_t(0)
+        # The arguments for these.
+        self.reply_at = ctypes.byref(self.reply), size_of(SHORT_REPLY)
+        self.length_at = ctypes.byref(self.length)
 
     def connect(self) -> Optional[int]:
         """Returns the number of a new connection; None if there is no memory."""
@@ -55,14 +56,14 @@ class Library:
         except FeqyldanError:
             return None
 
-    def answer(self, link: int, front: memoryview, rest: Memory,
-               most: int) -> Optional[memoryview]:
+    def answer(self, link: int, front: bytes, rest: memoryview, most: int) -> Optional[Reply]:
         """Returns the reply to a frame of a connection. Returns None if there is no memory for the
         reply, and raises ReplyTooLong if it has more than `most` bytes; then nothing has
         changed."""
-        if self.call(link, front, rest, self.reply) == OK:
-            return memoryview(bytes(self.view[: self.length.value]))
-        size = self.length.value
+        frame = (front, size_of(len(front)), *(argument_of(rest) if rest else NOTHING))
+        is_short, size = self.call(link, frame, self.reply_at) == OK, self.length.value
+        if is_short:
+            return bytes(self.reply[:size])
         if size > most:
             raise ReplyTooLong(f"its reply would have {size} bytes, and at most {most} are held "
                                "(--bytes-held)")
@@ -70,20 +71,19 @@ class Library:
             reply = memory_for(size, AHEAD)
         except MemoryError:
             return None
-        if self.call(link, front, rest, reply) != OK or self.length.value != size:
+        result = self.call(link, frame, argument_of(memoryview(reply)))
+        if result != OK or self.length.value != size:
             raise RuntimeError(f"feqyldan_serve fills {self.length.value} bytes and not {size}")
-        return memoryview(reply)
+        return reply
 
-    def call(self, link: int, front: memoryview, rest: Memory, reply: Memory) -> int:
+    def call(self, link: int, frame: Tuple[Any, ...], reply: Tuple[Any, ...]) -> int:
         """Serves a frame of a connection, and returns the result. Raises RuntimeError unless it is
         OK or TOO_SHORT."""
-        result = int(self.core.serve(
-            self.core.address, link, ctypes.byref(BYTE(front)), len(front),
-            ctypes.byref(BYTE(rest)) if rest else self.nothing, len(rest),
-            ctypes.byref(BYTE(reply)), len(reply), self.nothing, 0, self.length_at))
+        result = int(self.core.serve(self.core.address, number_of(link), *frame, *reply, *NOTHING,
+                                     self.length_at))
         if result not in (OK, TOO_SHORT):
-            raise RuntimeError(f"feqyldan_serve returns {result} for a frame of {len(front)} and "
-                               f"{len(rest)} bytes of connection {link}")
+            raise RuntimeError(f"feqyldan_serve returns {result} for a frame that begins with "
+                               f"{frame[0][:LEAST_FRAME].hex(' ')}, of connection {link}")
         return result
 
     def disconnect(self, link: int) -> None:
@@ -102,19 +102,12 @@ class Line:
         # The time that the connection of the last turn had used before that turn, in seconds.
         self.now = 0.0
 
-    def __len__(self) -> int:
-        return len(self.places)
-
     def add(self, connection: Connection) -> None:
         if connection.place is None:
             connection.used = max(connection.used, self.now)
             place = connection.used, next(self.ticks), connection
             bisect.insort(self.places, place)
             connection.place = place
-
-    @property
-    def first(self) -> Connection:
-        return self.places[0][2]
 
     def take(self) -> Connection:
         self.now, _, connection = self.places.pop(0)
@@ -156,7 +149,7 @@ class Server:
     def puts_off(self, now: float) -> bool:
         """Returns whether the first turn in line, a long one, should wait: the connection that was
         answered last has used less, and may send another request in a moment."""
-        last, first = self.last, self.line.first
+        last, first = self.last, self.line.places[0][-1]
         if last is None or first.took < LONG_TURN:
             return False
         if now > self.turned_at + min(first.took * PART_PUT_OFF, MOST_PUT_OFF):
@@ -167,12 +160,11 @@ class Server:
         """Serves a turn that takes no longer than to wake the thread, or lets the thread serve it.
         Returns whether it is served."""
         self.turn = turn.connection.turn = turn
-        is_quick = turn.frames is not None and turn.frames.are_quick
-        if is_quick:
+        if turn.is_quick:
             self.serve_turn(turn)
         else:
             self.begun.put(turn)
-        return is_quick
+        return turn.is_quick
 
     def end(self, turn: Turn, now: float) -> None:
         connection = turn.connection
@@ -197,47 +189,44 @@ class Server:
         """Serves a turn, and returns it with what comes of it."""
         began = time.monotonic()
         try:
-            if turn.frames is None:
+            if turn.front:
+                self.serve(turn)
+            else:
                 assert turn.connection.link is not None
                 self.library.disconnect(turn.connection.link)
-            else:
-                self.serve(turn, turn.frames)
         except Exception as fault:
             turn.fault = fault
         turn.seconds = time.monotonic() - began
         return turn
 
-    def serve(self, turn: Turn, frames: Frames) -> None:
-        at, view, replies = 0, memoryview(frames.front), []
-        while at < len(view):
-            size = 4 + int.from_bytes(view[at : at + 4], "big")
-            replies.append(self.reply_to(turn.connection, view[at : at + size], frames.rest))
-            at += size
-        turn.replies = replies[0] if len(replies) == 1 else memoryview(
-            with_reserve(lambda: b"".join(replies)))
+    def serve(self, turn: Turn) -> None:
+        at, front, replies = 0, turn.front, []
+        rest = memoryview(turn.memory or b"")[LEAST_FRAME:]
+        while at < len(front):
+            end = at + 4 + int.from_bytes(front[at : at + 4], "big")
+            replies.append(self.reply_to(turn.connection, front[at:end], rest))
+            at = end
+        turn.replies = memoryview(replies[0] if len(replies) == 1 else
+                                  with_reserve(lambda: b"".join(replies)))
         turn.count, turn.refusals = len(replies), [reply[CODE] for reply in replies if reply[CODE]]
 
-    def reply_to(self, connection: Connection, front: memoryview, rest: Memory) -> memoryview:
+    def reply_to(self, connection: Connection, front: bytes, rest: memoryview) -> Reply:
         """Returns the reply to a frame. Without memory for the connection or for the reply, that is
         NO_MEMORY, and nothing has changed."""
         _length, client, op = HEAD.unpack_from(front)
-        clients = connection.clients
         if connection.link is None:
             connection.link = self.library.connect()
         if connection.link is None:
-            return refusal(client, op, wire.NO_MEMORY)
+            return wire.reply_frame(client, op, wire.NO_MEMORY)
+        clients = connection.clients
         if (op == wire.OPEN_CONTEXT and client not in clients
                 and len(clients) >= self.limits.contexts):
-            return refusal(client, op, wire.NO_RESOURCES)
+            return wire.reply_frame(client, op, wire.NO_RESOURCES)
         reply = self.library.answer(connection.link, front, rest, self.limits.bytes_held)
         if reply is None:
-            return refusal(client, op, wire.NO_MEMORY)
+            return wire.reply_frame(client, op, wire.NO_MEMORY)
         if not reply[CODE] and op == wire.OPEN_CONTEXT:
             clients.add(client)
         elif not reply[CODE] and op == wire.RELEASE_CONTEXT:
             clients.discard(client)
         return reply
-
-
-def refusal(client: int, op: int, code: int) -> memoryview:
-    return memoryview(wire.reply_frame(client, op, code))

@@ -10,6 +10,7 @@ from ..service import options
 from ..service.lines import Unusable
 from ..service.machine import open_standard_files, raise_file_limit
 from ..service.options import memory_from, number_from, part_of_memory, seconds_from
+from ..service.signals import held
 from .loop import Door, Limits
 from .program import Plan, Program
 
@@ -90,9 +91,9 @@ def main(words: Optional[List[str]] = None) -> int:
         plan = plan_of(told)
         program = Program(plan.command)
         raise_file_limit(f"{limits.connections} connections", limits.connections)
-        listener, status = options.listeners(told)
-        door = Door(listener, status, program, plan, limits)
-        return door.run()
+        # A signal that comes as soon as programs can connect doesn't leave the sockets behind.
+        with held():
+            return Door(*options.listeners(told), program, plan, limits).run()
     except Unusable as reason:
         print(f"feqyldan door: {reason}", file=sys.stderr)
         return 2

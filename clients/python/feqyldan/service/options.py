@@ -1,7 +1,9 @@
 """The common options of the command lines of the door and the broker."""
 
 import argparse
+import contextlib
 import grp
+import os
 from functools import partial
 from typing import Optional, Tuple
 
@@ -15,6 +17,8 @@ MOST_CONNECTIONS = 65_536
 LEAST_MEMORY, MOST_MEMORY = 2**24, 2**48
 CONNECTIONS, PER_PROCESS, PER_USER = 64, 8, MOST_CONNECTIONS
 PATIENCE, GRACE, REPORT = 30.0, 10.0, 60.0
+# As a group it means no change.
+NO_GROUP = 2**32 - 1
 
 
 def number_from(least: int, greatest: int, words: str) -> int:
@@ -32,11 +36,12 @@ def mode_from(words: str) -> int:
 
 
 def group_from(words: str) -> int:
-    try:
-        return int(words) if words.isdecimal() else grp.getgrnam(words).gr_gid
-    except KeyError:
-        raise argparse.ArgumentTypeError(
-            f"must be a group of this machine, not {words!r}: add it by groupadd") from None
+    with contextlib.suppress(KeyError):
+        number = int(words) if words.isdecimal() else grp.getgrnam(words).gr_gid
+        if number < NO_GROUP:
+            return number
+    raise argparse.ArgumentTypeError(
+        f"must be a group of this machine, not {words!r}: add it by groupadd")
 
 
 def seconds_from(words: str) -> float:
@@ -105,6 +110,9 @@ def listeners(told: argparse.Namespace) -> Tuple[Listener, Optional[Listener]]:
     if not handed and told.socket is None:
         raise Unusable("there is no socket to listen at: give --socket PATH, or hand one over "
                        "(LISTEN_FDS)")
+    if None not in (told.socket, told.status) and (
+            os.path.realpath(told.socket) == os.path.realpath(told.status)):
+        raise Unusable(f"--socket and --status are both {told.socket}: give two paths")
     listener = handed[0] if handed else listen_at(told.socket, told.mode)
     if len(handed) > 1:
         return listener, handed[1]

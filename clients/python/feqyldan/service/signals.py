@@ -1,12 +1,23 @@
 """Signals that a loop can wait for together with descriptors."""
 
+import contextlib
 import signal
 import socket
-from typing import Dict, List
+from typing import Dict, Iterator, List
 
 from .events import READ, Events, Handler
 
 TAKEN = (signal.SIGTERM, signal.SIGINT, signal.SIGHUP, signal.SIGCHLD)
+
+
+@contextlib.contextmanager
+def held() -> Iterator[None]:
+    """Lets signals wait within a `with` until Signals reads them."""
+    before = signal.pthread_sigmask(signal.SIG_BLOCK, TAKEN)
+    try:
+        yield
+    finally:
+        signal.pthread_sigmask(signal.SIG_SETMASK, before)
 
 
 class Signals:
@@ -24,6 +35,7 @@ class Signals:
         self.events.watch(self.reader.fileno(), READ, self.handler)
         self.before = signal.set_wakeup_fd(self.writer.fileno(), warn_on_full_buffer=False)
         self.handlers = {which: signal.signal(which, lambda *_: None) for which in TAKEN}
+        signal.pthread_sigmask(signal.SIG_UNBLOCK, TAKEN)
         return self
 
     def __exit__(self, *_: object) -> None:
