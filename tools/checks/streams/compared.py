@@ -15,6 +15,10 @@ from checks.streams.nodes import BORDERS, WINDOWED
 from checks.streams.serving import ALONE, WAYS
 from checks.streams.requests import UNKNOWN
 
+# The number of streams in which every case occurs. In one turn of all kinds, one of 17 runs lacks
+# some case.
+ENOUGH = 100
+
 
 class Counts:
     """Counts streams and frames, replies by way of sending, codes by op, runs by function and
@@ -53,16 +57,20 @@ class Counts:
         ran = ", ".join(f"to {end} {count}" for end, count in zip(ends, runs))
         yield f"  graphs that ran, by nodes: {ran}"
 
-    def lacks(self):
-        """Yields the cases that never occurred, and the codes that the model's table doesn't
-        have."""
+    def seen(self, op):
+        return {code for of, code in self.codes if of == op}
+
+    def unknown(self):
+        """Yields the codes that the model's table doesn't have."""
         for op in sorted(model.STANDING):
-            seen = {code for of, code in self.codes if of == op}
-            codes = model.codes_of(op)
-            yield from (f"op {op} was never answered {wire.CODES[code]}"
-                        for code in sorted(codes - seen))
             yield from (f"op {op} hasn't the code {wire.CODES[code]} in its row"
-                        for code in sorted(seen - codes))
+                        for code in sorted(self.seen(op) - model.codes_of(op)))
+
+    def lacks(self):
+        """Yields the cases that never occurred."""
+        for op in sorted(model.STANDING):
+            yield from (f"op {op} was never answered {wire.CODES[code]}"
+                        for code in sorted(model.codes_of(op) - self.seen(op)))
         yield from (f"function {number} never ran"
                     for number in sorted(FUNCTIONS) if not self.ran(number))
         yield from (f"function {number} never ran with border {mode}" for number in WINDOWED
@@ -102,6 +110,10 @@ def check_streams(program, seconds, streams, seed):
     print(f"check_streams: {counts.streams} streams of {counts.frames} frames, with the seeds "
           f"{seed} to {following - 1}; all replies were the model's: {replies}")
     print("\n".join(counts.table()))
-    lacks = list(counts.lacks())
-    if lacks:
-        sys.exit("check_streams: " + "\ncheck_streams: ".join(lacks))
+    faults, lacks = list(counts.unknown()), list(counts.lacks())
+    if counts.streams >= ENOUGH:
+        faults += lacks
+    else:
+        print("\n".join(f"  by chance, {lack}" for lack in lacks))
+    if faults:
+        sys.exit("check_streams: " + "\ncheck_streams: ".join(faults))

@@ -7,7 +7,7 @@ import random
 import sys
 import time
 
-from feqyldan.core import Core
+from feqyldan.core import Core, argument_of, number_of, size_of
 from checks.streams.kinds import KINDS, TURN, stream_of
 from checks.streams.serving import model_replies, shown
 
@@ -29,8 +29,9 @@ def serve(core, number, frame, cut, rooms):
     in two."""
     buffers = [ctypes.create_string_buffer(bytes(room) + GUARD) for room in rooms]
     length = ctypes.c_size_t()
-    status = core.serve(core.address, number, frame[:cut], cut, frame[cut:], len(frame) - cut,
-                        buffers[0], rooms[0], buffers[1], rooms[1], ctypes.addressof(length))
+    first, second = ((ctypes.byref(buffer), size_of(room)) for buffer, room in zip(buffers, rooms))
+    status = core.serve(core.address, number_of(number), *argument_of(frame[:cut]),
+                        *argument_of(frame[cut:]), *first, *second, ctypes.byref(length))
     for buffer, room in zip(buffers, rooms):
         if buffer.raw[room : room + len(GUARD)] != GUARD:
             raise Wrong(f"a call wrote past a buffer of {room} bytes")
