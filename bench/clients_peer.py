@@ -1,9 +1,16 @@
-"""Measures OpenCV's calls for the graphs of bench/clients on one thread, and prints the seconds as
-JSON: python3 clients_peer.py. "motion" is a frame of 1280x720, "station" a picture of 2448x2048.
-Each has two times: with outputs written to existing arrays, and with new arrays."""
+"""Measures OpenCV's calls for the graphs of bench/clients, and prints the seconds as JSON.
+
+    clients_peer.py                           on one thread
+    clients_peer.py WIDTH HEIGHT COUNT N      "station" on N threads
+
+"motion" is a frame of 1280x720, "station" a picture of 2448x2048. Each has two times: with outputs
+written to existing arrays, and with new arrays. On several threads COUNT pictures of the given size
+are divided among the threads, and the time is that of all of them by the number of pictures. Each
+thread has existing arrays of its own."""
 
 import json
 import sys
+from concurrent.futures import ThreadPoolExecutor
 
 import cv2
 import numpy
@@ -45,8 +52,8 @@ def motion(are_kept, height=720, width=1280):
     return best_seconds(run, 30)
 
 
-def station(are_kept, height=2048, width=2448):
-    """Runs the eight nodes of clients.station()."""
+def run_of_station(are_kept, height, width):
+    """Returns a function that runs the eight nodes of clients.station()."""
     part, low, high = (chance.integers(0, 256, (height, width), numpy.uint8) for _ in range(3))
     to = outputs(7, part.shape, are_kept)
 
@@ -59,8 +66,26 @@ def station(are_kept, height=2048, width=2448):
         marks = cv2.dilate(cv2.erode(mask, None, to[5]), None, to[6])
         cv2.minMaxLoc(marks)
 
-    return best_seconds(run, 10)
+    return run
 
 
-print(json.dumps({function.__name__: [function(True), function(False)]
-                  for function in (motion, station)}))
+def station(are_kept):
+    return best_seconds(run_of_station(are_kept, 2048, 2448), 10)
+
+
+def in_threads(width, height, count, threads):
+    runs = [run_of_station(True, height, width) for _ in range(threads)]
+
+    def repeat(run):
+        for _ in range(count // threads):
+            run()
+
+    with ThreadPoolExecutor(threads) as pool:
+        return best_seconds(lambda: list(pool.map(repeat, runs))) / (count // threads * threads)
+
+
+if sys.argv[1:]:
+    print(json.dumps({"station": in_threads(*map(int, sys.argv[1:]))}))
+else:
+    print(json.dumps({function.__name__: [function(True), function(False)]
+                      for function in (motion, station)}))
