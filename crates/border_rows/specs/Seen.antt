@@ -23,7 +23,8 @@ border_row valid Replicate y = Some (clamp_coordinate valid.y0 valid.y1 y)
 -- border_row
 abbrev pub row_seen : Rectangle → Border → ℤ → Option ℕ
 row_seen valid border y =
-    if int_le (pos valid.y0) y && int_lt y (pos valid.y1) then Some (unsigned_abs y) else border_row valid border y
+    if int_le (pos valid.y0) y && int_lt y (pos valid.y1) then Some (unsigned_abs y) else
+    border_row valid border y
 
 -- the sample that a window reads in column x along the valid row `line`: the image's sample if
 -- column x is valid, else the border's

@@ -8,11 +8,28 @@ pub use Rattle.buffer_plan.specs.declared.lives.Life.{Life}
 pub use Rattle.buffer_plan.specs.declared.plan.Plan.{Plan}
 pub use Rattle.buffer_plan.specs.declared.slots.Placed.{Placed}
 pub use Rattle.graph_verify.proofs.LinkLemmas.{same-from_In, same_cell-is, same_cell-true}
-pub use Rattle.graph_verify.proofs.MemberLemmas.{In-at, In-filter, In-from_any, In-from_filter, In-from_flat_map, In-from_map, In-map, any-from_In}
+pub use Rattle.graph_verify.proofs.MemberLemmas.{
+  In-at,
+  In-filter,
+  In-from_any,
+  In-from_filter,
+  In-from_flat_map,
+  In-from_map,
+  In-map,
+  any-from_In,
+}
 pub use Rattle.graph_verify.specs.Links.{has_twice, is_written, reads, writes}
 pub use Rattle.graph_verify.specs.Members.{In}
 pub use Rattle.graph_verify.specs.declared.known.VirtualOutput.{VirtualOutput}
-pub use Rattle.std.proofs.lemmas.Bool.{and_from, cases_Bool, cases_eq, false_from_ne_true, or_left, or_parts, or_right}
+pub use Rattle.std.proofs.lemmas.Bool.{
+  and_from,
+  cases_Bool,
+  cases_eq,
+  false_from_ne_true,
+  or_left,
+  or_parts,
+  or_right,
+}
 pub use Rattle.std.proofs.lemmas.Bool.Decides.{nat_tests}
 pub use Rattle.std.proofs.lemmas.Grind.{common_steps}
 pub use Rattle.std.proofs.lemmas.List.{map-append, take_more}

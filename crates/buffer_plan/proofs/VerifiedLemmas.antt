@@ -20,32 +20,49 @@ of_each P a b c U8 = a
 of_each P a b c S16 = b
 of_each P a b c U32 = c
 
-pub once_cells : (p : Reference → Bool) (cs : List Reference) → has_twice cs ≡ false → has_twice (filter p cs) ≡ false
-once_cells p cs once = rw (← map-id (filter p cs)) (once-filter (λ (c : Reference). c) p cs (rw (map-id cs) once))
+pub once_cells : (p : Reference → Bool) (cs : List Reference)
+    → has_twice cs ≡ false
+    → has_twice (filter p cs) ≡ false
+once_cells p cs once =
+    rw (← map-id (filter p cs)) (once-filter (λ (c : Reference). c) p cs (rw (map-id cs) once))
 
 -- a cell is among the images exactly where it is virtual and a node writes it
-images_are : (is : Reference → Operand) (nodes : List Node) (v : Verified) → IsVerified is nodes v → (c : Reference)
-    → list_any (λ (o : VirtualOutput). same_reference o.cell c) v.virtual_outputs ≡ (is_virtual (is c) && is_written nodes c)
+images_are : (is : Reference → Operand) (nodes : List Node) (v : Verified)
+    → IsVerified is nodes v
+    → (c : Reference)
+    → list_any (λ (o : VirtualOutput). same_reference o.cell c) v.virtual_outputs
+    ≡ (is_virtual (is c) && is_written nodes c)
 images_are is nodes v h c =
     let virtual = λ (d : Reference). is_virtual (is d) in
-    let cells : list_any (λ (o : VirtualOutput). same_reference o.cell c) v.virtual_outputs ≡ list_any (λ d. same_reference d c) (virtual_outputs is v.steps) =
-    any-map (λ (o : VirtualOutput). o.cell) (λ d. same_reference d c) v.virtual_outputs ∙ ap (list_any (λ d. same_reference d c)) h.cells in
-    cells ∙ same_tests (list_any (λ d. same_reference d c) (virtual_outputs is v.steps)) (is_virtual (is c) && is_written nodes c)
+    let cells :
+    list_any (λ (o : VirtualOutput). same_reference o.cell c) v.virtual_outputs
+    ≡ list_any (λ d. same_reference d c) (virtual_outputs is v.steps) =
+    any-map (λ (o : VirtualOutput). o.cell) (λ d. same_reference d c) v.virtual_outputs
+    ∙ ap (list_any (λ d. same_reference d c)) h.cells in
+    cells
+    ∙ same_tests (list_any (λ d. same_reference d c) (virtual_outputs is v.steps))
+    (is_virtual (is c) && is_written nodes c)
     (λ some.
     let d = In-from_any (λ d. same_reference d c) (virtual_outputs is v.steps) some in
     let there = subst (λ e. In e (virtual_outputs is v.steps)) (same_cell-true d.0 c d.2) d.1 in
     let kept = In-from_filter virtual c (flat_map outputs v.steps) there in
     let writer = In-from_flat_map outputs c v.steps kept.0 in
     let node = AllIn-permutation_back nodes v.steps h.order.same_nodes writer.0 writer.1 in
-    and_from (is_virtual (is c)) (is_written nodes c) kept.1 (any-from_In (λ n. writes n c) writer.0 nodes node (same-from_In c (outputs writer.0) writer.2)))
+    and_from (is_virtual (is c)) (is_written nodes c) kept.1
+    (any-from_In (λ n. writes n c) writer.0 nodes node
+    (same-from_In c (outputs writer.0) writer.2)))
     (λ both.
     let parts = and_parts (is_virtual (is c)) (is_written nodes c) both in
     let writer = In-from_any (λ n. writes n c) nodes parts.1 in
     let step = AllIn-permutation nodes v.steps h.order.same_nodes writer.0 writer.1 in
-    let there = In-filter virtual c (flat_map outputs v.steps) (In-outputs writer.0 c v.steps step writer.2) parts.0 in
-    any-from_In (λ d. same_reference d c) c (virtual_outputs is v.steps) there (same_cell-is c c refl))
+    let there =
+    In-filter virtual c (flat_map outputs v.steps) (In-outputs writer.0 c v.steps step writer.2)
+    parts.0 in
+    any-from_In (λ d. same_reference d c) c (virtual_outputs is v.steps) there
+    (same_cell-is c c refl))
 
-module _ (v : Verified) (p : Plan) (u8s : IsPlacedFor v.steps v.virtual_outputs U8 p.u8s) (s16s : IsPlacedFor v.steps v.virtual_outputs S16 p.s16s)
+module _ (v : Verified) (p : Plan) (u8s : IsPlacedFor v.steps v.virtual_outputs U8 p.u8s)
+    (s16s : IsPlacedFor v.steps v.virtual_outputs S16 p.s16s)
     (u32s : IsPlacedFor v.steps v.virtual_outputs U32 p.u32s)
   where
     placed : (f : Format) → IsPlacedFor v.steps v.virtual_outputs f (places_in p f)
@@ -53,11 +70,21 @@ module _ (v : Verified) (p : Plan) (u8s : IsPlacedFor v.steps v.virtual_outputs 
 
     pub planned : IsVerifiedGraph v → IsPlan v.steps v.virtual_outputs (plan_view p)
     planned g =
-        let one = two_writers-permutation g.nodes v.steps g.verified.order.same_nodes g.one_writer in
-        let once = ap has_twice g.verified.cells ∙ once_cells (λ c. is_virtual (g.is c)) (flat_map outputs v.steps) one in
-        is_plan v.steps v.virtual_outputs p (λ f. (placed f).lives) (λ f. (placed f).are_lives) (λ f. (placed f).placed) once
-        (λ f. rising-lives (λ c. is_virtual (g.is c)) v.steps v.virtual_outputs f (placed f).lives g.verified.cells once (placed f).are_lives)
+        let one =
+        two_writers-permutation g.nodes v.steps g.verified.order.same_nodes g.one_writer in
+        let once =
+        ap has_twice g.verified.cells
+        ∙ once_cells (λ c. is_virtual (g.is c)) (flat_map outputs v.steps) one in
+        is_plan v.steps v.virtual_outputs p (λ f. (placed f).lives) (λ f. (placed f).are_lives)
+        (λ f. (placed f).placed) once
+        (λ f. rising-lives (λ c. is_virtual (g.is c)) v.steps v.virtual_outputs f
+        (placed f).lives g.verified.cells once (placed f).are_lives)
 
-    pub slots_of : (is : Reference → Operand) (nodes : List Node) → IsVerified is nodes v → (c : Reference) → is_some ((plan_view p).slot_of c) ≡ (is_virtual (is c) && is_written nodes c)
+    pub slots_of : (is : Reference → Operand) (nodes : List Node)
+        → IsVerified is nodes v
+        → (c : Reference)
+        → is_some ((plan_view p).slot_of c) ≡ (is_virtual (is c) && is_written nodes c)
     slots_of is nodes h c =
-        slots_given v.steps v.virtual_outputs p (λ f. (placed f).lives) (λ f. (placed f).are_lives) (λ f. (placed f).placed) c ∙ images_are is nodes v h c
+        slots_given v.steps v.virtual_outputs p (λ f. (placed f).lives)
+        (λ f. (placed f).are_lives) (λ f. (placed f).placed) c
+        ∙ images_are is nodes v h c

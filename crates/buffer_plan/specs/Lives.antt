@@ -15,7 +15,8 @@ is_node_operand nodes cell = list_any (λ n. reads n cell || writes n cell) node
 -- whether an operand is live at a step: this step or an earlier one writes the operand, and this
 -- step or a later one reads or writes it
 abbrev pub is_live : List Node → Reference → ℕ → Bool
-is_live steps cell step = is_written (take step steps) cell && is_node_operand (drop (step - 1) steps) cell
+is_live steps cell step =
+    is_written (take step steps) cell && is_node_operand (drop (step - 1) steps) cell
 
 -- ---- the lives that the planner computes
 

@@ -25,7 +25,12 @@ IsValid steps images slot = (format : Format) (step : ℕ) (a b : VirtualOutput)
     slot a.cell ≡ slot b.cell → a ≡ b
 
 -- a list that includes the slot of each image of the format
-abbrev pub AreSlotsOf : {S : Type 0} → (Reference → S) → Format → List VirtualOutput → List S → Type 0
+abbrev pub AreSlotsOf : {S : Type 0}
+    → (Reference → S)
+    → Format
+    → List VirtualOutput
+    → List S
+    → Type 0
 AreSlotsOf slot format images slots = (o : VirtualOutput) → In o (of_format format images) →
     In (slot o.cell) slots
 

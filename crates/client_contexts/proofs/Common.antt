@@ -1,7 +1,15 @@
 -- Names that several proofs use. Declares nothing.
 pub use Rattle.client_contexts.specs.Applies.{AppliesToKept}
 pub use Rattle.client_contexts.specs.Blocks.{IsRuntime}
-pub use Rattle.client_contexts.specs.Kept.{AreKept, IsKept, IsKeptWithin, KeepsVerified, ends_verification, forgotten_by, verified_in}
+pub use Rattle.client_contexts.specs.Kept.{
+  AreKept,
+  IsKept,
+  IsKeptWithin,
+  KeepsVerified,
+  ends_verification,
+  forgotten_by,
+  verified_in,
+}
 pub use Rattle.client_contexts.specs.Lookup.{IsFound, IsImageFor, IsImageOf, IsNamed, refusal_for}
 pub use Rattle.client_contexts.specs.Steps.{MayComeTo, all_operands, first_class, client_result}
 pub use Rattle.client_contexts.specs.World.{ClientContext, World}
@@ -22,7 +30,11 @@ pub use Rattle.client_model.specs.declared.refusal.Refusal.{Refusal}
 pub use Rattle.client_model.specs.declared.reply.Reply.{Reply}
 pub use Rattle.client_model.specs.declared.reply.Reply.TheVariants.{Empty}
 pub use Rattle.client_model.specs.declared.request.Request.{Request}
-pub use Rattle.client_model.specs.declared.request.Request.TheVariants.{ProcessGraph, VerifyGraph, WriteImage}
+pub use Rattle.client_model.specs.declared.request.Request.TheVariants.{
+  ProcessGraph,
+  VerifyGraph,
+  WriteImage,
+}
 pub use Rattle.graph_run.proofs.FoundLemmas.{OfOperands, of_operands}
 pub use Rattle.graph_run.specs.Operands.{IsReady, operand_held}
 pub use Rattle.graph_verify.specs.Operand.{is_image, is_virtual}
@@ -40,7 +52,15 @@ pub use Rattle.object_table.specs.Table.{HoldsImage, IsUnder, graph_under, image
 pub use Rattle.object_table.specs.Uses.{nodes_in}
 pub use Rattle.pgm_images.proofs.ReadingLemmas.{map_some}
 pub use Rattle.std.proofs.lemmas.Bool.{cases_Bool}
-pub use Rattle.std.proofs.lemmas.List.Elements.{All-append, All-cons, All-head, All-map, All-nil, All-tail, All-weaker}
+pub use Rattle.std.proofs.lemmas.List.Elements.{
+  All-append,
+  All-cons,
+  All-head,
+  All-map,
+  All-nil,
+  All-tail,
+  All-weaker,
+}
 pub use Rattle.std.proofs.lemmas.List.Folds.{list_any-append}
 pub use Rattle.std.proofs.lemmas.List.Sums.{sum-map}
 pub use Rattle.std.proofs.lemmas.Map.Lookups.{exact_unsigned}
@@ -57,7 +77,14 @@ pub use Rattle.vx_base.specs.Function.{parameters}
 pub use Rattle.vx_base.specs.Graph.{GraphValue, nodes_of, with_node}
 pub use Rattle.vx_base.specs.Image.{ImageValue, description_of, image_over, new_image, with_valid}
 pub use Rattle.vx_base.specs.Node.{IsNode, operands, second_kind, with_kind}
-pub use Rattle.vx_base.specs.Object.{DelayObject, GraphObject, ImageObject, IsObject, ObjectValue, object_kind}
+pub use Rattle.vx_base.specs.Object.{
+  DelayObject,
+  GraphObject,
+  ImageObject,
+  IsObject,
+  ObjectValue,
+  object_kind,
+}
 pub use Rattle.vx_base.specs.Rectangle.{Rectangle, whole_rectangle}
 pub use Rattle.vx_base.specs.declared.format.Format.{Format}
 pub use Rattle.vx_base.specs.declared.format.Format.TheVariants.{U8}

@@ -15,6 +15,7 @@ abbrev pub clients_blocks : List (ℕ × ClientContext) → Format → ℕ
 clients_blocks contexts format = sum_by (λ c. blocks_in c.1.context.objects format) contexts
 
 -- all contexts keep the limits. Of each format, the pool has lent `clients_blocks` blocks.
-pub record IsRuntime (limits : LimitsValue) (contexts : List (ℕ × ClientContext)) (pool : Pool) : Type 0 where
+pub record IsRuntime (limits : LimitsValue) (contexts : List (ℕ × ClientContext)) (pool : Pool)
+    : Type 0 where
   pub keeps : All (λ o. KeepsLimits limits o.context) (values_of contexts)
   pub lent : (format : Format) → lent_of pool format ≡ clients_blocks contexts format

@@ -20,7 +20,8 @@ use Rattle.client_contexts.specs.Applies.{Applies, AppliesToKept, IsAnswered}
 
 -- `fills` is the effect of a call of `fill`. The arguments of `fills` are the source before and
 -- after, the format of the samples, the samples after, and the result.
-module _ {S E : Type 0} (fills : S → S → Format → List ℤ → Result ⊤ E → Type 0) (d : Description) (old new : S) where
+module _ {S E : Type 0} (fills : S → S → Format → List ℤ → Result ⊤ E → Type 0)
+    (d : Description) (old new : S) where
   -- p has this description, and its samples are those that the source gave, or any samples if the
   -- source failed
   pub record IsRead (p : PictureValue) (result : Result ⊤ E) : Type 0 where
@@ -32,7 +33,8 @@ module _ {S E : Type 0} (fills : S → S → Format → List ℤ → Result ⊤ 
   abbrev pub WritesReadPicture : ℕ → Reference → World → World → Type 0
   WritesReadPicture client cell before after =
       (p : PictureValue) × IsRead p (Ok tt)
-      × Applies client (WriteImage cell p) before after (Ok reply.Empty) × AppliesToKept client (WriteImage cell p) before after (Ok reply.Empty)
+      × Applies client (WriteImage cell p) before after (Ok reply.Empty)
+      × AppliesToKept client (WriteImage cell p) before after (Ok reply.Empty)
 
   -- the reason why a picture isn't written: a refusal or no memory, before anything was read; or a
   -- fault of the source
@@ -42,9 +44,15 @@ module _ {S E : Type 0} (fills : S → S → Format → List ℤ → Result ⊤ 
 
 -- writing a picture of this description to a reference is refused with this code
 abbrev pub IsRefusedFor : Context → Reference → Description → Code → Type 0
-IsRefusedFor c cell d code = (refusal : Refusal) × (code ≡ refusal_code refusal) × (refusal_for (image_of c.objects cell) d ≡ Some refusal)
+IsRefusedFor c cell d code =
+    (refusal : Refusal)
+    × (code ≡ refusal_code refusal)
+    × (refusal_for (image_of c.objects cell) d ≡ Some refusal)
 
 -- a client's request to write any picture of this description to this reference is refused with
 -- this code
 abbrev pub IsRefused : ℕ → Reference → Description → World → Code → Type 0
-IsRefused client cell d world code = (p : PictureValue) → p.description ≡ d → IsAnswered client (WriteImage cell p) world (reply.Refused code)
+IsRefused client cell d world code =
+    (p : PictureValue)
+    → p.description ≡ d
+    → IsAnswered client (WriteImage cell p) world (reply.Refused code)

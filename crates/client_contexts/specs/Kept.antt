@@ -27,10 +27,15 @@ use Rattle.client_contexts.specs.declared.memory.NoMemory.{NoMemory}
 -- objects that the nodes name.
 pub record IsKept (c : Context) (name : ℕ) (k : KeptGraph) : Type 0 where
   pub below : name < c.next
-  pub ready : IfSome (object_held c.objects name) (λ object. IsReady c.objects (nodes_in object) k.verified)
+  pub ready :
+      IfSome (object_held c.objects name) (λ object. IsReady c.objects (nodes_in object) k.verified)
   pub plan : IsPlan k.verified.steps k.verified.virtual_outputs (plan_view k.plan)
-  pub schedule : IfSome (object_held c.objects name) (λ object. IsSchedule c.objects k.verified (plan_view k.plan) k.schedule)
-  pub allowed : IfSome (object_held c.objects name) (λ object. verdict k.work (operand_held c.objects) (nodes_in object) ≡ None)
+  pub schedule :
+      IfSome (object_held c.objects name)
+      (λ object. IsSchedule c.objects k.verified (plan_view k.plan) k.schedule)
+  pub allowed :
+      IfSome (object_held c.objects name)
+      (λ object. verdict k.work (operand_held c.objects) (nodes_in object) ≡ None)
 
 -- each entry of the cache is valid
 abbrev pub AreKept : Context → List (ℕ × KeptGraph) → Type 0
@@ -80,9 +85,17 @@ ends_verification other name = changes_nodes other name
 -- in the cache with this limit on work bytes never runs out of memory. After VerifyGraph or
 -- ProcessGraph has succeeded, the graph stays in the cache until its nodes change, or the graph or
 -- the context is released. OpenVX 1.3, "Object: Graph", vxVerifyGraph and vxProcessGraph.
-pub record KeepsVerified (work : ℕ) (request : Request) (old new : List (ℕ × ℕ)) (result : Result Reply NoMemory) : Type 0 where
-  pub lost : OnErr result ((graph : ℕ) → request ≡ VerifyGraph graph → IsKeptWithin work graph old → ⊥)
-  pub found : result ≡ Ok Empty → (graph : ℕ) → (request ≡ VerifyGraph graph) ⊎ (request ≡ ProcessGraph graph) → IsKeptWithin work graph new
-  pub stays : (graph : ℕ) → ends_verification request graph ≡ false → IsKeptWithin work graph old → IsKeptWithin work graph new
+pub record KeepsVerified (work : ℕ) (request : Request) (old new : List (ℕ × ℕ))
+    (result : Result Reply NoMemory) : Type 0 where
+  pub lost :
+      OnErr result ((graph : ℕ) → request ≡ VerifyGraph graph → IsKeptWithin work graph old → ⊥)
+  pub found : result ≡ Ok Empty
+      → (graph : ℕ)
+      → (request ≡ VerifyGraph graph) ⊎ (request ≡ ProcessGraph graph)
+      → IsKeptWithin work graph new
+  pub stays : (graph : ℕ)
+      → ends_verification request graph ≡ false
+      → IsKeptWithin work graph old
+      → IsKeptWithin work graph new
   pub refused : (code : Code) → result ≡ Ok (Refused code) → StayKept work old new
   pub no_memory : OnErr result (StayKept work old new)

@@ -42,7 +42,8 @@ Keeps old new = (limits : LimitsValue) → KeepsLimits limits old → KeepsLimit
 
 -- a method that takes no memory has this outcome: its reply and the new context, or a refusal that
 -- leaves the context unchanged
-pub record ComesTo (outcome : Outcome) (old new : Context) (result : Result Reply Refusal) : Type 0 where
+pub record ComesTo (outcome : Outcome) (old new : Context) (result : Result Reply Refusal) :
+    Type 0 where
   pub done : IfOk result (λ reply. outcome ≡ Ok (reply, Some new))
   pub refused : IfErr result (λ refusal. outcome ≡ Err refusal)
   pub unchanged : OnErr result (new ≡ old)
@@ -54,7 +55,8 @@ SaysWhy outcome NoMemory = ⊤
 
 -- a method that may take memory has this outcome, or finds no memory and leaves the context
 -- unchanged
-pub record MayComeTo (outcome : Outcome) (old new : Context) (result : Result Reply RequestFault) : Type 0 where
+pub record MayComeTo (outcome : Outcome) (old new : Context)
+    (result : Result Reply RequestFault) : Type 0 where
   pub done : IfOk result (λ reply. outcome ≡ Ok (reply, Some new))
   pub refused : IfErr result (SaysWhy outcome)
   pub unchanged : OnErr result (new ≡ old)
@@ -106,7 +108,8 @@ refusal_in (Err refusal) = Some refusal
 -- wanted kind
 abbrev pub name_refusal : Kind → Option ObjectValue → Option Refusal
 name_refusal wanted None = Some InvalidReference
-name_refusal wanted (Some object) = if same_kind wanted (object_kind object) then None else Some InvalidType
+name_refusal wanted (Some object) =
+    if same_kind wanted (object_kind object) then None else Some InvalidType
 
 -- whether an object is outside the scope of a graph: the object is a virtual image of another
 -- graph. Without a scope, no object is outside.

@@ -26,4 +26,5 @@ state_of client world = option_map (λ o. o.context) (lookup (is_at (nat_cmp cli
 -- the graphs in a client's cache, each with its limit on work bytes; none if the client has no
 -- context
 abbrev pub verified_of : ℕ → World → List (ℕ × ℕ)
-verified_of client world = unwrap_or (option_map (λ o. o.verified) (lookup (is_at (nat_cmp client)) world.contexts)) []
+verified_of client world =
+    unwrap_or (option_map (λ o. o.verified) (lookup (is_at (nat_cmp client)) world.contexts)) []

@@ -16,7 +16,8 @@ use Rattle.client_model.specs.Graphs.{graph_named}
 -- the objects as a run begins: each virtual image that the nodes write is an image of zeros, with
 -- the resolved size and format; other objects are unchanged
 abbrev pub at_begin : List Node → List NamedObject → List NamedObject
-at_begin nodes objects = map (named_at_start (resolved_operand (operand_held objects) nodes) nodes) objects
+at_begin nodes objects =
+    map (named_at_start (resolved_operand (operand_held objects) nodes) nodes) objects
 
 -- The run of a graph with these nodes. The objects at the end of the run are the graph's only
 -- solution. Running the nodes one by one, in any order that puts each node after the nodes whose
@@ -24,9 +25,13 @@ at_begin nodes objects = map (named_at_start (resolved_operand (operand_held obj
 pub record IsTheRun (nodes : List Node) (before later : List NamedObject) : Type 0 where
   pub at_end : List NamedObject
   pub solves : Solves nodes (at_begin nodes before) at_end
-  pub only : (other : List NamedObject) → Solves nodes (at_begin nodes before) other → other ≡ at_end
+  pub only : (other : List NamedObject)
+      → Solves nodes (at_begin nodes before) other
+      → other ≡ at_end
   pub order : (steps : List Node) × IsOrder feeds nodes steps
-  pub in_order : (steps : List Node) → IsOrder feeds nodes steps → one_by_one steps (at_begin nodes before) ≡ at_end
+  pub in_order : (steps : List Node)
+      → IsOrder feeds nodes steps
+      → one_by_one steps (at_begin nodes before) ≡ at_end
   pub left : later ≡ objects_at_end before at_end
 
 -- the context after a run of the graph with this name: the objects after the run, with each

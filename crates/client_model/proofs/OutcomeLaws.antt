@@ -11,27 +11,45 @@ use Rattle.client_model.proofs.StateLaws.{Leaves, with_new_leaves, same_leaves}
 abbrev pub StateKeeps : LimitsValue → State → Type 0
 StateKeeps limits state = IfSome state (KeepsLimits limits)
 
--- where an outcome is a reply and a state, that is a context, with what a request leaves of this one
+-- where an outcome is a reply and a state, that is a context, with what a request leaves of this
+-- one
 abbrev pub KeepsBut : (ℕ → Bool) → LimitsValue → Context → Outcome → Type 0
-KeepsBut changes limits c outcome = IfOk outcome (λ done. MatchOption done.1 ⊥ (Leaves limits changes c))
+KeepsBut changes limits c outcome =
+    IfOk outcome (λ done. MatchOption done.1 ⊥ (Leaves limits changes c))
 
 -- all nodes too
 abbrev pub Keeps : LimitsValue → Context → Outcome → Type 0
 Keeps limits c outcome = KeepsBut (λ name. false) limits c outcome
 
 -- what is done unless it is refused keeps what its context does, where nothing refuses
-pub unless_keeps : (limits : LimitsValue) (c : Context) (refusal : Option Refusal) (reply : Reply) (after : Context) → (refusal ≡ None → Leaves limits (λ name. false) c after) → Keeps limits c (reply_unless refusal reply after)
+pub unless_keeps :
+    (limits : LimitsValue) (c : Context) (refusal : Option Refusal) (reply : Reply)
+    (after : Context)
+    → (refusal ≡ None → Leaves limits (λ name. false) c after)
+    → Keeps limits c (reply_unless refusal reply after)
 unless_keeps limits c refusal reply after h = grind (arith, h)
 
 -- so does what is done otherwise
-pub refused_or_keeps : (changes : ℕ → Bool) (limits : LimitsValue) (c : Context) (refusal : Option Refusal) (outcome : Outcome) → (refusal ≡ None → KeepsBut changes limits c outcome) → KeepsBut changes limits c (refused_or refusal outcome)
+pub refused_or_keeps :
+    (changes : ℕ → Bool) (limits : LimitsValue) (c : Context) (refusal : Option Refusal)
+    (outcome : Outcome)
+    → (refusal ≡ None → KeepsBut changes limits c outcome)
+    → KeepsBut changes limits c (refused_or refusal outcome)
 refused_or_keeps changes limits c refusal outcome h = grind (arith, h)
 
 -- what leaves the context keeps all
-pub same_keeps : (limits : LimitsValue) (c : Context) (outcome : Outcome) → KeepsLimits limits c → IfOk outcome (λ done. done.1 ≡ Some c) → Keeps limits c outcome
+pub same_keeps : (limits : LimitsValue) (c : Context) (outcome : Outcome)
+    → KeepsLimits limits c
+    → IfOk outcome (λ done. done.1 ≡ Some c)
+    → Keeps limits c outcome
 same_keeps limits c (Ok done) h same = rw same (same_leaves limits (λ name. false) c h)
 same_keeps limits c (Err refusal) h same = tt
 
 -- a create of any object without nodes keeps all
-pub create_keeps : (limits : LimitsValue) (c : Context) (object : ObjectValue) → KeepsLimits limits c → IsObject object → nodes_in object ≡ [] → Keeps limits c (create limits c object)
-create_keeps limits c object h is none = grind (arith, with_new_leaves limits (λ name. false) c h object is none)
+pub create_keeps : (limits : LimitsValue) (c : Context) (object : ObjectValue)
+    → KeepsLimits limits c
+    → IsObject object
+    → nodes_in object ≡ []
+    → Keeps limits c (create limits c object)
+create_keeps limits c object h is none =
+    grind (arith, with_new_leaves limits (λ name. false) c h object is none)

@@ -33,13 +33,16 @@ outcome_of limits c (SetValid cell valid) = set_valid c cell valid
 outcome_of limits c (Release name) = release c name
 outcome_of limits c (CreateLut lut) = create limits c (LutObject lut)
 outcome_of limits c (CreateThreshold threshold) = create limits c (ThresholdObject threshold)
-outcome_of limits c (CreateConvolution convolution) = create limits c (ConvolutionObject convolution)
-outcome_of limits c (CreateDistribution bins) = create limits c (DistributionObject (new_distribution bins))
+outcome_of limits c (CreateConvolution convolution) =
+    create limits c (ConvolutionObject convolution)
+outcome_of limits c (CreateDistribution bins) =
+    create limits c (DistributionObject (new_distribution bins))
 outcome_of limits c (ReadDistribution name) = read_distribution c name
 outcome_of limits c CreateMinMax = create limits c (ExtremesObject no_extremes)
 outcome_of limits c (ReadMinMax name) = read_min_max c name
 outcome_of limits c CreateGraph = create limits c (GraphObject new_graph)
-outcome_of limits c (CreateVirtualImage graph declared) = create_virtual_image limits c graph declared
+outcome_of limits c (CreateVirtualImage graph declared) =
+    create_virtual_image limits c graph declared
 outcome_of limits c (AddNode graph node) = add_node c graph node
 outcome_of limits c (RemoveNode graph number) = remove_node c graph number
 outcome_of limits c (VerifyGraph graph) = verify_graph limits c graph

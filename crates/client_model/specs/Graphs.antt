@@ -38,30 +38,45 @@ abbrev pub graph_named : List NamedObject → ℕ → Result GraphValue Refusal
 graph_named objects name = as_graph (object_named objects name)
 
 -- a new virtual image of this graph, or the refusal
-abbrev pub create_virtual_in : Result GraphValue Refusal → LimitsValue → Context → ℕ → PartialDescription → Outcome
+abbrev pub create_virtual_in : Result GraphValue Refusal
+    → LimitsValue
+    → Context
+    → ℕ
+    → PartialDescription
+    → Outcome
 create_virtual_in (Err refusal) limits c name declared = Err refusal
-create_virtual_in (Ok graph) limits c name declared = create limits c (VirtualObject (record { graph = name; declared = declared }))
+create_virtual_in (Ok graph) limits c name declared =
+    create limits c (VirtualObject (record { graph = name; declared = declared }))
 
 -- CreateVirtualImage: a virtual image, which only nodes of this graph may use
 abbrev pub create_virtual_image : LimitsValue → Context → ℕ → PartialDescription → Outcome
-create_virtual_image limits c name declared = create_virtual_in (graph_named c.objects name) limits c name declared
+create_virtual_image limits c name declared =
+    create_virtual_in (graph_named c.objects name) limits c name declared
 
 -- the graph with one more node, under the graph's next node number; or the refusal
 abbrev pub add_to : Result GraphValue Refusal → Context → ℕ → Node → Outcome
 add_to (Err refusal) c name n = Err refusal
 add_to (Ok graph) c name n =
-    if can_add graph then Ok (reply.Node graph.next, Some (with_objects c (with_graph c.objects name (with_node graph n)))) else Err NoResources
+    if can_add graph then Ok (
+      reply.Node graph.next,
+      Some (with_objects c (with_graph c.objects name (with_node graph n))),
+    ) else Err NoResources
 
 -- AddNode: the node is appended, under the graph's next node number
 abbrev pub add_node : Context → ℕ → Node → Outcome
 add_node c name n =
-    refused_or (operands_refusal (Some name) c.objects ((reference_to name, kind.Graph) ∷ operands n)) (add_to (graph_named c.objects name) c name n)
+    refused_or
+    (operands_refusal (Some name) c.objects ((reference_to name, kind.Graph) ∷ operands n))
+    (add_to (graph_named c.objects name) c name n)
 
 -- the graph without the node of this number, and the objects that are still held; or the refusal
 abbrev pub remove_from : Result GraphValue Refusal → Context → ℕ → ℕ → Outcome
 remove_from (Err refusal) c name number = Err refusal
 remove_from (Ok graph) c name number =
-    if has_node graph number then Ok (Empty, Some (with_objects c (still_held (with_graph c.objects name (without_node graph number)))))
+    if has_node graph number then Ok (
+      Empty,
+      Some (with_objects c (still_held (with_graph c.objects name (without_node graph number)))),
+    )
     else Err InvalidReference
 
 -- RemoveNode: the node is removed, and objects that are then no longer held are dropped
@@ -75,7 +90,8 @@ graph_verdict limits objects graph = verdict limits.work (operand_held objects) 
 -- an empty reply if the verdict on a graph is SUCCESS; otherwise the refusal
 abbrev pub verify_found : Result GraphValue Refusal → LimitsValue → Context → Outcome
 verify_found (Err refusal) limits c = Err refusal
-verify_found (Ok graph) limits c = reply_unless (option_map Rejected (graph_verdict limits c.objects graph)) Empty c
+verify_found (Ok graph) limits c =
+    reply_unless (option_map Rejected (graph_verdict limits c.objects graph)) Empty c
 
 -- VerifyGraph: the verdict on the graph; nothing changes
 abbrev pub verify_graph : LimitsValue → Context → ℕ → Outcome
@@ -88,7 +104,9 @@ process_found (Err refusal) limits c = Err refusal
 process_found (Ok graph) limits c =
     let nodes = nodes_of graph in
     reply_unless (option_map Rejected (graph_verdict limits c.objects graph)) Empty
-    (with_objects c (aged_under graph.delays (run_of_graph (resolved_operand (operand_held c.objects) nodes) nodes c.objects)))
+    (with_objects c
+    (aged_under graph.delays
+    (run_of_graph (resolved_operand (operand_held c.objects) nodes) nodes c.objects)))
 
 -- ProcessGraph: the verdict on the graph; if it is SUCCESS, the graph runs, and then its registered
 -- delays age

@@ -29,7 +29,9 @@ use Rattle.client_model.specs.Operands.{is_unknown, is_of_other_kind, image_of}
 
 -- the creation of an object under the next name; refused if there is no capacity for the object
 abbrev pub create : LimitsValue → Context → ObjectValue → Outcome
-create limits c object = if has_capacity limits c (object_bytes object) then Ok (Name c.next, Some (with_new c object)) else Err NoResources
+create limits c object =
+    if has_capacity limits c (object_bytes object) then Ok
+    (Name c.next, Some (with_new c object)) else Err NoResources
 
 -- CreateImage: an image of zeros
 abbrev pub create_image : LimitsValue → Context → Description → Outcome
@@ -37,12 +39,22 @@ create_image limits c d = create limits c (ImageObject (new_image d.width d.heig
 
 -- the format, the size and the valid rectangle of an image
 abbrev pub described_image : ImageValue → Described
-described_image image = record { format = Some image.format; width = image.width; height = image.height; valid = image.valid }
+described_image image = record {
+  format = Some image.format;
+  width = image.width;
+  height = image.height;
+  valid = image.valid;
+}
 
 -- the result of QueryImage for a virtual image: its declared format, its declared sides (0 if
 -- open), and an empty valid rectangle
 abbrev pub described_virtual : PartialDescription → Described
-described_virtual declared = record { format = declared.format; width = unwrap_or declared.width 0; height = unwrap_or declared.height 0; valid = empty_rectangle }
+described_virtual declared = record {
+  format = declared.format;
+  width = unwrap_or declared.width 0;
+  height = unwrap_or declared.height 0;
+  valid = empty_rectangle;
+}
 
 -- the result of QueryImage for an image or a virtual image; otherwise a refusal
 abbrev pub as_described : Option ObjectValue → Result Described Refusal
@@ -54,7 +66,9 @@ as_described other = Err InvalidValue
 abbrev pub described_in : List NamedObject → Reference → Result Described Refusal
 described_in objects cell =
     if is_unknown objects cell then Err InvalidReference
-    else (if is_of_other_kind objects (cell, kind.Image) then Err InvalidType else as_described (object_at objects cell))
+    else
+    (if is_of_other_kind objects (cell, kind.Image) then Err InvalidType else as_described
+    (object_at objects cell))
 
 -- the reply with this result of QueryImage, or the refusal
 abbrev pub query_of : Result Described Refusal → Context → Outcome
@@ -76,7 +90,8 @@ picture_refusal image picture =
 abbrev pub write_to : Result ImageValue Refusal → Context → Reference → PictureValue → Outcome
 write_to (Err refusal) c cell p = Err refusal
 write_to (Ok image) c cell p =
-    reply_unless (picture_refusal (description_of image) p.description) Empty (with_objects c (with_object c.objects cell (ImageObject (picture_image p))))
+    reply_unless (picture_refusal (description_of image) p.description) Empty
+    (with_objects c (with_object c.objects cell (ImageObject (picture_image p))))
 
 -- WriteImage: the image with the picture's samples; the whole image is valid
 abbrev pub write_image : Context → Reference → PictureValue → Outcome
@@ -90,7 +105,11 @@ fault_refusal other = InvalidFormat
 
 -- the image with the samples of a text's picture; or the first of these refusals: of the image's
 -- reference, of the text, of the picture
-abbrev pub write_text_to : Result ImageValue Refusal → Context → Reference → Result PictureValue PgmFault → Outcome
+abbrev pub write_text_to : Result ImageValue Refusal
+    → Context
+    → Reference
+    → Result PictureValue PgmFault
+    → Outcome
 write_text_to (Err refusal) c cell picture = Err refusal
 write_text_to (Ok image) c cell (Err fault) = Err (fault_refusal fault)
 write_text_to (Ok image) c cell (Ok p) = write_to (Ok image) c cell p
@@ -111,7 +130,9 @@ read_image c cell = read_from (image_of c.objects cell) c
 -- the PGM text of a U8 image, or the refusal
 abbrev pub read_text_from : Result ImageValue Refusal → Context → Outcome
 read_text_from (Err refusal) c = Err refusal
-read_text_from (Ok image) c = reply_unless (if same_format image.format U8 then None else Some InvalidFormat) (Text (pgm_text (picture_of image))) c
+read_text_from (Ok image) c =
+    reply_unless (if same_format image.format U8 then None else Some InvalidFormat)
+    (Text (pgm_text (picture_of image))) c
 
 -- ReadImagePgm: the samples of a U8 image as a PGM text
 abbrev pub read_text : Context → Reference → Outcome
@@ -119,13 +140,15 @@ read_text c cell = read_text_from (image_of c.objects cell) c
 
 -- why a rectangle can't be the valid rectangle of an image: it goes beyond the image
 abbrev pub valid_refusal : Description → Rectangle → Option Refusal
-valid_refusal image valid = if nat_le valid.x1 image.width && nat_le valid.y1 image.height then None else Some InvalidValue
+valid_refusal image valid =
+    if nat_le valid.x1 image.width && nat_le valid.y1 image.height then None else Some InvalidValue
 
 -- the image with this valid rectangle, if the rectangle is within the image; or the refusal
 abbrev pub set_valid_of : Result ImageValue Refusal → Context → Reference → Rectangle → Outcome
 set_valid_of (Err refusal) c cell valid = Err refusal
 set_valid_of (Ok image) c cell valid =
-    reply_unless (valid_refusal (description_of image) valid) Empty (with_objects c (with_object c.objects cell (ImageObject (with_valid valid image))))
+    reply_unless (valid_refusal (description_of image) valid) Empty
+    (with_objects c (with_object c.objects cell (ImageObject (with_valid valid image))))
 
 -- SetValid: the image with this valid rectangle, and with samples of 0 outside the rectangle
 abbrev pub set_valid : Context → Reference → Rectangle → Outcome

@@ -31,7 +31,15 @@ operand_if objects cell = option_and_then (operand_in objects) cell
 -- the operands of a node, if its first input exists
 abbrev pub operands_in : List NamedObject → Node → Option Operands
 operands_in objects n =
-    option_map (λ in1. record { in1 = in1; in2 = operand_if objects n.in2; out1 = operand_if objects n.out1; out2 = operand_if objects n.out2 }) (operand_in objects n.in1)
+    option_map
+    (λ in1. record {
+      in1 = in1;
+      in2 = operand_if objects n.in2;
+      out1 = operand_if objects n.out1;
+      out2 =
+          operand_if objects n.out2;
+    })
+    (operand_in objects n.in1)
 
 -- whether an object is a virtual image
 abbrev pub is_some_virtual : Option ObjectValue → Bool
@@ -41,7 +49,8 @@ is_some_virtual None = false
 -- the refusal of an immediate node that names a virtual image
 abbrev pub away_refusal : List NamedObject → Node → Option Refusal
 away_refusal objects n =
-    if list_any (λ operand. is_some_virtual (object_at objects operand.0)) (operands n) then Some OptimizedAway else None
+    if list_any (λ operand. is_some_virtual (object_at objects operand.0)) (operands n) then
+    Some OptimizedAway else None
 
 -- why an immediate node can't run: a refusal of its operands, or else a virtual image among them,
 -- or else the verdict on the node
@@ -53,4 +62,6 @@ node_refusal objects n =
 
 -- Immediate: the node's outputs are written
 abbrev pub immediate : Context → Node → Outcome
-immediate c n = reply_unless (node_refusal c.objects n) Empty (with_objects c (with_written c.objects (written_by n (object_at c.objects))))
+immediate c n =
+    reply_unless (node_refusal c.objects n) Empty
+    (with_objects c (with_written c.objects (written_by n (object_at c.objects))))

@@ -12,7 +12,8 @@ is_limit n = nat_le 1 n && nat_le n 1099511627776
 
 -- the limits with this quota and this limit on work bytes, if each is 1 to 2^40
 abbrev pub limits_from : ℕ → ℕ → Option LimitsValue
-limits_from quota work = if is_limit quota && is_limit work then Some (record { quota = quota; work = work }) else None
+limits_from quota work =
+    if is_limit quota && is_limit work then Some (record { quota = quota; work = work }) else None
 
 -- the default limits: 2^28 bytes each
 abbrev pub default_limits : LimitsValue

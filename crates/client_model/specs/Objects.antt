@@ -9,4 +9,8 @@ use Rattle.client_model.specs.Refusal.{Outcome}
 -- Release: the name is no longer live, and no later object gets it; objects that are then no longer
 -- held are dropped
 abbrev pub release : Context → ℕ → Outcome
-release c name = if is_none (object_named c.objects name) then Err InvalidReference else Ok (Empty, Some (with_objects c (still_held (without_name c.objects name))))
+release c name =
+    if is_none (object_named c.objects name) then Err InvalidReference else Ok (
+      Empty,
+      Some (with_objects c (still_held (without_name c.objects name))),
+    )

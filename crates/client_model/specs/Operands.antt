@@ -59,7 +59,9 @@ operands_refusal scope objects operands =
     if list_any (λ operand. is_unknown objects operand.0) operands then Some InvalidReference
     else (if list_any (is_of_other_kind objects) operands then Some InvalidType
     else (if list_any (λ operand. is_beyond scope objects operand.0) operands then Some InvalidScope
-    else (if list_any (λ operand. holds_nothing objects operand.0) operands then Some InvalidValue else None)))
+    else
+    (if list_any (λ operand. holds_nothing objects operand.0) operands then Some InvalidValue
+    else None)))
 
 -- an object as an image; or the refusal of a virtual image, or of a slot that doesn't exist
 abbrev pub as_image : Option ObjectValue → Result ImageValue Refusal
@@ -71,4 +73,6 @@ as_image other = Err InvalidValue
 abbrev pub image_of : List NamedObject → Reference → Result ImageValue Refusal
 image_of objects cell =
     if is_unknown objects cell then Err InvalidReference
-    else (if is_of_other_kind objects (cell, kind.Image) then Err InvalidType else as_image (object_at objects cell))
+    else
+    (if is_of_other_kind objects (cell, kind.Image) then Err InvalidType else as_image
+    (object_at objects cell))

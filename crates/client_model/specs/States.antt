@@ -29,12 +29,16 @@ kind_held objects cell = option_and_then (slot_kind cell.slot) (object_held obje
 abbrev pub holds_operand : List NamedObject → ℕ → Reference × Kind → Bool
 holds_operand objects graph operand =
     is_kind operand.1 (kind_held objects operand.0)
-    && (not (is_of_other_graph graph (object_in_cell objects operand.0)) && not (holds_nothing objects operand.0))
+    &&
+    (not (is_of_other_graph graph (object_in_cell objects operand.0)) && not
+    (holds_nothing objects operand.0))
 
 -- each reference in a graph's nodes still names an operand of the expected kind, in the graph's
 -- scope
 abbrev pub NodesStand : List NamedObject → NamedObject → Type 0
-NodesStand objects o = All (λ n. All (λ operand. IsTrue (holds_operand objects o.name operand)) (operands n)) (nodes_in o.object)
+NodesStand objects o =
+    All (λ n. All (λ operand. IsTrue (holds_operand objects o.name operand)) (operands n))
+    (nodes_in o.object)
 
 -- The invariant of a context. Objects are valid. Their names ascend and are below the next name,
 -- which is at most 2^32. Each object is held, and nodes find their operands. There are at most
@@ -52,13 +56,15 @@ pub record KeepsLimits (limits : LimitsValue) (c : Context) : Type 0 where
 -- a client's state after these requests of its own
 abbrev pub state_after : LimitsValue → State → List Request → State
 state_after limits state [] = state
-state_after limits state (request ∷ requests) = state_after limits (answer_to limits state request).1 requests
+state_after limits state (request ∷ requests) =
+    state_after limits (answer_to limits state request).1 requests
 
 -- ---- what requests don't change
 
 -- `c` is a client's context, for which the invariant holds, and `later` is the context after these
 -- requests of the client. None of the requests is ReleaseContext.
-pub record IsLater (limits : LimitsValue) (c : Context) (requests : List Request) (later : Context) : Type 0 where
+pub record IsLater (limits : LimitsValue) (c : Context) (requests : List Request)
+    (later : Context) : Type 0 where
   pub keeps : KeepsLimits limits c
   pub are : All IsRequest requests
   pub unreleased : All (λ request. request ≢ ReleaseContext) requests
@@ -66,8 +72,15 @@ pub record IsLater (limits : LimitsValue) (c : Context) (requests : List Request
 
 -- if an object is held under this name in `after`, it is also held in `before`, and this part of it
 -- is the same in both
-abbrev pub Stays : {X : Type 0} → (ObjectValue → X) → List NamedObject → List NamedObject → ℕ → Type 0
-Stays part before after name = IfSome (object_held after name) (λ object. option_map part (object_held before name) ≡ Some (part object))
+abbrev pub Stays : {X : Type 0}
+    → (ObjectValue → X)
+    → List NamedObject
+    → List NamedObject
+    → ℕ
+    → Type 0
+Stays part before after name =
+    IfSome (object_held after name)
+    (λ object. option_map part (object_held before name) ≡ Some (part object))
 
 -- whether a request, unless it is refused, changes the nodes of the graph with this name
 abbrev pub changes_nodes : Request → ℕ → Bool

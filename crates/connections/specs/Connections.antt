@@ -25,14 +25,18 @@ clients_of v connection = unwrap_or (lookup (is_at (nat_cmp connection)) v.conne
 
 -- the states of a connection's clients; the numbers of clients are the connection's own
 abbrev pub states_in : ConnectionsValue → ℕ → ℕ → State
-states_in v connection client = unwrap_or (lookup (is_at (nat_cmp client)) (clients_of v connection)) None
+states_in v connection client =
+    unwrap_or (lookup (is_at (nat_cmp client)) (clients_of v connection)) None
 
 -- the limits are as before; each other connection is open if it was open, and its clients' states
 -- are as before
 pub record LeavesOthers (connection : ℕ) (old new : ConnectionsValue) : Type 0 where
   pub limits : new.limits ≡ old.limits
   pub still_open : (other : ℕ) → other ≢ connection → is_open new other ≡ is_open old other
-  pub states : (other : ℕ) → other ≢ connection → (client : ℕ) → states_in new other client ≡ states_in old other client
+  pub states : (other : ℕ)
+      → other ≢ connection
+      → (client : ℕ)
+      → states_in new other client ≡ states_in old other client
 
 -- a connection with a new number was opened; none of its clients has a context
 pub record Connects (connection : ℕ) (old new : ConnectionsValue) : Type 0 where
@@ -53,8 +57,11 @@ pub record StaysOpen (connection : ℕ) (old new : ConnectionsValue) : Type 0 wh
 
 -- a frame of an open connection was received, and was answered as a server of its own would answer
 -- it; the frame was lost only if `MayBeLost` allows it
-pub record Answers (connection : ℕ) (m : ReceivedFrame) (reply : ReplyFrame) (old new : ConnectionsValue) : Type 0 where
+pub record Answers (connection : ℕ) (m : ReceivedFrame) (reply : ReplyFrame)
+    (old new : ConnectionsValue) : Type 0 where
   pub stays : StaysOpen connection old new
   pub may : m.lost ≡ true → MayBeLost m.frame
-  pub states : (client : ℕ) → states_in new connection client ≡ state_then (answer old.limits) (states_in old connection) m client
+  pub states : (client : ℕ)
+      → states_in new connection client
+      ≡ state_then (answer old.limits) (states_in old connection) m client
   pub said : reply ≡ reply_in (answer old.limits) (states_in old connection) m

@@ -11,7 +11,11 @@ use Rattle.connections.specs.declared.numbers.Numbers.{Numbers}
 
 -- the numbers of a connection's clients
 abbrev pub numbers_of : Numbers → ℕ → List (ℕ × ℕ)
-numbers_of n connection = unwrap_or (option_map (λ (clients : BTreeMap ℕ ℕ). clients.entries) (lookup (is_at (nat_cmp connection)) n.connections.entries)) []
+numbers_of n connection =
+    unwrap_or
+    (option_map (λ (clients : BTreeMap ℕ ℕ). clients.entries)
+    (lookup (is_at (nat_cmp connection)) n.connections.entries))
+    []
 
 -- the number of a connection's client, if it has one
 abbrev pub number_in : Numbers → ℕ → ℕ → Option ℕ
@@ -27,12 +31,15 @@ has_connection n connection = is_some (lookup (is_at (nat_cmp connection)) n.con
 
 -- the same connections are open
 abbrev pub HasSameConnections : (old new : Numbers) → Type 0
-HasSameConnections old new = (connection : ℕ) → has_connection new connection ≡ has_connection old connection
+HasSameConnections old new =
+    (connection : ℕ) → has_connection new connection ≡ has_connection old connection
 
 -- this connection is open now, or is not open; no other connection, and no number, is changed
 pub record SetsOpen (connection : ℕ) (opened : Bool) (old new : Numbers) : Type 0 where
   pub own : has_connection new connection ≡ opened
-  pub others : (other : ℕ) → other ≢ connection → has_connection new other ≡ has_connection old other
+  pub others : (other : ℕ)
+      → other ≢ connection
+      → has_connection new other ≡ has_connection old other
   pub numbers : (c k : ℕ) → number_in new c k ≡ number_in old c k
   pub spare : new.spare ≡ old.spare
 
@@ -46,12 +53,18 @@ pub record Assigns (connection client : ℕ) (number : Option ℕ) (old new : Nu
   pub others : (d j : ℕ) → AreTwo connection client d j → number_in new d j ≡ number_in old d j
   pub connections : HasSameConnections old new
 
--- exactly the clients that have a number have a context, each under its own number; the spare number
+-- exactly the clients that have a number have a context, each under its own number; the spare
+-- number
 -- has no context
 pub record IsNumbering (n : Numbers) (world : World) : Type 0 where
   pub has_context : (c k i : ℕ) → number_in n c k ≡ Some i → IsSome (state_of i world)
-  pub one_client : (c k d j i : ℕ) → number_in n c k ≡ Some i → number_in n d j ≡ Some i → (d ≡ c) × (j ≡ k)
-  pub has_client : (i : ℕ) → IsSome (state_of i world) → (c : ℕ) × (k : ℕ) × (number_in n c k ≡ Some i)
+  pub one_client : (c k d j i : ℕ)
+      → number_in n c k ≡ Some i
+      → number_in n d j ≡ Some i
+      → (d ≡ c) × (j ≡ k)
+  pub has_client : (i : ℕ)
+      → IsSome (state_of i world)
+      → (c : ℕ) × (k : ℕ) × (number_in n c k ≡ Some i)
   pub spare : state_of n.spare world ≡ None
 
 -- only the state under this number may be another
@@ -66,21 +79,33 @@ pub record Releases (number : ℕ) (old new : World) : Type 0 where
 
 -- a client has this number if it has a context under it, and else it has none; no other client, and
 -- no other state, is changed
-pub record Renumbers (connection client number : ℕ) (old new : Numbers) (before after : World) : Type 0 where
-  pub numbers : Assigns connection client (if is_some (state_of number after) then Some number else None) old new
+pub record Renumbers (connection client number : ℕ) (old new : Numbers) (before after : World) :
+    Type 0 where
+  pub numbers :
+      Assigns connection client (if is_some (state_of number after) then Some number else None)
+      old new
   pub spare : state_of new.spare after ≡ None
   pub others : LeavesOtherNumbers number before after
 
--- the numbers are up to date after a frame; if there is no memory for a new number, the context that
+-- the numbers are up to date after a frame; if there is no memory for a new number, the context
+-- that
 -- the frame opened was released
-pub record Settles (connection client number : ℕ) (old new : Numbers) (before after : World) (result : Result ⊤ NoMemory) : Type 0 where
+pub record Settles (connection client number : ℕ) (old new : Numbers) (before after : World)
+    (result : Result ⊤ NoMemory) : Type 0 where
   pub renumbers : Renumbers connection client number old new before after
   pub ok : OnOk result (state_of number after ≡ state_of number before)
-  pub err : OnErr result ((state_of number after ≡ None) × IsSome (state_of number before) × (number_in old connection client ≡ None))
+  pub err :
+      OnErr result
+      ((state_of number after ≡ None)
+      × IsSome (state_of number before)
+      × (number_in old connection client ≡ None))
 
 -- the connections as callers see them
 abbrev pub connections_view : World → Numbers → ConnectionsValue
 connections_view world n = record {
   limits = world.limits;
-  connections = map (λ (e : ℕ × BTreeMap ℕ ℕ). (e.0, map (λ (p : ℕ × ℕ). (p.0, state_of p.1 world)) e.1.entries)) n.connections.entries;
+  connections =
+      map
+      (λ (e : ℕ × BTreeMap ℕ ℕ). (e.0, map (λ (p : ℕ × ℕ). (p.0, state_of p.1 world)) e.1.entries))
+      n.connections.entries;
 }

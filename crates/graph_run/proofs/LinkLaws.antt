@@ -16,14 +16,26 @@ In-from_All P xs h x i = let r = Contains-from_In x xs i in subst P r.2 (h r.0 x
 
 -- a node reads its inputs
 pub reads_first : (n : Node) → reads n n.in1 ≡ true
-reads_first n = or_left (same_reference n.in1 n.in1) (list_any (same_reference n.in1) (optional_cells n.in2)) (same_cell-refl n.in1)
+reads_first n =
+    or_left (same_reference n.in1 n.in1)
+    (list_any (same_reference n.in1) (optional_cells n.in2)) (same_cell-refl n.in1)
 
 pub reads_second : (n : Node) (c : Reference) → n.in2 ≡ Some c → reads n c ≡ true
 reads_second n c e = grind (arith, or_right, or_left, same_cell-refl)
 
 -- a cell that no node of the list writes
-pub unwritten : (nodes : List Node) (c : Reference) → is_written nodes c ≡ false → (n : Node) → In n nodes → writes n c ≡ false
-unwritten nodes c h n i = false_from_ne_true (writes n c) (λ w. let k = any-from_In (λ m. writes m c) n nodes i w in cc)
+pub unwritten : (nodes : List Node) (c : Reference)
+    → is_written nodes c ≡ false
+    → (n : Node)
+    → In n nodes
+    → writes n c ≡ false
+unwritten nodes c h n i =
+    false_from_ne_true (writes n c) (λ w. let k = any-from_In (λ m. writes m c) n nodes i w in cc)
 
-pub is_unwritten : (nodes : List Node) (c : Reference) → ((n : Node) → In n nodes → writes n c ≡ false) → is_written nodes c ≡ false
-is_unwritten nodes c h = false_from_ne_true (is_written nodes c) (λ w. let r = In-from_any (λ m. writes m c) nodes w in let none = h r.0 r.1 in let some = r.2 in cc)
+pub is_unwritten : (nodes : List Node) (c : Reference)
+    → ((n : Node) → In n nodes → writes n c ≡ false)
+    → is_written nodes c ≡ false
+is_unwritten nodes c h =
+    false_from_ne_true (is_written nodes c)
+    (λ w. let r = In-from_any (λ m. writes m c) nodes w in let none = h r.0 r.1 in let some =
+    r.2 in cc)

@@ -29,7 +29,9 @@ module _ {objects : List NamedObject} {v : Verified} {s : Schedule} (g : CanRunB
   planned = planned_slots v.steps outs g.slots g.plan
 
   slot_below : (o : VirtualOutput) → In o outs → slot_index_of g.slots o < slots
-  slot_below o i = let h = has_slot v.steps outs g.slots planned o i in let at = home_at v.steps outs g.slots planned o h in grind (arith, h, at)
+  slot_below o i =
+      let h = has_slot v.steps outs g.slots planned o i in
+      let at = home_at v.steps outs g.slots planned o h in grind (arith, h, at)
 
   -- ---- virtual images
 
@@ -41,10 +43,16 @@ module _ {objects : List NamedObject} {v : Verified} {s : Schedule} (g : CanRunB
 
   pub virtual_found : (c : Reference) → In c (virtual g) → IsVirtual c
   virtual_found c i = elim (find_cases (λ (o : VirtualOutput). same_reference o.cell c) outs) [
-    | inl found ↦ record { image = found.0; inside = found.2; cell = same_cell-true found.0.cell c found.3; found = found.1 }
+    | inl found ↦ record {
+      image = found.0;
+      inside = found.2;
+      cell = same_cell-true found.0.cell c found.3;
+      found = found.1;
+    }
     | inr none ↦
         let o = In-from_map (λ (o : VirtualOutput). o.cell) c outs i in
-        let absent : same_reference c c ≡ false = ap (λ (d : Reference). same_reference d c) o.2 ∙ none.1 o.0 o.1 in
+        let absent : same_reference c c ≡ false =
+        ap (λ (d : Reference). same_reference d c) o.2 ∙ none.1 o.0 o.1 in
         absurd (let here = same_cell-refl c in cc)
   ]
 
@@ -52,9 +60,11 @@ module _ {objects : List NamedObject} {v : Verified} {s : Schedule} (g : CanRunB
   virtual_plane c i = rw i.found refl
 
   pub virtual_below : (c : Reference) → In c (virtual g) → plane_at c < slots
-  virtual_below c i = let f = virtual_found c i in rw (virtual_plane c f) (slot_below f.image f.inside)
+  virtual_below c i =
+      let f = virtual_found c i in rw (virtual_plane c f) (slot_below f.image f.inside)
 
-  pub virtual_desc : (c : Reference) (i : IsVirtual c) → virtual_description outs c ≡ Some i.image.desc
+  pub virtual_desc : (c : Reference) (i : IsVirtual c)
+      → virtual_description outs c ≡ Some i.image.desc
   virtual_desc c i = ap (option_map (λ (o : VirtualOutput). o.desc)) i.found
 
   -- ---- the client's images
@@ -63,7 +73,9 @@ module _ {objects : List NamedObject} {v : Verified} {s : Schedule} (g : CanRunB
   client_none c i = elim (find_cases (λ (o : VirtualOutput). same_reference o.cell c) outs) [
     | inl found ↦
         let same = same_cell-true found.0.cell c found.3 in
-        absurd (client_outside g c i (subst (λ (d : Reference). In d (virtual g)) same (in_virtual found.0 found.2)))
+        absurd
+        (client_outside g c i
+        (subst (λ (d : Reference). In d (virtual g)) same (in_virtual found.0 found.2)))
     | inr none ↦ none.0
   ]
     where
@@ -80,7 +92,8 @@ module _ {objects : List NamedObject} {v : Verified} {s : Schedule} (g : CanRunB
   client_from c i = let at = client_at c i in omega arith
 
   pub client_below : (c : Reference) → In c (clients g) → plane_at c < slots + length (clients g)
-  client_below c i = let at = client_at c i in let below = index_below (clients g) c i in omega arith
+  client_below c i =
+      let at = client_at c i in let below = index_below (clients g) c i in omega arith
 
   pub plane_below : (c : Reference) → In c (cells g) → plane_at c < slots + length (clients g)
   plane_below c i = elim (virtual_or g c i) [
@@ -91,31 +104,52 @@ module _ {objects : List NamedObject} {v : Verified} {s : Schedule} (g : CanRunB
   -- ---- images with one plane
 
   -- a client's image shares its plane with no other
-  pub client_alone : (c d : Reference) → In c (cells g) → In d (clients g) → plane_at c ≡ plane_at d → c ≡ d
+  pub client_alone : (c d : Reference)
+      → In c (cells g)
+      → In d (clients g)
+      → plane_at c ≡ plane_at d
+      → c ≡ d
   client_alone c d i j same = elim (virtual_or g c i) [
     | inl k ↦ absurd (let low = virtual_below c k in let from = client_from d j in omega arith)
     | inr k ↦ elim (same_or_not c d) [
       | inl e ↦ e
-      | inr other ↦ absurd (indices_differ (clients g) c d k j other (let a = client_at c k in let b = client_at d j in omega arith))
+      | inr other ↦
+          absurd
+          (indices_differ (clients g) c d k j other
+          (let a = client_at c k in let b = client_at d j in omega arith))
     ]
   ]
     where
       same_or_not : (a b : Reference) → (a ≡ b) ⊎ (a ≢ b)
       same_or_not a b = elim (cases_Bool (same_reference a b)) [
         | inl e ↦ inl (same_cell-true a b e)
-        | inr e ↦ inr (λ same. let here = same_cell-refl b in let absent = ap (λ (x : Reference). same_reference x b) (sym same) ∙ e in cc)
+        | inr e ↦
+            inr
+            (λ same. let here = same_cell-refl b in let absent = ap
+            (λ (x : Reference). same_reference x b) (sym same) ∙ e in cc)
       ]
 
   -- a node that writes one virtual image of a slot leaves no other in use
-  pub virtual_alone : (before after : List Node) (n : Node) → v.steps ≡ before ++ n ∷ after → (c d : Reference) → In c (virtual g) → In d (virtual g) → In c (outputs n)
-      → (is_written before d || writes n d) ≡ true → is_node_operand (n ∷ after) d ≡ true → plane_at d ≡ plane_at c → d ≡ c
+  pub virtual_alone : (before after : List Node) (n : Node)
+      → v.steps ≡ before ++ n ∷ after
+      → (c d : Reference)
+      → In c (virtual g)
+      → In d (virtual g)
+      → In c (outputs n)
+      → (is_written before d || writes n d) ≡ true
+      → is_node_operand (n ∷ after) d ≡ true
+      → plane_at d ≡ plane_at c
+      → d ≡ c
   virtual_alone before after n parts c d i j output written used same =
       let a = virtual_found c i in
       let b = virtual_found d j in
-      let one_slot : slot_index_of g.slots b.image ≡ slot_index_of g.slots a.image = sym (virtual_plane d b) ∙ same ∙ virtual_plane c a in
+      let one_slot : slot_index_of g.slots b.image ≡ slot_index_of g.slots a.image =
+      sym (virtual_plane d b) ∙ same ∙ virtual_plane c a in
       let home = one_home v.steps outs g.slots planned b.image a.image b.inside a.inside one_slot in
       let one : b.image ≡ a.image =
-      one_when_taken before after n outs g.slots.slot_of (subst (λ (l : List Node). IsValid l outs g.slots.slot_of) parts g.plan.valid) a.image b.image a.inside b.inside home.0
+      one_when_taken before after n outs g.slots.slot_of
+      (subst (λ (l : List Node). IsValid l outs g.slots.slot_of) parts g.plan.valid) a.image
+      b.image a.inside b.inside home.0
       (ap (writes n) a.cell ∙ same-from_In c (outputs n) output)
       (ap (λ (x : Reference). is_written before x || writes n x) b.cell ∙ written)
       (ap (is_node_operand (n ∷ after)) b.cell ∙ used) home.1 in

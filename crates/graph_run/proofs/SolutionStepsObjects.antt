@@ -33,30 +33,45 @@ use Rattle.graph_run.proofs.VerifiedLemmas.{named_by_output, pairs_of}
 tally_plain : (t : Tally) → is_delay (tally_object t) ≡ false
 tally_plain t = grind arith
 
-some_kind : (o : Option ObjectValue) (k : Kind) → option_map object_kind o ≡ Some k → (x : ObjectValue) × (o ≡ Some x) × (object_kind x ≡ k)
+some_kind : (o : Option ObjectValue) (k : Kind)
+    → option_map object_kind o ≡ Some k
+    → (x : ObjectValue) × (o ≡ Some x) × (object_kind x ≡ k)
 some_kind o k e = grind arith
 
 -- the new tally of a node is that of the object that it writes
-own_tally : (objects : List NamedObject) (n : Node) (c : Reference) (old : ObjectValue) (new : Tally) → n.out1 ≡ Some c → object_at objects c ≡ Some old → object_kind old ≡ (parameters n.function).output
+own_tally :
+    (objects : List NamedObject) (n : Node) (c : Reference) (old : ObjectValue) (new : Tally)
+    → n.out1 ≡ Some c
+    → object_at objects c ≡ Some old
+    → object_kind old ≡ (parameters n.function).output
     → node_tallies objects n ≡ new ∷ [] → tally_by (object_kind old) old ≡ new ∷ []
 own_tally objects n c old new out there is own = rw is (rw (out, there) at own)
 
 -- what a run leaves in the planes and the tallies
-pub record Leaves {objects : List NamedObject} {v : Verified} {s : Schedule} (g : CanRunBy objects v s) (after : List PlaneValue) (counted : List Tally) : Type 0 where
-  pub images : (c : Reference) → In c (clients g) → block_image (plane after (plane_at g c)) ≡ whole g c
-  pub planes : (c : Reference) → In c (clients g) → IsWhole (plane after (plane_at g c)) × ((plane after (plane_at g c)).desc ≡ description_of (image_held objects c))
+pub record Leaves {objects : List NamedObject} {v : Verified} {s : Schedule}
+    (g : CanRunBy objects v s) (after : List PlaneValue) (counted : List Tally) : Type 0 where
+  pub images : (c : Reference)
+      → In c (clients g)
+      → block_image (plane after (plane_at g c)) ≡ whole g c
+  pub planes : (c : Reference)
+      → In c (clients g)
+      → IsWhole (plane after (plane_at g c))
+      × ((plane after (plane_at g c)).desc ≡ description_of (image_held objects c))
   pub counts : Each (Counted g (tallies_of objects v.steps) counted) 0 v.steps
   pub planes_count : length after ≡ slots g + length (clients g)
   pub tallies_count : length counted ≡ length (tallies_of objects v.steps)
 
 module _ {objects : List NamedObject} {v : Verified} {s : Schedule} (g : CanRunBy objects v s) where
   -- the run leaves objects, and of each what lasts
-  pub run_lasts : Lasts objects (run_of_graph (resolved_operand (operand_held objects) g.nodes) g.nodes objects)
+  pub run_lasts :
+      Lasts objects (run_of_graph (resolved_operand (operand_held objects) g.nodes) g.nodes objects)
   run_lasts =
       let l = last_lasts g in
       record {
         objects = forgotten_are objects _ g.are l.objects;
-        lasting = forgotten_lasting (resolved_operand (operand_held objects) g.nodes) g.nodes objects _ l.lasting;
+        lasting =
+            forgotten_lasting (resolved_operand (operand_held objects) g.nodes) g.nodes objects
+            _ l.lasting;
       }
 
   module _ {after : List PlaneValue} {counted : List Tally} (leaves : Leaves g after counted) where
@@ -72,18 +87,28 @@ module _ {objects : List NamedObject} {v : Verified} {s : Schedule} (g : CanRunB
     -- the values written back are the result of the run, and not virtual images
     pub record IsLeft (w : Reference × ObjectValue) : Type 0 where
       pub left : object_at last w.0 ≡ Some w.1
-      pub real : (x : ObjectValue) → object_held objects w.0.name ≡ Some x → is_virtual_object x ≡ false
+      pub real : (x : ObjectValue)
+          → object_held objects w.0.name ≡ Some x
+          → is_virtual_object x ≡ false
       pub plain : is_delay w.1 ≡ false
 
     -- ---- images
 
     theirs_once : has_twice theirs ≡ false
-    theirs_once = once_after (virtual g) theirs (ap has_twice (sym (cells_parts v.steps v.virtual_outputs)) ∙ cells_once g)
+    theirs_once =
+        once_after (virtual g) theirs
+        (ap has_twice (sym (cells_parts v.steps v.virtual_outputs)) ∙ cells_once g)
 
-    pub theirs_at : (k : ℕ) (d : Reference) → k < length theirs → plane_at g (get_or theirs k d) ≡ slots g + k
-    theirs_at k d below = client_at g (get_or theirs k d) (In-at theirs k d below) ∙ ap (λ n. slots g + n) (index_at theirs k d theirs_once below)
+    pub theirs_at : (k : ℕ) (d : Reference)
+        → k < length theirs
+        → plane_at g (get_or theirs k d) ≡ slots g + k
+    theirs_at k d below =
+        client_at g (get_or theirs k d) (In-at theirs k d below)
+        ∙ ap (λ n. slots g + n) (index_at theirs k d theirs_once below)
 
-    image_left : (w : Reference × ObjectValue) → In w (plane_objects theirs (drop (slots g) after)) → IsLeft w
+    image_left : (w : Reference × ObjectValue)
+        → In w (plane_objects theirs (drop (slots g) after))
+        → IsLeft w
     image_left w i =
         let r = image_back theirs (drop (slots g) after) w i in
         let k : ℕ = r.0 in
@@ -91,10 +116,20 @@ module _ {objects : List NamedObject} {v : Verified} {s : Schedule} (g : CanRunB
         let inside : In c theirs = In-at theirs k w.0 r.1 in
         let among : In c (cells g) = client_there g c inside in
         let image : block_image (get_or (drop (slots g) after) k no_plane) ≡ image_held last c =
-        ap block_image (get_or-drop (slots g) after k no_plane) ∙ ap (λ n. block_image (plane after n)) (sym (theirs_at k w.0 r.1)) ∙ leaves.images c inside in
-        let is_w : w ≡ (c, ImageObject (image_held last c)) = r.2 ∙ ap (λ (a : ImageValue). let pair : Reference × ObjectValue = (c, ImageObject a) in pair) image in
+        ap block_image (get_or-drop (slots g) after k no_plane)
+        ∙ ap (λ n. block_image (plane after n)) (sym (theirs_at k w.0 r.1))
+        ∙ leaves.images c inside in
+        let is_w : w ≡ (c, ImageObject (image_held last c)) =
+        r.2
+        ∙ ap
+        (λ (a : ImageValue). let pair : Reference × ObjectValue = (c, ImageObject a) in pair)
+        image in
         subst IsLeft (sym is_w)
-        (record { left = ends_held g c among; real = image_real objects c (client_image g c inside); plain = refl })
+        (record {
+          left = ends_held g c among;
+          real = image_real objects c (client_image g c inside);
+          plain = refl;
+        })
 
     -- ---- tallies
 
@@ -106,21 +141,30 @@ module _ {objects : List NamedObject} {v : Verified} {s : Schedule} (g : CanRunB
       pub cell : Reference
       pub out : node.out1 ≡ Some cell
       pub at : (d : Reference) → get_or (tally_cells v.steps) place d ≡ cell
-      pub real : (x : ObjectValue) → object_held objects cell.name ≡ Some x → is_virtual_object x ≡ false
+      pub real : (x : ObjectValue)
+          → object_held objects cell.name ≡ Some x
+          → is_virtual_object x ≡ false
       pub old : ObjectValue
       pub held_before : object_at objects cell ≡ Some old
       pub kind_is : object_kind old ≡ (parameters node.function).output
       pub own : tally_by (object_kind old) old ≡ tally_at (tallies_of objects v.steps) place ∷ []
-      pub tallied : tally_at counted place ≡ tally_of (image_held last node.in1) (tally_at (tallies_of objects v.steps) place)
+      pub tallied :
+          tally_at counted place
+          ≡ tally_of (image_held last node.in1) (tally_at (tallies_of objects v.steps) place)
 
     -- each node's tally is new, and counted from it
     abbrev OwnAndCounted : ℕ → Node → Type 0
-    OwnAndCounted k n = (node_tallies objects n ≡ tally_at (tallies_of objects v.steps) k ∷ []) × Counted g (tallies_of objects v.steps) counted k n
+    OwnAndCounted k n =
+        (node_tallies objects n ≡ tally_at (tallies_of objects v.steps) k ∷ [])
+        × Counted g (tallies_of objects v.steps) counted k n
 
     both_each : Each OwnAndCounted 0 v.steps
     both_each =
-        each_both (λ k n. node_tallies objects n ≡ tally_at (tallies_of objects v.steps) k ∷ []) (Counted g (tallies_of objects v.steps) counted) 0 v.steps
-        (each_tally (λ k n. node_tallies objects n ≡ tally_at (tallies_of objects v.steps) k ∷ []) objects v.steps [] (tallies_of objects v.steps) refl
+        each_both (λ k n. node_tallies objects n ≡ tally_at (tallies_of objects v.steps) k ∷ [])
+        (Counted g (tallies_of objects v.steps) counted) 0 v.steps
+        (each_tally
+        (λ k n. node_tallies objects n ≡ tally_at (tallies_of objects v.steps) k ∷ []) objects
+        v.steps [] (tallies_of objects v.steps) refl
         (λ n k x i other own below at. own ∙ ap (λ (y : Tally). y ∷ []) (sym at)))
         leaves.counts
 
@@ -149,21 +193,42 @@ module _ {objects : List NamedObject} {v : Verified} {s : Schedule} (g : CanRunB
           tallied = holds.1;
         }
 
-    tally_left : (w : Reference × ObjectValue) → In w (tally_objects (tally_cells v.steps) counted) → IsLeft w
+    tally_left : (w : Reference × ObjectValue)
+        → In w (tally_objects (tally_cells v.steps) counted)
+        → IsLeft w
     tally_left w i =
         let back = tally_back (tally_cells v.steps) counted w i in
         let r : IsTallied back.0 = tally_facts back.0 back.1 in
         let n : Node = r.node in
         let read = ends_held g n.in1 (cell_there g n r.inside n.in1 (inl refl)) in
-        let made : Reference × ObjectValue = (r.cell, node_output n First (ImageObject (image_held last n.in1)) (option_and_then (object_at last) n.in2) r.old) in
-        let holds : object_at last r.cell ≡ Some made.1 = holds_output g n r.inside First r.cell (ImageObject (image_held last n.in1)) r.old r.out read (first_real g r.cell r.real ∙ r.held_before) in
+        let made : Reference × ObjectValue = (
+          r.cell,
+          node_output n First (ImageObject (image_held last n.in1))
+              (option_and_then (object_at last) n.in2) r.old,
+        ) in
+        let holds : object_at last r.cell ≡ Some made.1 =
+        holds_output g n r.inside First r.cell (ImageObject (image_held last n.in1)) r.old r.out
+        read (first_real g r.cell r.real ∙ r.held_before) in
         let counted_as : made.1 ≡ tally_object (tally_at counted back.0) =
-        tally_output n First (image_held last n.in1) (option_and_then (object_at last) n.in2) r.old (tally_at (tallies_of objects v.steps) back.0)
-        (subst (λ (k : Kind). (k ≡ kind.Distribution) ⊎ (k ≡ kind.Extremes)) (sym r.kind_is) (counted_kind n.function r.other)) r.own
+        tally_output n First (image_held last n.in1) (option_and_then (object_at last) n.in2)
+        r.old (tally_at (tallies_of objects v.steps) back.0)
+        (subst (λ (k : Kind). (k ≡ kind.Distribution) ⊎ (k ≡ kind.Extremes)) (sym r.kind_is)
+        (counted_kind n.function r.other))
+        r.own
         ∙ ap tally_object (sym r.tallied) in
-        let is_w : w ≡ (r.cell, tally_object (tally_at counted back.0)) = back.2 ∙ ap (λ (x : Reference). let pair : Reference × ObjectValue = (x, tally_object (tally_at counted back.0)) in pair) (r.at w.0) in
+        let is_w : w ≡ (r.cell, tally_object (tally_at counted back.0)) =
+        back.2
+        ∙ ap
+        (λ (x : Reference). let pair : Reference
+        × ObjectValue = (x, tally_object (tally_at counted back.0)) in pair)
+        (r.at w.0) in
         subst IsLeft (sym is_w)
-        (record { left = holds ∙ ap (λ (x : ObjectValue). Some x) counted_as; real = r.real; plain = tally_plain (tally_at counted back.0) })
+        (record {
+          left = holds ∙ ap (λ (x : ObjectValue). Some x) counted_as;
+          real = r.real;
+          plain =
+              tally_plain (tally_at counted back.0);
+        })
 
     -- ---- all that is written back
 
@@ -191,42 +256,62 @@ module _ {objects : List NamedObject} {v : Verified} {s : Schedule} (g : CanRunB
         }
 
     -- a virtual image that a node writes is one as an object
-    virtual_object : (c : Reference) → In c (virtual g) → ((x : ObjectValue) → object_held objects c.name ≡ Some x → is_virtual_object x ≡ false) → ⊥
+    virtual_object : (c : Reference)
+        → In c (virtual g)
+        → ((x : ObjectValue) → object_held objects c.name ≡ Some x → is_virtual_object x ≡ false)
+        → ⊥
     virtual_object c i real =
         let n = virtual_by g c i in
         let found = g.ready.cells.found n.0 c (in_nodes g n.0 n.1) (named_by_output n.0 c n.2) in
         let partial_desc = declared_of_virtual (is g c) (virtual_is g c i) in
         no_virtual (object_held objects c.name) partial_desc.0 found partial_desc.1 real
       where
-        no_virtual : (o : Option ObjectValue) (declared : PartialDescription) → option_map operand_of (option_and_then (in_slot c.slot) o) ≡ Some (operand_held objects c) → operand_held objects c ≡ Virtual declared
+        no_virtual : (o : Option ObjectValue) (declared : PartialDescription)
+            → option_map operand_of (option_and_then (in_slot c.slot) o)
+            ≡ Some (operand_held objects c)
+            → operand_held objects c ≡ Virtual declared
             → ((x : ObjectValue) → o ≡ Some x → is_virtual_object x ≡ false) → ⊥
         no_virtual None declared found as_virtual plain = cc found
         no_virtual (Some x) declared found as_virtual plain =
-            let there = virtual_there c.slot x declared (found ∙ ap (λ (y : Operand). Some y) as_virtual) in
+            let there =
+            virtual_there c.slot x declared (found ∙ ap (λ (y : Operand). Some y) as_virtual) in
             let clash : true ≡ false = ap is_virtual_object (sym there.2) ∙ plain x refl in
             cc
 
     -- each cell that a node writes, and that is no virtual image, gets an object
-    comes : (n : Node) → In n v.steps → (c : Reference) → In c (outputs n) → ((x : ObjectValue) → object_held objects c.name ≡ Some x → is_virtual_object x ≡ false)
+    comes : (n : Node)
+        → In n v.steps
+        → (c : Reference)
+        → In c (outputs n)
+        → ((x : ObjectValue) → object_held objects c.name ≡ Some x → is_virtual_object x ≡ false)
         → (x : ObjectValue) × In (c, x) (images ++ tallies)
     comes n i c j real = elim (image_or (parameters n.function).output) [
       | inl image ↦ elim (virtual_or g c (cell_there g n i c (image_named n c image j))) [
         | inl old ↦ absurd (virtual_object c old real)
         | inr client ↦
-            (let enough : length theirs ≤ length (drop (slots g) after) = omega (arith, length-drop (slots g) after, leaves.planes_count) in
+            (let enough : length theirs ≤ length (drop (slots g) after) = omega
+            (arith, length-drop (slots g) after, leaves.planes_count) in
             let x = image_comes theirs (drop (slots g) after) c enough client in
             (x.0, In-left (c, x.0) images tallies x.1))
       ]
       | inr other ↦
           (let out = one_output n (is_node_of g n i).shape other in
-          let inside : In (unwrap_or n.out1 n.in1) (tally_cells v.steps) = tally_there v.steps n i other in
+          let inside : In (unwrap_or n.out1 n.in1) (tally_cells v.steps) =
+          tally_there v.steps n i other in
           let same : unwrap_or n.out1 n.in1 ≡ c = only_output n.out1 n.out2 out.0 out.1 out.2 j in
-          let enough : length (tally_cells v.steps) ≤ length counted = omega (arith, leaves.tallies_count, tally_count objects v.steps) in
-          let x = tally_comes (tally_cells v.steps) counted c enough (subst (λ (y : Reference). In y (tally_cells v.steps)) same inside) in
+          let enough : length (tally_cells v.steps) ≤ length counted =
+          omega (arith, leaves.tallies_count, tally_count objects v.steps) in
+          let x =
+          tally_comes (tally_cells v.steps) counted c enough
+          (subst (λ (y : Reference). In y (tally_cells v.steps)) same inside) in
           (x.0, In-right (c, x.0) images tallies x.1))
     ]
       where
-        only_output : (one two : Option Reference) (d : Reference) → one ≡ Some d → two ≡ None → In c (optional_cells one ++ optional_cells two) → unwrap_or one n.in1 ≡ c
+        only_output : (one two : Option Reference) (d : Reference)
+            → one ≡ Some d
+            → two ≡ None
+            → In c (optional_cells one ++ optional_cells two)
+            → unwrap_or one n.in1 ≡ c
         only_output one two d is_one no_two k = grind arith
 
     -- ---- each cell
@@ -234,24 +319,37 @@ module _ {objects : List NamedObject} {v : Verified} {s : Schedule} (g : CanRunB
     labels_end : map label_of objects ≡ map label_of last
     labels_end = sym (last_labels g)
 
-    forgotten_held : (c : Reference) → object_at (objects_at_end objects last) c ≡ option_and_then (in_slot c.slot) (kept_virtual (object_held objects c.name) (object_held last c.name))
-    forgotten_held c = ap (option_and_then (in_slot c.slot)) (object_held-forgotten objects last labels_end c.name)
+    forgotten_held : (c : Reference)
+        → object_at (objects_at_end objects last) c
+        ≡ option_and_then (in_slot c.slot)
+        (kept_virtual (object_held objects c.name) (object_held last c.name))
+    forgotten_held c =
+        ap (option_and_then (in_slot c.slot)) (object_held-forgotten objects last labels_end c.name)
 
     -- a virtual image is as it was
-    seen_virtual : (c : Reference) (x : ObjectValue) → object_held objects c.name ≡ Some x → is_virtual_object x ≡ true → seen (with_written objects (images ++ tallies)) c ≡ seen (objects_at_end objects last) c
+    seen_virtual : (c : Reference) (x : ObjectValue)
+        → object_held objects c.name ≡ Some x
+        → is_virtual_object x ≡ true
+        → seen (with_written objects (images ++ tallies)) c ≡ seen (objects_at_end objects last) c
     seen_virtual c x there virtual_one =
         let none : last_to c (images ++ tallies) ≡ None = last_none c (images ++ tallies) (λ w i e.
-        (let real = (all_left w i).real x (ap (λ (d : Reference). object_held objects d.name) (sym e) ∙ there) in
+        (let real = (all_left w i).real x
+        (ap (λ (d : Reference). object_held objects d.name) (sym e) ∙ there) in
         cc (virtual_one, real))) in
         let other = both_held objects last labels_end c.name x there in
-        let kept : kept_virtual (object_held objects c.name) (object_held last c.name) ≡ Some x = rw (there, other.1, virtual_one) refl in
+        let kept : kept_virtual (object_held objects c.name) (object_held last c.name) ≡ Some x =
+        rw (there, other.1, virtual_one) refl in
         seen-with_written (images ++ tallies) objects are_writes c
         ∙ ap (λ (o : Option ObjectValue). option_or (option_map shown o) (seen objects c)) none
-        ∙ ap (λ (o : Option ObjectValue). option_map shown (option_and_then (in_slot c.slot) o)) (there ∙ sym kept)
+        ∙ ap (λ (o : Option ObjectValue). option_map shown (option_and_then (in_slot c.slot) o))
+        (there ∙ sym kept)
         ∙ ap (option_map shown) (sym (forgotten_held c))
 
     -- objects that no node writes are as before, and all others were written back
-    untouched : (c : Reference) → ((x : ObjectValue) → object_held objects c.name ≡ Some x → is_virtual_object x ≡ false) → last_to c (images ++ tallies) ≡ None → seen objects c ≡ seen last c
+    untouched : (c : Reference)
+        → ((x : ObjectValue) → object_held objects c.name ≡ Some x → is_virtual_object x ≡ false)
+        → last_to c (images ++ tallies) ≡ None
+        → seen objects c ≡ seen last c
     untouched c real none = elim (cases_Bool (is_written g.nodes c)) [
       | inl w ↦
           (let n = In-from_any (λ (m : Node). writes m c) g.nodes w in
@@ -260,28 +358,46 @@ module _ {objects : List NamedObject} {v : Verified} {s : Schedule} (g : CanRunB
       | inr w ↦ ap (option_map shown) (sym (first_real g c real)) ∙ sym (unwritten_seen g c w)
     ]
 
-    seen_real : (c : Reference) → ((x : ObjectValue) → object_held objects c.name ≡ Some x → is_virtual_object x ≡ false) → seen (with_written objects (images ++ tallies)) c ≡ seen (objects_at_end objects last) c
+    seen_real : (c : Reference)
+        → ((x : ObjectValue) → object_held objects c.name ≡ Some x → is_virtual_object x ≡ false)
+        → seen (with_written objects (images ++ tallies)) c ≡ seen (objects_at_end objects last) c
     seen_real c real =
         seen-with_written (images ++ tallies) objects are_writes c
-        ∙ elim (last_known c (object_at last c) (images ++ tallies) (λ w i e. ap (object_at last) e ∙ (all_left w i).left)) [
-          | inl none ↦ ap (λ (o : Option ObjectValue). option_or (option_map shown o) (seen objects c)) none ∙ untouched c real none
-          | inr some ↦ ap (λ (o : Option ObjectValue). option_or (option_map shown o) (seen objects c)) some.1 ∙ ap (option_map shown) (sym some.2)
+        ∙ elim
+        (last_known c (object_at last c) (images ++ tallies)
+        (λ w i e. ap (object_at last) e ∙ (all_left w i).left)) [
+          | inl none ↦
+              ap (λ (o : Option ObjectValue). option_or (option_map shown o) (seen objects c)) none
+              ∙ untouched c real none
+          | inr some ↦
+              ap (λ (o : Option ObjectValue). option_or (option_map shown o) (seen objects c))
+              some.1
+              ∙ ap (option_map shown) (sym some.2)
         ]
-        ∙ ap (λ (o : Option ObjectValue). option_map shown (option_and_then (in_slot c.slot) o)) (sym (kept_real (object_held objects c.name) (object_held last c.name) real))
+        ∙ ap (λ (o : Option ObjectValue). option_map shown (option_and_then (in_slot c.slot) o))
+        (sym (kept_real (object_held objects c.name) (object_held last c.name) real))
         ∙ ap (option_map shown) (sym (forgotten_held c))
 
-    seen_same : (c : Reference) → seen (with_written objects (images ++ tallies)) c ≡ seen (objects_at_end objects last) c
+    seen_same : (c : Reference)
+        → seen (with_written objects (images ++ tallies)) c ≡ seen (objects_at_end objects last) c
     seen_same c = by_object (object_held objects c.name) refl
       where
-        by_object : (o : Option ObjectValue) → object_held objects c.name ≡ o → seen (with_written objects (images ++ tallies)) c ≡ seen (objects_at_end objects last) c
+        by_object : (o : Option ObjectValue)
+            → object_held objects c.name ≡ o
+            → seen (with_written objects (images ++ tallies)) c
+            ≡ seen (objects_at_end objects last) c
         by_object None e = seen_real c (λ x there. absurd (cc (e, there)))
         by_object (Some y) e = elim (cases_Bool (is_virtual_object y)) [
           | inl virtual_one ↦ seen_virtual c y e virtual_one
           | inr plain ↦ seen_real c (λ x there. grind (arith, e, there, plain))
         ]
 
-    pub returns : with_written objects (images ++ tallies) ≡ run_of_graph (resolved_operand (operand_held objects) g.nodes) g.nodes objects
+    pub returns :
+        with_written objects (images ++ tallies)
+        ≡ run_of_graph (resolved_operand (operand_held objects) g.nodes) g.nodes objects
     returns =
-        let kept : map label_of (with_written objects (images ++ tallies)) ≡ map label_of objects = labels-with_written (images ++ tallies) objects in
-        same_objects (with_written objects (images ++ tallies)) (objects_at_end objects last) (subst Rising (sym kept) (rising objects (pairs_of objects g.names)))
+        let kept : map label_of (with_written objects (images ++ tallies)) ≡ map label_of objects =
+        labels-with_written (images ++ tallies) objects in
+        same_objects (with_written objects (images ++ tallies)) (objects_at_end objects last)
+        (subst Rising (sym kept) (rising objects (pairs_of objects g.names)))
         (kept ∙ labels_end ∙ sym (labels-forgotten objects last labels_end)) seen_same

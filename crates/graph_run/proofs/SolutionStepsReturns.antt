@@ -16,75 +16,135 @@ use Rattle.graph_run.proofs.LinkLaws.{All-from_In, In-from_All}
 -- ---- lists of written values
 
 -- each reference gets the image of the plane at its index
-pub image_back : (cells : List Reference) (planes : List PlaneValue) (w : Reference × ObjectValue) → In w (plane_objects cells planes)
-    → (k : ℕ) × (k < length cells) × (w ≡ (get_or cells k w.0, ImageObject (block_image (get_or planes k no_plane))))
+pub image_back : (cells : List Reference) (planes : List PlaneValue) (w : Reference × ObjectValue)
+    → In w (plane_objects cells planes)
+    → (k : ℕ)
+    × (k < length cells)
+    × (w ≡ (get_or cells k w.0, ImageObject (block_image (get_or planes k no_plane))))
 image_back (c ∷ cells) (p ∷ planes) w (inl e) = (0, omega arith, e)
-image_back (c ∷ cells) (p ∷ planes) w (inr i) = let r = image_back cells planes w i in (suc r.0, omega (arith, r.1), r.2)
+image_back (c ∷ cells) (p ∷ planes) w (inr i) =
+    let r = image_back cells planes w i in (suc r.0, omega (arith, r.1), r.2)
 image_back cells planes w i = absurd (grind arith)
 
-pub image_comes : (cells : List Reference) (planes : List PlaneValue) (c : Reference) → length cells ≤ length planes → In c cells → (x : ObjectValue) × In (c, x) (plane_objects cells planes)
-image_comes (d ∷ cells) (p ∷ planes) c enough (inl e) = (ImageObject (block_image p), inl (ap (λ (x : Reference). let pair : Reference × ObjectValue = (x, ImageObject (block_image p)) in pair) e))
-image_comes (d ∷ cells) (p ∷ planes) c enough (inr i) = let r = image_comes cells planes c (omega (arith, enough)) i in (r.0, inr r.1)
+pub image_comes : (cells : List Reference) (planes : List PlaneValue) (c : Reference)
+    → length cells ≤ length planes
+    → In c cells
+    → (x : ObjectValue) × In (c, x) (plane_objects cells planes)
+image_comes (d ∷ cells) (p ∷ planes) c enough (inl e) = (
+  ImageObject (block_image p),
+  inl
+      (ap
+      (λ (x : Reference). let pair : Reference
+      × ObjectValue = (x, ImageObject (block_image p)) in pair)
+      e),
+)
+image_comes (d ∷ cells) (p ∷ planes) c enough (inr i) =
+    let r = image_comes cells planes c (omega (arith, enough)) i in (r.0, inr r.1)
 image_comes cells planes c enough i = absurd (grind arith)
 
-pub tally_back : (cells : List Reference) (tallies : List Tally) (w : Reference × ObjectValue) → In w (tally_objects cells tallies)
+pub tally_back : (cells : List Reference) (tallies : List Tally) (w : Reference × ObjectValue)
+    → In w (tally_objects cells tallies)
     → (k : ℕ) × (k < length cells) × (w ≡ (get_or cells k w.0, tally_object (tally_at tallies k)))
 tally_back (c ∷ cells) (t ∷ tallies) w (inl e) = (0, omega arith, e)
-tally_back (c ∷ cells) (t ∷ tallies) w (inr i) = let r = tally_back cells tallies w i in (suc r.0, omega (arith, r.1), r.2)
+tally_back (c ∷ cells) (t ∷ tallies) w (inr i) =
+    let r = tally_back cells tallies w i in (suc r.0, omega (arith, r.1), r.2)
 tally_back cells tallies w i = absurd (grind arith)
 
-pub tally_comes : (cells : List Reference) (tallies : List Tally) (c : Reference) → length cells ≤ length tallies → In c cells → (x : ObjectValue) × In (c, x) (tally_objects cells tallies)
-tally_comes (d ∷ cells) (t ∷ tallies) c enough (inl e) = (tally_object t, inl (ap (λ (x : Reference). let pair : Reference × ObjectValue = (x, tally_object t) in pair) e))
-tally_comes (d ∷ cells) (t ∷ tallies) c enough (inr i) = let r = tally_comes cells tallies c (omega (arith, enough)) i in (r.0, inr r.1)
+pub tally_comes : (cells : List Reference) (tallies : List Tally) (c : Reference)
+    → length cells ≤ length tallies
+    → In c cells
+    → (x : ObjectValue) × In (c, x) (tally_objects cells tallies)
+tally_comes (d ∷ cells) (t ∷ tallies) c enough (inl e) = (
+  tally_object t,
+  inl (ap (λ (x : Reference). let pair : Reference × ObjectValue = (x, tally_object t) in pair) e),
+)
+tally_comes (d ∷ cells) (t ∷ tallies) c enough (inr i) =
+    let r = tally_comes cells tallies c (omega (arith, enough)) i in (r.0, inr r.1)
 tally_comes cells tallies c enough i = absurd (grind arith)
 
 -- if all values written to an object are the same, that is its value
 module _ (c : Reference) (known : Option ObjectValue) where
-  pub last_known : (ws : List (Reference × ObjectValue)) → ((w : Reference × ObjectValue) → In w ws → c ≡ w.0 → known ≡ Some w.1) → (last_to c ws ≡ None) ⊎ ((x : ObjectValue) × (last_to c ws ≡ Some x) × (known ≡ Some x))
+  pub last_known : (ws : List (Reference × ObjectValue))
+      → ((w : Reference × ObjectValue) → In w ws → c ≡ w.0 → known ≡ Some w.1)
+      → (last_to c ws ≡ None) ⊎ ((x : ObjectValue) × (last_to c ws ≡ Some x) × (known ≡ Some x))
   last_known [] each = inl refl
-  last_known (w ∷ ws) each = grind (arith, last_known ws (λ y i e. each y (inr i) e), each w (inl refl), same_cell-true c w.0)
+  last_known (w ∷ ws) each =
+      grind (
+        arith,
+        last_known ws (λ y i e. each y (inr i) e),
+        each w (inl refl),
+        same_cell-true c w.0,
+      )
 
-pub last_none : (c : Reference) (ws : List (Reference × ObjectValue)) → ((w : Reference × ObjectValue) → In w ws → c ≡ w.0 → ⊥) → last_to c ws ≡ None
+pub last_none : (c : Reference) (ws : List (Reference × ObjectValue))
+    → ((w : Reference × ObjectValue) → In w ws → c ≡ w.0 → ⊥)
+    → last_to c ws ≡ None
 last_none c ws each = grind (arith, last_known c None ws (λ w i e. absurd (each w i e)))
 
-pub last_some : (c : Reference) (x : ObjectValue) (ws : List (Reference × ObjectValue)) → In (c, x) ws → last_to c ws ≡ None → ⊥
+pub last_some : (c : Reference) (x : ObjectValue) (ws : List (Reference × ObjectValue))
+    → In (c, x) ws
+    → last_to c ws ≡ None
+    → ⊥
 last_some c x [] i none = absurd i
-last_some c x (w ∷ ws) i none = grind (arith, last_some c x ws, or_none (last_to c ws) _ none, same_cell-refl c)
+last_some c x (w ∷ ws) i none =
+    grind (arith, last_some c x ws, or_none (last_to c ws) _ none, same_cell-refl c)
 
 -- ---- tallies as objects
 
 -- a node without an output image writes the tally of its input
-pub tally_output : (n : Node) (which : Output) (a : ImageValue) (second : Option ObjectValue) (old : ObjectValue) (t : Tally) → (object_kind old ≡ kind.Distribution) ⊎ (object_kind old ≡ kind.Extremes) → tally_by (object_kind old) old ≡ t ∷ []
+pub tally_output :
+    (n : Node) (which : Output) (a : ImageValue) (second : Option ObjectValue)
+    (old : ObjectValue) (t : Tally)
+    → (object_kind old ≡ kind.Distribution) ⊎ (object_kind old ≡ kind.Extremes)
+    → tally_by (object_kind old) old ≡ t ∷ []
     → node_output n which (ImageObject a) second old ≡ tally_object (tally_of a t)
 tally_output n which a second old t of e = grind arith
 
-pub counted_kind : (f : Function) → (parameters f).output ≢ kind.Image → ((parameters f).output ≡ kind.Distribution) ⊎ ((parameters f).output ≡ kind.Extremes)
+pub counted_kind : (f : Function)
+    → (parameters f).output ≢ kind.Image
+    → ((parameters f).output ≡ kind.Distribution) ⊎ ((parameters f).output ≡ kind.Extremes)
 counted_kind f other = grind arith
 
 -- ---- virtual images that are restored
 
-pub kept_real : (o p : Option ObjectValue) → ((x : ObjectValue) → o ≡ Some x → is_virtual_object x ≡ false) → kept_virtual o p ≡ p
+pub kept_real : (o p : Option ObjectValue)
+    → ((x : ObjectValue) → o ≡ Some x → is_virtual_object x ≡ false)
+    → kept_virtual o p ≡ p
 kept_real o p real = grind (arith, real)
 
-in_forgotten : (old new : List NamedObject) (x : NamedObject) → In x (objects_at_end old new) → In x old ⊎ In x new
+in_forgotten : (old new : List NamedObject) (x : NamedObject)
+    → In x (objects_at_end old new)
+    → In x old ⊎ In x new
 in_forgotten (o ∷ old) (p ∷ new) x i = grind (arith, in_forgotten old new x)
 in_forgotten old new x i = grind arith
 
-pub forgotten_are : (old new : List NamedObject) → All (λ o. IsObject o.object) old → All (λ o. IsObject o.object) new → All (λ o. IsObject o.object) (objects_at_end old new)
-forgotten_are old new before after = All-from_In (λ (o : NamedObject). IsObject o.object) (objects_at_end old new) (λ x i. elim (in_forgotten old new x i) [
-  | inl j ↦ In-from_All (λ (o : NamedObject). IsObject o.object) old before x j
-  | inr j ↦ In-from_All (λ (o : NamedObject). IsObject o.object) new after x j
-])
+pub forgotten_are : (old new : List NamedObject)
+    → All (λ o. IsObject o.object) old
+    → All (λ o. IsObject o.object) new
+    → All (λ o. IsObject o.object) (objects_at_end old new)
+forgotten_are old new before after =
+    All-from_In (λ (o : NamedObject). IsObject o.object) (objects_at_end old new)
+    (λ x i. elim (in_forgotten old new x i) [
+      | inl j ↦ In-from_All (λ (o : NamedObject). IsObject o.object) old before x j
+      | inr j ↦ In-from_All (λ (o : NamedObject). IsObject o.object) new after x j
+    ])
 
 -- after virtual images are restored, the lasting parts are as before the run
-pub forgotten_lasting : (found : Reference → Operand) (nodes : List Node) (old new : List NamedObject) → map lasting_named new ≡ map lasting_named (map (named_at_start found nodes) old) → map lasting_named (objects_at_end old new) ≡ map lasting_named old
+pub forgotten_lasting :
+    (found : Reference → Operand) (nodes : List Node) (old new : List NamedObject)
+    → map lasting_named new ≡ map lasting_named (map (named_at_start found nodes) old)
+    → map lasting_named (objects_at_end old new) ≡ map lasting_named old
 forgotten_lasting found nodes [] new same = grind arith
 forgotten_lasting found nodes (o ∷ old) [] same = absurd (cc same)
 forgotten_lasting found nodes (o ∷ old) (p ∷ new) same =
     let own : lasting_named p ≡ lasting_named (named_at_start found nodes o) = cc in
-    let rest : map lasting_named new ≡ map lasting_named (map (named_at_start found nodes) old) = cc in
-    ap (λ (l : List Lasting). lasting_named (if is_virtual_object o.object then o else p) ∷ l) (forgotten_lasting found nodes old new rest)
+    let rest : map lasting_named new ≡ map lasting_named (map (named_at_start found nodes) old) =
+    cc in
+    ap (λ (l : List Lasting). lasting_named (if is_virtual_object o.object then o else p) ∷ l)
+    (forgotten_lasting found nodes old new rest)
     ∙ ap (λ (x : Lasting). x ∷ map lasting_named old) (grind (arith, own, begun_real o))
   where
-    begun_real : (x : NamedObject) → is_virtual_object x.object ≡ false → named_at_start found nodes x ≡ x
+    begun_real : (x : NamedObject)
+        → is_virtual_object x.object ≡ false
+        → named_at_start found nodes x ≡ x
     begun_real x real = grind (arith, real, begun_stays x.object)

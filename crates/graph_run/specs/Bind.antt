@@ -28,12 +28,20 @@ without_samples image = image_over (description_of image) image.valid []
 -- the references, each with its image after the samples are taken away
 abbrev pub bare_images : List NamedObject → List Reference → List (Reference × ObjectValue)
 bare_images objects [] = []
-bare_images objects (c ∷ cells) = (c, ImageObject (without_samples (image_held objects c))) ∷ bare_images objects cells
+bare_images objects (c ∷ cells) =
+    (c, ImageObject (without_samples (image_held objects c))) ∷ bare_images objects cells
 
 -- the plane of a whole image
 abbrev pub image_plane : ImageValue → PlaneValue
 image_plane image =
-    record { desc = description_of image; valid = image.valid; top = 0; rows = all_rows image.height; format = image.format; samples = image.samples }
+    record {
+      desc = description_of image;
+      valid = image.valid;
+      top = 0;
+      rows = all_rows image.height;
+      format = image.format;
+      samples = image.samples;
+    }
 
 -- the planes of the images that the references name
 abbrev pub image_planes : List NamedObject → List Reference → List PlaneValue
@@ -43,7 +51,8 @@ image_planes objects cells = map (λ c. image_plane (image_held objects c)) cell
 abbrev pub plane_objects : List Reference → List PlaneValue → List (Reference × ObjectValue)
 plane_objects [] planes = []
 plane_objects (c ∷ cells) [] = []
-plane_objects (c ∷ cells) (p ∷ planes) = (c, ImageObject (block_image p)) ∷ plane_objects cells planes
+plane_objects (c ∷ cells) (p ∷ planes) =
+    (c, ImageObject (block_image p)) ∷ plane_objects cells planes
 
 -- there is a plane for each reference, with the description of the reference's image, and with a
 -- block of the image's format and number of samples, or without samples

@@ -37,7 +37,8 @@ capacity_count capacities format = sum_by (λ r. one_of r.0 format) capacities
 abbrev pub band_samples : ℕ → ℕ → Description → ℕ
 band_samples size rows desc = min desc.height (size + rows + rows) * desc.width
 
--- the number of samples in a band of `size` rows, with halo, of the virtual image that a step writes
+-- the number of samples in a band of `size` rows, with halo, of the virtual image that a step
+-- writes
 abbrev pub step_samples : ℕ → Step → Option Description → ℕ
 step_samples size s None = 0
 step_samples size s (Some d) = band_samples size s.halo d
@@ -54,4 +55,6 @@ samples_for size slot (t ∷ tasks) = max (task_samples size slot t) (samples_fo
 
 -- the plan with slots that are large enough for bands of `size` rows with their halos
 abbrev pub band_plan : ℕ → List Task → PlanView → PlanView
-band_plan size tasks p = record p { slot_samples = λ format k. samples_for size (slot_index p format k) tasks }
+band_plan size tasks p = record p {
+  slot_samples = λ format k. samples_for size (slot_index p format k) tasks;
+}

@@ -31,7 +31,8 @@ IsLent k = is_lent k ≡ true
 
 -- the second input of each node can be read as a table, unless it is an image
 abbrev pub LendTables : List NamedObject → List Node → Type 0
-LendTables objects nodes = All (λ n. IfSome (node_table objects n) (λ object. IsLent (object_kind object))) nodes
+LendTables objects nodes =
+    All (λ n. IfSome (node_table objects n) (λ object. IsLent (object_kind object))) nodes
 
 -- ---- tallies
 
@@ -45,16 +46,20 @@ KeepsTally objects other cell = ⊥
 
 -- each node's output is an image, or can take the node's tally
 abbrev pub KeepTallies : List NamedObject → List Node → Type 0
-KeepTallies objects nodes = All (λ n. KeepsTally objects (parameters n.function).output (unwrap_or n.out1 n.in1)) nodes
+KeepTallies objects nodes =
+    All (λ n. KeepsTally objects (parameters n.function).output (unwrap_or n.out1 n.in1)) nodes
 
 -- the tally fits the object that a reference names
 abbrev pub IsTallyFor : List NamedObject → Reference → Tally → Type 0
 IsTallyFor objects cell (tally.Histogram d) =
-    HoldsKind objects (cell, kind.Distribution) × (d.bins ≡ (distribution_value (cell_object objects cell)).bins) × (length d.counts ≡ d.bins.bins)
+    HoldsKind objects (cell, kind.Distribution)
+    × (d.bins ≡ (distribution_value (cell_object objects cell)).bins)
+    × (length d.counts ≡ d.bins.bins)
 IsTallyFor objects cell (tally.Extremes e) = HoldsKind objects (cell, kind.Extremes)
 
 -- there is a fitting tally for each reference
 abbrev pub AreTalliesFor : List NamedObject → List Reference → List Tally → Type 0
 AreTalliesFor objects [] tallies = ⊤
 AreTalliesFor objects (c ∷ cells) [] = ⊥
-AreTalliesFor objects (c ∷ cells) (t ∷ tallies) = IsTallyFor objects c t × AreTalliesFor objects cells tallies
+AreTalliesFor objects (c ∷ cells) (t ∷ tallies) =
+    IsTallyFor objects c t × AreTalliesFor objects cells tallies

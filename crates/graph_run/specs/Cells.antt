@@ -19,7 +19,9 @@ image_given other cell = []
 abbrev pub node_images : Node → List Reference
 node_images n =
     n.in1 ∷ (image_given (second_kind n) n.in2
-    ++ (image_given (parameters n.function).output n.out1 ++ image_given (parameters n.function).output n.out2))
+    ++
+    (image_given (parameters n.function).output n.out1
+    ++ image_given (parameters n.function).output n.out2))
 
 -- references to the images that nodes read or write, in the order of the nodes
 abbrev pub images_named : List Node → List Reference

@@ -14,12 +14,15 @@ use Rattle.graph_verify.specs.Links.{is_written}
 -- one round: all nodes write at the same time, from the objects before the round; accumulating
 -- nodes add to the objects as they were at the start of the run
 abbrev pub round_of_nodes : List Node → List NamedObject → List NamedObject → List NamedObject
-round_of_nodes nodes start objects = with_written objects (flat_map (λ n. written_from (object_at start) n (object_at objects)) nodes)
+round_of_nodes nodes start objects =
+    with_written objects
+    (flat_map (λ n. written_from (object_at start) n (object_at objects)) nodes)
 
 -- the objects after k rounds
 abbrev pub rounds_of_nodes : List Node → ℕ → List NamedObject → List NamedObject
 rounds_of_nodes nodes zero objects = objects
-rounds_of_nodes nodes (suc k) objects = round_of_nodes nodes objects (rounds_of_nodes nodes k objects)
+rounds_of_nodes nodes (suc k) objects =
+    round_of_nodes nodes objects (rounds_of_nodes nodes k objects)
 
 -- the value of a virtual image at the start of a run that writes it: an image of its resolved
 -- description, wholly valid and 0 everywhere. Any other object keeps its value, as does a virtual
@@ -41,15 +44,19 @@ is_virtual_object other = false
 
 -- the objects after a run, with the virtual images as they were before it
 abbrev pub objects_at_end : List NamedObject → List NamedObject → List NamedObject
-objects_at_end (o ∷ before) (p ∷ after) = (if is_virtual_object o.object then o else p) ∷ objects_at_end before after
+objects_at_end (o ∷ before) (p ∷ after) =
+    (if is_virtual_object o.object then o else p) ∷ objects_at_end before after
 objects_at_end before after = after
 
 -- the objects after a run of a graph whose references resolve to these operands; the run has one
 -- round for each node
 abbrev pub run_of_graph : (Reference → Operand) → List Node → List NamedObject → List NamedObject
-run_of_graph is nodes objects = objects_at_end objects (rounds_of_nodes nodes (length nodes) (map (named_at_start is nodes) objects))
+run_of_graph is nodes objects =
+    objects_at_end objects
+    (rounds_of_nodes nodes (length nodes) (map (named_at_start is nodes) objects))
 
 -- the objects after all nodes have run in order, each once
 abbrev pub one_by_one : List Node → List NamedObject → List NamedObject
 one_by_one [] objects = objects
-one_by_one (n ∷ nodes) objects = one_by_one nodes (with_written objects (written_by n (object_at objects)))
+one_by_one (n ∷ nodes) objects =
+    one_by_one nodes (with_written objects (written_by n (object_at objects)))

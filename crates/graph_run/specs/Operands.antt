@@ -32,9 +32,16 @@ StandsFor operand wanted = operand_kind operand ≡ Some wanted
 
 -- each reference in the nodes names an object, and `is` gives this object as an operand. Each
 -- output has the kind that its node's function writes.
-pub record CellsStand (is : Reference → Operand) (nodes : List Node) (objects : List NamedObject) : Type 0 where
-  pub found : (n : Node) (cell : Reference) → In n nodes → names_cell n cell ≡ true → HoldsOperand objects cell (is cell)
-  pub kinds : (n : Node) (cell : Reference) → In n nodes → writes n cell ≡ true → StandsFor (is cell) (parameters n.function).output
+pub record CellsStand (is : Reference → Operand) (nodes : List Node)
+    (objects : List NamedObject) : Type 0 where
+  pub found : (n : Node) (cell : Reference)
+      → In n nodes
+      → names_cell n cell ≡ true
+      → HoldsOperand objects cell (is cell)
+  pub kinds : (n : Node) (cell : Reference)
+      → In n nodes
+      → writes n cell ≡ true
+      → StandsFor (is cell) (parameters n.function).output
 
 -- the object that a reference names, as an operand; Missing if the reference names no object
 abbrev pub operand_held : List NamedObject → Reference → Operand
@@ -47,4 +54,7 @@ pub record IsReady (objects : List NamedObject) (nodes : List Node) (v : Verifie
   pub runs : (work : ℕ) × (verdict work (operand_held objects) nodes ≡ None)
   pub are_nodes : All IsNode nodes
   pub cells : CellsStand (operand_held objects) nodes objects
-  pub kinds : All (λ n. All (λ operand. StandsFor (operand_held objects operand.0) operand.1) (operands n)) nodes
+  pub kinds :
+      All
+      (λ n. All (λ operand. StandsFor (operand_held objects operand.0) operand.1) (operands n))
+      nodes

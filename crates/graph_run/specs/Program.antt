@@ -41,7 +41,8 @@ tables_of objects nodes k = slice_index_or (map (node_table objects) nodes) k No
 -- a node's radius: the number of input rows that it reads above an output row, and the same number
 -- below; None if its function writes no image
 abbrev pub node_radius : List NamedObject → Node → Option ℕ
-node_radius objects n = step_radius n.function (matrix_in (option_and_then (object_at objects) n.in2))
+node_radius objects n =
+    step_radius n.function (matrix_in (option_and_then (object_at objects) n.in2))
 
 -- a node's radius in images of at most `high` rows; `high` if the node's function writes no image
 abbrev pub radius_of : List NamedObject → ℕ → Node → ℕ
@@ -52,12 +53,14 @@ radius_of objects high n = unwrap_or (node_radius objects n) high
 -- the empty tally of a node, by the kind of its output; none for an image
 abbrev pub tally_by : Kind → ObjectValue → List Tally
 tally_by kind.Image object = []
-tally_by kind.Distribution object = tally.Histogram (new_distribution (distribution_value object).bins) ∷ []
+tally_by kind.Distribution object =
+    tally.Histogram (new_distribution (distribution_value object).bins) ∷ []
 tally_by other object = tally.Extremes no_extremes ∷ []
 
 -- the empty tally of a node, as a list; an empty list if the node writes an image
 abbrev pub node_tallies : List NamedObject → Node → List Tally
-node_tallies objects n = tally_by (parameters n.function).output (cell_object objects (unwrap_or n.out1 n.in1))
+node_tallies objects n =
+    tally_by (parameters n.function).output (cell_object objects (unwrap_or n.out1 n.in1))
 
 -- the empty tallies of nodes, in the order of the nodes
 abbrev pub tallies_of : List NamedObject → List Node → List Tally
@@ -69,4 +72,7 @@ tallies_of objects nodes = flat_map (node_tallies objects) nodes
 -- is a client's image and has no halo, or there is only one band
 abbrev pub AddOnce : ℕ → ℕ → List Task → Type 0
 AddOnce high size tasks =
-    (s : Step) → IsStepOf s tasks → reads_output s.node.function ≡ true → ((s.halo ≡ 0) × (s.describes ≡ None)) ⊎ (high ≤ size)
+    (s : Step)
+    → IsStepOf s tasks
+    → reads_output s.node.function ≡ true
+    → ((s.halo ≡ 0) × (s.describes ≡ None)) ⊎ (high ≤ size)

@@ -18,7 +18,8 @@ use Rattle.graph_run.specs.Operands.{operand_held}
 
 -- the objects at the start of a run
 abbrev pub first_objects : List NamedObject → List Node → List NamedObject
-first_objects objects nodes = map (named_at_start (resolved_operand (operand_held objects) nodes) nodes) objects
+first_objects objects nodes =
+    map (named_at_start (resolved_operand (operand_held objects) nodes) nodes) objects
 
 -- the objects after the last round of a run, when the virtual images that nodes write still have
 -- samples

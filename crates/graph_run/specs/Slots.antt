@@ -23,7 +23,8 @@ slot_total p = p.slot_count U8 + p.slot_count S16 + p.slot_count U32
 
 -- for each of a plan's slots of this format: the format and the slot's size
 abbrev pub capacities_for : PlanView → Format → List (Format × ℕ)
-capacities_for p format = map (λ k. (format, p.slot_samples format k)) (range_with_len 0 (p.slot_count format))
+capacities_for p format =
+    map (λ k. (format, p.slot_samples format k)) (range_with_len 0 (p.slot_count format))
 
 -- the format and size of each slot of a plan, U8 first, then S16, then U32
 abbrev pub planned_capacities : PlanView → List (Format × ℕ)

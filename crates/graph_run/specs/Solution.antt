@@ -19,7 +19,8 @@ kind_in objects cell = option_map object_kind (object_at objects cell)
 
 -- no node writes an object of this kind; a delay's slot counts as an image
 abbrev pub WritesNo : Kind → List Node → List NamedObject → Type 0
-WritesNo k nodes objects = (cell : Reference) → is_written nodes cell ≡ true → kind_in objects cell ≢ Some k
+WritesNo k nodes objects =
+    (cell : Reference) → is_written nodes cell ≡ true → kind_in objects cell ≢ Some k
 
 -- the first input of each node is an image
 abbrev pub ReadImages : List Node → List NamedObject → Type 0
@@ -48,5 +49,12 @@ label_of o = (o.name, o.live)
 pub record Solves (nodes : List Node) (before after : List NamedObject) : Type 0 where
   pub labels : map label_of after ≡ map label_of before
   pub forms : (cell : Reference) → form_held after cell ≡ form_held before cell
-  pub written : All (λ n. All (λ w. object_at after w.0 ≡ Some w.1) (written_from (object_at before) n (object_at after))) nodes
-  pub others : (cell : Reference) → is_written nodes cell ≡ false → kind_in before cell ≢ Some kind.Delay → object_at after cell ≡ object_at before cell
+  pub written :
+      All
+      (λ n. All (λ w. object_at after w.0 ≡ Some w.1)
+      (written_from (object_at before) n (object_at after)))
+      nodes
+  pub others : (cell : Reference)
+      → is_written nodes cell ≡ false
+      → kind_in before cell ≢ Some kind.Delay
+      → object_at after cell ≡ object_at before cell

@@ -21,15 +21,20 @@ abbrev pub Holds : List NamedObject → Reference → Type 0
 Holds objects cell = IsTrue (is_some (object_at objects cell))
 
 -- the node can run on these inputs and this output, by their kinds, formats and sizes
-pub record RunsOn (n : Node) (first : ObjectValue) (second : Option ObjectValue) (out : ObjectValue) : Type 0 where
+pub record RunsOn (n : Node) (first : ObjectValue) (second : Option ObjectValue)
+    (out : ObjectValue) : Type 0 where
   pub node : IsNode n
   pub first_kind : object_kind first ≡ kind.Image
-  pub second_kind : IfSome second (λ object. (parameters n.function).second_input ≡ Some (object_kind object))
+  pub second_kind :
+      IfSome second (λ object. (parameters n.function).second_input ≡ Some (object_kind object))
   pub out_kind : object_kind out ≡ (parameters n.function).output
   pub first_is : IsObject first
   pub second_is : IfSome second IsObject
   pub out_is : IsObject out
-  pub formats : IsTrue (takes_formats n.function (image_value first).format (option_and_then object_format second) (object_format out))
+  pub formats :
+      IsTrue
+      (takes_formats n.function (image_value first).format
+      (option_and_then object_format second) (object_format out))
   pub second_size : SecondHasSize (image_value first) second
   pub out_size : SecondHasSize (image_value first) (Some out)
 
@@ -50,7 +55,9 @@ pub record RunsTo (objects : List NamedObject) (n : Node) (output : Reference) :
   pub out : Holds objects output
   pub in1_apart : AreApart n.in1 output
   pub in2_apart : IfSome n.in2 (λ cell. AreApart cell output)
-  pub runs : RunsOn n (cell_object objects n.in1) (option_map (cell_object objects) n.in2) (cell_object objects output)
+  pub runs :
+      RunsOn n (cell_object objects n.in1) (option_map (cell_object objects) n.in2)
+      (cell_object objects output)
 
 -- the node's inputs exist: the first is an image, and a second input has the kind that the node's
 -- function reads
@@ -59,13 +66,22 @@ pub record HasInputs (objects : List NamedObject) (n : Node) : Type 0 where
   pub image : IsImage (image_held objects n.in1)
   pub second : IfSome n.in2 (Holds objects)
   pub object : IfSome (option_map (cell_object objects) n.in2) IsObject
-  pub kind : IfSome (option_map (cell_object objects) n.in2) (λ object. (parameters n.function).second_input ≡ Some (object_kind object))
+  pub kind :
+      IfSome (option_map (cell_object objects) n.in2)
+      (λ object. (parameters n.function).second_input ≡ Some (object_kind object))
 
 -- the value of an output after the node has run
 abbrev pub output_of : List NamedObject → Node → Output → Reference → ObjectValue
-output_of objects n which output = node_output n which (cell_object objects n.in1) (option_map (cell_object objects) n.in2) (cell_object objects output)
+output_of objects n which output =
+    node_output n which (cell_object objects n.in1) (option_map (cell_object objects) n.in2)
+    (cell_object objects output)
 
 -- the objects after the output is written; the same objects if the output isn't given
-abbrev pub with_output_object : List NamedObject → Node → Output → Option Reference → List NamedObject
+abbrev pub with_output_object : List NamedObject
+    → Node
+    → Output
+    → Option Reference
+    → List NamedObject
 with_output_object objects n which None = objects
-with_output_object objects n which (Some output) = with_object objects output (output_of objects n which output)
+with_output_object objects n which (Some output) =
+    with_object objects output (output_of objects n which output)

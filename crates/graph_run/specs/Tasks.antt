@@ -47,7 +47,9 @@ plane_of p outs slots clients c = plane_by p slots clients c (virtual_output out
 
 -- each plane's index is below 2^64
 abbrev pub HasIndices : PlanView → List VirtualOutput → ℕ → List Reference → Type 0
-HasIndices p outs slots clients = ((o : VirtualOutput) → In o outs → slot_index_of p o < 2 ^ 64) × (slots + length clients < 2 ^ 64)
+HasIndices p outs slots clients =
+    ((o : VirtualOutput) → In o outs → slot_index_of p o < 2 ^ 64)
+    × (slots + length clients < 2 ^ 64)
 
 -- ---- tasks
 
@@ -60,7 +62,14 @@ source plane at other (Some c) = Table at
 
 -- the step that writes an output of a node, given the plane of each image, the descriptions of the
 -- virtual images, and the nodes' radii; its halo isn't known yet
-abbrev pub step_for : (Reference → ℕ) → (Reference → Option Description) → (Node → ℕ) → ℕ → Node → Output → Reference → Step
+abbrev pub step_for : (Reference → ℕ)
+    → (Reference → Option Description)
+    → (Node → ℕ)
+    → ℕ
+    → Node
+    → Output
+    → Reference
+    → Step
 step_for plane describes radius at n which output =
     record {
       node = n;
@@ -74,15 +83,32 @@ step_for plane describes radius at n which output =
     }
 
 -- the task that writes a node's output; none if the output isn't given
-abbrev pub write_given : (Reference → ℕ) → (Reference → Option Description) → (Node → ℕ) → ℕ → Node → Output → Option Reference → List Task
+abbrev pub write_given : (Reference → ℕ)
+    → (Reference → Option Description)
+    → (Node → ℕ)
+    → ℕ
+    → Node
+    → Output
+    → Option Reference
+    → List Task
 write_given plane describes radius at n which None = []
-write_given plane describes radius at n which (Some output) = Write (step_for plane describes radius at n which output) ∷ []
+write_given plane describes radius at n which (Some output) =
+    Write (step_for plane describes radius at n which output) ∷ []
 
 -- the tasks of a node, by the kind of its outputs; `tally` is the index of the next tally
-abbrev pub tasks_by : (Reference → ℕ) → (Reference → Option Description) → (Node → ℕ) → ℕ → ℕ → Node → Kind → List Task
+abbrev pub tasks_by : (Reference → ℕ)
+    → (Reference → Option Description)
+    → (Node → ℕ)
+    → ℕ
+    → ℕ
+    → Node
+    → Kind
+    → List Task
 tasks_by plane describes radius at tally n kind.Image =
-    write_given plane describes radius at n First n.out1 ++ write_given plane describes radius at n Second n.out2
-tasks_by plane describes radius at tally n other = Reduce (record { input = plane n.in1; tally = tally }) ∷ []
+    write_given plane describes radius at n First n.out1
+    ++ write_given plane describes radius at n Second n.out2
+tasks_by plane describes radius at tally n other =
+    Reduce (record { input = plane n.in1; tally = tally }) ∷ []
 
 -- the index of the next tally after a node's tasks, if it was `tally` before them
 abbrev pub tally_after : ℕ → Kind → ℕ
@@ -90,20 +116,34 @@ tally_after tally kind.Image = tally
 tally_after tally other = tally + 1
 
 -- the tasks of these nodes; the first node has index `at` in the order of the run
-abbrev pub tasks_from : (Reference → ℕ) → (Reference → Option Description) → (Node → ℕ) → ℕ → ℕ → List Node → List Task
+abbrev pub tasks_from : (Reference → ℕ)
+    → (Reference → Option Description)
+    → (Node → ℕ)
+    → ℕ
+    → ℕ
+    → List Node
+    → List Task
 tasks_from plane describes radius at tally [] = []
 tasks_from plane describes radius at tally (n ∷ nodes) =
     tasks_by plane describes radius at tally n (parameters n.function).output
-    ++ tasks_from plane describes radius (at + 1) (tally_after tally (parameters n.function).output) nodes
+    ++ tasks_from plane describes radius (at + 1)
+    (tally_after tally (parameters n.function).output) nodes
 
 -- the tasks of all nodes
-abbrev pub tasks_of : (Reference → ℕ) → (Reference → Option Description) → (Node → ℕ) → List Node → List Task
+abbrev pub tasks_of : (Reference → ℕ)
+    → (Reference → Option Description)
+    → (Node → ℕ)
+    → List Node
+    → List Task
 tasks_of plane describes radius nodes = tasks_from plane describes radius 0 0 nodes
 
 -- a node that writes no image has no virtual output
 abbrev pub WriteImages : (Reference → Bool) → List Node → Type 0
 WriteImages is_virtual nodes =
-    (n : Node) → In n nodes → (parameters n.function).output ≢ kind.Image → filter is_virtual (outputs n) ≡ []
+    (n : Node)
+    → In n nodes
+    → (parameters n.function).output ≢ kind.Image
+    → filter is_virtual (outputs n) ≡ []
 
 -- the list has the references to the images that nodes read or write
 abbrev pub AreNamed : List Reference → List Node → Type 0
@@ -113,14 +153,20 @@ AreNamed cells nodes = (n : Node) → In n nodes → (c : Reference) → In c (n
 
 -- the nodes are in an order in which they can run. `outs` has the virtual images that they write,
 -- in the order of writing, and `p` is a plan for these images.
-pub record HaveTasks (steps : List Node) (outs : List VirtualOutput) (p : PlanView) (is_virtual : Reference → Bool) : Type 0 where
+pub record HaveTasks (steps : List Node) (outs : List VirtualOutput) (p : PlanView)
+    (is_virtual : Reference → Bool) : Type 0 where
   pub plan : IsPlan steps outs p
   pub order : map (λ o. o.cell) outs ≡ filter is_virtual (flat_map outputs steps)
   pub images : WriteImages is_virtual steps
   pub turn : InTurn feeds steps
   pub writers : two_writers steps ≡ false
   -- a node that accumulates writes a client's image
-  pub adds : (n : Node) → In n steps → accumulates n.function ≡ true → (c : Reference) → In c (outputs n) → is_virtual c ≡ false
+  pub adds : (n : Node)
+      → In n steps
+      → accumulates n.function ≡ true
+      → (c : Reference)
+      → In c (outputs n)
+      → is_virtual c ≡ false
 
 -- references to the images of a graph, each image once: first the virtual images in `outs`, then
 -- the other images that the nodes in `steps` read or write
@@ -137,4 +183,5 @@ graph_plane steps outs p = plane_of p outs (slot_total p) (client_cells steps ou
 
 -- the tasks of the graph
 abbrev pub graph_tasks : List Node → List VirtualOutput → PlanView → (Node → ℕ) → List Task
-graph_tasks steps outs p radius = tasks_of (graph_plane steps outs p) (virtual_description outs) radius steps
+graph_tasks steps outs p radius =
+    tasks_of (graph_plane steps outs p) (virtual_description outs) radius steps

@@ -21,7 +21,9 @@ one_of P p q s i = elim i [
 is_node : IsNode box_node
 is_node = search rules
 
-reads_first : (input output c halo : ℕ) (describes : Option Description) → ReadsPlane (box_step input output describes halo) c → c ≡ input
+reads_first : (input output c halo : ℕ) (describes : Option Description)
+    → ReadsPlane (box_step input output describes halo) c
+    → c ≡ input
 reads_first input output c halo describes r = elim r [ inl e ↦ sym e | inr e ↦ absurd (cc) ]
 
 one_unwritten : IsUnwritten boxes 1
@@ -60,16 +62,25 @@ needed_one c more n = elim n [
 ]
 
 -- a box filter can run on images that have the small description
-box_suits : (input output halo : ℕ) (describes : Option Description) (images : ℕ → ImageValue) → description_of (images input) ≡ small_image_desc → description_of (own_by describes (images output)) ≡ small_image_desc
+box_suits : (input output halo : ℕ) (describes : Option Description) (images : ℕ → ImageValue)
+    → description_of (images input) ≡ small_image_desc
+    → description_of (own_by describes (images output)) ≡ small_image_desc
     → Suits no_tables 4 (box_step input output describes halo) images
 box_suits input output halo describes images in_is out_is = record {
-  makes = subst (λ d. CanMake (box_step input output describes halo) (images input) None d) (sym out_is) (box_makes (images input) in_is);
+  makes =
+      subst (λ d. CanMake (box_step input output describes halo) (images input) None d)
+      (sym out_is) (box_makes (images input) in_is);
   table = (λ k e. absurd (cc));
   near = omega arith;
-  tall = (λ c r. let e = reads_first input output c halo describes r in subst (λ k. (images k).height ≤ 4) (sym e) (subst (λ (d : Description). d.height ≤ 4) (sym in_is) (omega arith)));
+  tall =
+      (λ c r. let e = reads_first input output c halo describes r in subst
+      (λ k. (images k).height ≤ 4) (sym e)
+      (subst (λ (d : Description). d.height ≤ 4) (sym in_is) (omega arith)));
 }
   where
-    box_makes : (image : ImageValue) → description_of image ≡ small_image_desc → CanMake (box_step input output describes halo) image None small_image_desc
+    box_makes : (image : ImageValue)
+        → description_of image ≡ small_image_desc
+        → CanMake (box_step input output describes halo) image None small_image_desc
     box_makes image is = record {
       node = is_node;
       kind = tt;
@@ -92,7 +103,9 @@ second_suits : Suits no_tables 4 second_box between
 second_suits = box_suits 0 2 0 None between between_desc refl
 
 between_is : IsImage (between 0)
-between_is = made_is first_box (block_images box_planes 1) None small_image_desc (blank_image small_image_desc) first_suits.makes refl is_client.image tt
+between_is =
+    made_is first_box (block_images box_planes 1) None small_image_desc
+    (blank_image small_image_desc) first_suits.makes refl is_client.image tt
 
 pub is_program : IsProgram no_tables 4 2 1 boxes box_planes
 is_program = record {
@@ -103,7 +116,9 @@ is_program = record {
   names = one_of (NamesPlanes 1 3)
       (record {
         output = omega arith;
-        reads = (λ c r. let e = reads_first 1 0 c 1 (Some small_image_desc) r in (omega arith, (λ z. omega arith)));
+        reads =
+            (λ c r. let e = reads_first 1 0 c 1 (Some small_image_desc) r in
+            (omega arith, (λ z. omega arith)));
         virtual = (λ d e. omega arith);
         client = (λ e. absurd (cc));
         own = (λ sums. absurd (cc));
@@ -115,15 +130,41 @@ is_program = record {
         client = (λ e. omega arith);
         own = (λ sums. refl);
       });
-  inputs = λ r i. elim i [ inl e ↦ subst (λ (q : Reduction). q.input < 3) (sym e) (omega arith) | inr k ↦ absurd k ];
-  runs = (first_suits, (second_suits, (between_is, subst (λ (d : Description). d.height ≤ 4) (sym between_desc) (omega arith), tt)));
+  inputs =
+      λ r i. elim i
+      [ inl e ↦ subst (λ (q : Reduction). q.input < 3) (sym e) (omega arith) | inr k ↦ absurd k ];
+  runs = (
+    first_suits,
+    (
+      second_suits,
+      (between_is, subst (λ (d : Description). d.height ≤ 4) (sym between_desc) (omega arith), tt),
+    ),
+  );
   one_writer = ((λ none. absurd (cc)), ((λ none s i. absurd i), tt));
-  begins = λ c more n. let e = needed_one c more n in subst (λ k. IsUnwritten boxes k × IsClients 1 3 k) (sym e) (one_unwritten, (omega arith, omega arith));
-  enough = ((λ rows n. elim n [ inl r ↦ omega (arith, r.1) | inr a ↦ elim a.1 [ inl e ↦ omega (arith, e.1) | inr k ↦ absurd k.0 ] ]), ((λ rows n. elim n [ inl e ↦ omega (arith, e.1) | inr k ↦ absurd k.0 ]), tt));
-  room = one_of (λ s. (d : Description) → s.describes ≡ Some d → HoldsRows 2 s.halo d (capacity (capacities box_planes) s.output))
-      (λ d e. let k : small_image_desc ≡ d = cc in subst (λ d. HoldsRows 2 1 d (capacity (capacities box_planes) 0)) k (refl, omega arith))
+  begins =
+      λ c more n. let e =
+      needed_one c more n in subst (λ k. IsUnwritten boxes k × IsClients 1 3 k) (sym e)
+      (one_unwritten, (omega arith, omega arith));
+  enough = (
+    (λ rows n. elim n [
+      | inl r ↦ omega (arith, r.1)
+      | inr a ↦ elim a.1
+          [ inl e ↦ omega (arith, e.1) | inr k ↦ absurd k.0 ]
+    ]),
+    ((λ rows n. elim n [ inl e ↦ omega (arith, e.1) | inr k ↦ absurd k.0 ]), tt),
+  );
+  room =
+      one_of
+      (λ s. (d : Description)
+      → s.describes ≡ Some d
+      → HoldsRows 2 s.halo d (capacity (capacities box_planes) s.output))
+      (λ d e. let k : small_image_desc ≡ d = cc in subst
+      (λ d. HoldsRows 2 1 d (capacity (capacities box_planes) 0)) k (refl, omega arith))
       (λ d e. absurd (cc));
-  once = one_of (λ s. reads_output s.node.function ≡ true → ((s.halo ≡ 0) × (s.describes ≡ None)) ⊎ (4 ≤ 2)) (λ e. absurd (cc)) (λ e. absurd (cc));
+  once =
+      one_of
+      (λ s. reads_output s.node.function ≡ true → ((s.halo ≡ 0) × (s.describes ≡ None)) ⊎ (4 ≤ 2))
+      (λ e. absurd (cc)) (λ e. absurd (cc));
 }
 
 pub can_reduce : CanReduceBand no_tables 0 boxes (block_images box_planes) box_tallies
@@ -190,13 +231,26 @@ sums_program = record {
       makes = search rules;
       table = (λ k e. absurd (cc));
       near = omega arith;
-      tall = (λ c r. let e = sum_input c r in subst (λ k. (block_images sums_planes k).height ≤ 4) (sym e) (omega arith));
+      tall =
+          (λ c r. let e = sum_input c r in subst (λ k. (block_images sums_planes k).height ≤ 4)
+          (sym e) (omega arith));
     },
     tt,
   );
   one_writer = ((λ none s i. absurd i), tt);
-  begins = λ c more n. let e = input_needed c more n in subst (λ k. IsUnwritten sums k × IsClients 0 2 k) (sym e) (input_unwritten, (omega arith, omega arith));
+  begins =
+      λ c more n. let e =
+      input_needed c more n in subst (λ k. IsUnwritten sums k × IsClients 0 2 k) (sym e)
+      (input_unwritten, (omega arith, omega arith));
   enough = ((λ rows n. absurd n.0), tt);
-  room = only (λ s. (d : Description) → s.describes ≡ Some d → HoldsRows 2 s.halo d (capacity (capacities sums_planes) s.output)) (λ d e. absurd (cc));
-  once = only (λ s. reads_output s.node.function ≡ true → ((s.halo ≡ 0) × (s.describes ≡ None)) ⊎ (4 ≤ 2)) (λ e. inl (refl, refl));
+  room =
+      only
+      (λ s. (d : Description)
+      → s.describes ≡ Some d
+      → HoldsRows 2 s.halo d (capacity (capacities sums_planes) s.output))
+      (λ d e. absurd (cc));
+  once =
+      only
+      (λ s. reads_output s.node.function ≡ true → ((s.halo ≡ 0) × (s.describes ≡ None)) ⊎ (4 ≤ 2))
+      (λ e. inl (refl, refl));
 }

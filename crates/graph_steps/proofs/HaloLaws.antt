@@ -12,7 +12,10 @@ pub record Raised (Is : ℕ → Type 0) (rows : ℕ) (old new : List ℕ) : Type
   pub enough : (c : ℕ) → Is c → rows ≤ need new c
   pub len : length new ≡ length old
 
-raised_at : (rows place : ℕ) (old new : List ℕ) → place < length old → new ≡ set old place (max (need old place) rows) → Raised (λ c. place ≡ c) rows old new
+raised_at : (rows place : ℕ) (old new : List ℕ)
+    → place < length old
+    → new ≡ set old place (max (need old place) rows)
+    → Raised (λ c. place ≡ c) rows old new
 raised_at rows place old new below is = subst (Raised (λ c. place ≡ c) rows old) (sym is) (record {
   grows = λ c. grind (arith, get_or-set_at, get_or-set_other);
   enough = λ c e. grind (arith, get_or-set_at);
@@ -20,7 +23,11 @@ raised_at rows place old new below is = subst (Raised (λ c. place ≡ c) rows o
 })
 
 -- the inputs of a step
-pub raised_one : (s : Step) (rows : ℕ) (old new : List ℕ) → s.first < length old → ((c : ℕ) → s.second ≢ Plane c) → new ≡ set old s.first (max (need old s.first) rows) → Raised (ReadsPlane s) rows old new
+pub raised_one : (s : Step) (rows : ℕ) (old new : List ℕ)
+    → s.first < length old
+    → ((c : ℕ) → s.second ≢ Plane c)
+    → new ≡ set old s.first (max (need old s.first) rows)
+    → Raised (ReadsPlane s) rows old new
 raised_one s rows old new below alone is =
     let r = raised_at rows s.first old new below is in
     record {
@@ -29,7 +36,11 @@ raised_one s rows old new below alone is =
       len = r.len;
     }
 
-pub raised_two : (s : Step) (rows second : ℕ) (old between new : List ℕ) → s.first < length old → second < length old → s.second ≡ Plane second → between ≡ set old s.first (max (need old s.first) rows)
+pub raised_two : (s : Step) (rows second : ℕ) (old between new : List ℕ)
+    → s.first < length old
+    → second < length old
+    → s.second ≡ Plane second
+    → between ≡ set old s.first (max (need old s.first) rows)
     → new ≡ set between second (max (need between second) rows) → Raised (ReadsPlane s) rows old new
 raised_two s rows second old between new below low two was is =
     let a = raised_at rows s.first old between below was in
@@ -47,7 +58,10 @@ raised_two s rows second old between new below low two was is =
 -- ---- tasks whose halos are found
 
 -- a task names planes whatever its halo is
-pub names_same : (count : ℕ) (t u : Task) → without_halo t ≡ without_halo u → NamesBelow count t → NamesBelow count u
+pub names_same : (count : ℕ) (t u : Task)
+    → without_halo t ≡ without_halo u
+    → NamesBelow count t
+    → NamesBelow count u
 names_same count t u same names = of_bare u (subst (NamesBelow count) same (to_bare t names))
   where
     to_bare : (t : Task) → NamesBelow count t → NamesBelow count (without_halo t)
@@ -59,11 +73,16 @@ names_same count t u same names = of_bare u (subst (NamesBelow count) same (to_b
     of_bare (Reduce r) n = n
 
 -- the tasks from one on, once it is replaced, and those after it
-pub from_one_before : (tasks : List Task) (k : ℕ) (t : Task) → k < length tasks → drop (length tasks - (k + 1)) (set tasks (length tasks - 1 - k) t) ≡ t ∷ drop (length tasks - k) tasks
+pub from_one_before : (tasks : List Task) (k : ℕ) (t : Task)
+    → k < length tasks
+    → drop (length tasks - (k + 1)) (set tasks (length tasks - 1 - k) t)
+    ≡ t ∷ drop (length tasks - k) tasks
 from_one_before tasks k t below =
     let i : length tasks - (k + 1) ≡ length tasks - 1 - k = omega arith in
     let j : length tasks - k ≡ suc (length tasks - 1 - k) = omega arith in
-    ap (λ n. drop n (set tasks (length tasks - 1 - k) t)) i ∙ dropped tasks (length tasks - 1 - k) (omega arith) ∙ ap (λ n. t ∷ drop n tasks) (sym j)
+    ap (λ n. drop n (set tasks (length tasks - 1 - k) t)) i
+    ∙ dropped tasks (length tasks - 1 - k) (omega arith)
+    ∙ ap (λ n. t ∷ drop n tasks) (sym j)
   where
     dropped : (l : List Task) (n : ℕ) → n < length l → drop n (set l n t) ≡ t ∷ drop (suc n) l
     dropped [] n low = absurd (omega arith)

@@ -31,12 +31,26 @@ small_image_desc = record { width = 1; height = 4; format = U8 }
 -- the plane of a client's image, with all rows
 abbrev pub client_plane : PlaneValue
 client_plane =
-    record { desc = small_image_desc; valid = whole_rectangle 1 4; top = 0; rows = all_rows 4; format = U8; samples = (new_image 1 4 U8).samples }
+    record {
+      desc = small_image_desc;
+      valid = whole_rectangle 1 4;
+      top = 0;
+      rows = all_rows 4;
+      format = U8;
+      samples = (new_image 1 4 U8).samples;
+    }
 
 -- the plane of a slot, with a block for four rows
 abbrev pub block_plane : PlaneValue
 block_plane =
-    record { desc = small_image_desc; valid = empty_rectangle; top = 0; rows = all_rows 0; format = U8; samples = (new_image 1 4 U8).samples }
+    record {
+      desc = small_image_desc;
+      valid = empty_rectangle;
+      top = 0;
+      rows = all_rows 0;
+      format = U8;
+      samples = (new_image 1 4 U8).samples;
+    }
 
 -- a box filter
 abbrev pub box_node : Node
@@ -55,13 +69,26 @@ box_node =
 -- the box filter as a step from one plane to another
 abbrev pub box_step : ℕ → ℕ → Option Description → ℕ → Step
 box_step input output describes halo =
-    record { node = box_node; which = First; first = input; second = Nothing; output = output; describes = describes; radius = 1; halo = halo }
+    record {
+      node = box_node;
+      which = First;
+      first = input;
+      second = Nothing;
+      output = output;
+      describes = describes;
+      radius = 1;
+      halo = halo;
+    }
 
 -- two box filters in sequence, with a virtual image between them, and a reduction of the virtual
 -- image to its extremes. The first filter writes one row more above and below a band, since the
 -- second reads it.
 abbrev pub boxes : List Task
-boxes = Write (box_step 1 0 (Some small_image_desc) 1) ∷ Write (box_step 0 2 None 0) ∷ Reduce (record { input = 0; tally = 0 }) ∷ []
+boxes =
+    Write (box_step 1 0 (Some small_image_desc) 1)
+    ∷ Write (box_step 0 2 None 0)
+    ∷ Reduce (record { input = 0; tally = 0 })
+    ∷ []
 
 -- the planes of these tasks: first the plane of the slot
 abbrev pub box_planes : List PlaneValue
@@ -76,12 +103,28 @@ box_tallies = Extremes no_extremes ∷ []
 -- the plane of the client's image to which the integral image is written
 abbrev pub sums_plane : PlaneValue
 sums_plane =
-    record { desc = record { width = 1; height = 4; format = U32 }; valid = whole_rectangle 1 4; top = 0; rows = all_rows 4; format = U32; samples = (new_image 1 4 U32).samples }
+    record {
+      desc = record { width = 1; height = 4; format = U32 };
+      valid = whole_rectangle 1 4;
+      top = 0;
+      rows = all_rows 4;
+      format = U32;
+      samples = (new_image 1 4 U32).samples;
+    }
 
 -- a step that writes the integral image of a client's image
 abbrev pub integral_step : Step
 integral_step =
-    record { node = record box_node { function = Integral }; which = First; first = 0; second = Nothing; output = 1; describes = None; radius = 0; halo = 0 }
+    record {
+      node = record box_node { function = Integral };
+      which = First;
+      first = 0;
+      second = Nothing;
+      output = 1;
+      describes = None;
+      radius = 0;
+      halo = 0;
+    }
 
 -- the program whose only task is this step
 abbrev pub sums : List Task

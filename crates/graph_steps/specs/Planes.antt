@@ -23,11 +23,13 @@ pub record PlaneValue : Type 0 where
 
 -- the samples of these rows, in a block that begins with row `top` and has this width
 abbrev pub rows_of_block : ℕ → ℕ → Band → List ℤ → List ℤ
-rows_of_block width top rows samples = take (rows.count * width) (drop ((rows.start - top) * width) samples)
+rows_of_block width top rows samples =
+    take (rows.count * width) (drop ((rows.start - top) * width) samples)
 
 -- the image that a step reads; samples outside the plane's readable rows are 0
 abbrev pub plane_image : PlaneValue → ImageValue
-plane_image p = image_over_rows p.desc p.valid p.rows (rows_of_block p.desc.width p.top p.rows p.samples)
+plane_image p =
+    image_over_rows p.desc p.valid p.rows (rows_of_block p.desc.width p.top p.rows p.samples)
 
 -- the image over all samples of the plane's block, which has all rows if the image is a client's
 abbrev pub block_image : PlaneValue → ImageValue
@@ -41,29 +43,59 @@ with_read_rows rows p = record p { rows = rows }
 abbrev pub written_among : ℕ → Band → ImageValue → List ℤ → List ℤ
 written_among top rows image old =
     take ((rows.start - top) * image.width) old
-    ++ (band image.width rows.start rows.count (pixel_at image) ++ drop ((rows.start - top + rows.count) * image.width) old)
+    ++
+    (band image.width rows.start rows.count (pixel_at image)
+    ++ drop ((rows.start - top + rows.count) * image.width) old)
 
 -- the plane after these rows of an image are written to it; only these rows are then readable, and
 -- the plane has the image's valid rectangle
 abbrev pub with_rows : Band → ImageValue → PlaneValue → PlaneValue
 with_rows rows image p =
-    record { desc = p.desc; valid = image.valid; top = p.top; rows = rows; format = p.format; samples = written_among p.top rows image p.samples }
+    record {
+      desc = p.desc;
+      valid = image.valid;
+      top = p.top;
+      rows = rows;
+      format = p.format;
+      samples = written_among p.top rows image p.samples;
+    }
 
 -- the plane of a client's image, with all rows
 abbrev pub whole_plane : Description → Rectangle → Samples → PlaneValue
 whole_plane d valid block =
-    record { desc = d; valid = valid; top = 0; rows = all_rows d.height; format = samples_format block; samples = values block }
+    record {
+      desc = d;
+      valid = valid;
+      top = 0;
+      rows = all_rows d.height;
+      format = samples_format block;
+      samples = values block;
+    }
 
 -- the plane of a slot, which holds no virtual image yet; its description isn't used
 abbrev pub slot_plane : Samples → PlaneValue
 slot_plane block =
-    record { desc = record { width = 1; height = 1; format = U8 }; valid = empty_rectangle; top = 0; rows = all_rows 0; format = samples_format block; samples = values block }
+    record {
+      desc = record { width = 1; height = 1; format = U8 };
+      valid = empty_rectangle;
+      top = 0;
+      rows = all_rows 0;
+      format = samples_format block;
+      samples = values block;
+    }
 
 -- the plane as it begins to hold a virtual image of this description, in a block that begins with
 -- row `top`; the valid rectangle becomes empty
 abbrev pub with_description : Description → ℕ → PlaneValue → PlaneValue
 with_description d top p =
-    record { desc = d; valid = empty_rectangle; top = top; rows = p.rows; format = p.format; samples = p.samples }
+    record {
+      desc = d;
+      valid = empty_rectangle;
+      top = top;
+      rows = p.rows;
+      format = p.format;
+      samples = p.samples;
+    }
 
 -- the plane after its block is taken away
 abbrev pub without_block : PlaneValue → PlaneValue
@@ -74,7 +106,14 @@ without_block p = record p { samples = [] }
 -- the plane at an index outside the list
 abbrev pub no_plane : PlaneValue
 no_plane =
-    record { desc = record { width = 0; height = 0; format = U8 }; valid = empty_rectangle; top = 0; rows = all_rows 0; format = U8; samples = [] }
+    record {
+      desc = record { width = 0; height = 0; format = U8 };
+      valid = empty_rectangle;
+      top = 0;
+      rows = all_rows 0;
+      format = U8;
+      samples = [];
+    }
 
 -- the plane at an index
 abbrev pub plane : List PlaneValue → ℕ → PlaneValue

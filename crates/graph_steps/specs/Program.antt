@@ -45,8 +45,12 @@ images_at_end tables (t ∷ later) images = images_at_end tables later (images_a
 -- each task can run on the whole images that it meets, if the heights are at most `high`
 abbrev pub RunsInTurn : (ℕ → Option ObjectValue) → ℕ → List Task → (ℕ → ImageValue) → Type 0
 RunsInTurn tables high [] images = Unit {0}
-RunsInTurn tables high (Write s ∷ later) images = Suits tables high s images × RunsInTurn tables high later (images_after tables (Write s) images)
-RunsInTurn tables high (Reduce r ∷ later) images = IsImage (images r.input) × ((images r.input).height ≤ high) × RunsInTurn tables high later images
+RunsInTurn tables high (Write s ∷ later) images =
+    Suits tables high s images × RunsInTurn tables high later (images_after tables (Write s) images)
+RunsInTurn tables high (Reduce r ∷ later) images =
+    IsImage (images r.input)
+    × ((images r.input).height ≤ high)
+    × RunsInTurn tables high later images
 
 -- ---- planes of a client's images
 
@@ -57,7 +61,8 @@ IsUnwritten tasks c = (s : Step) → IsStepOf s tasks → s.output ≢ c
 -- each client's image is written by at most one step
 abbrev pub HaveOneWriter : List Task → Type 0
 HaveOneWriter [] = Unit {0}
-HaveOneWriter (Write s ∷ later) = (s.describes ≡ None → IsUnwritten later s.output) × HaveOneWriter later
+HaveOneWriter (Write s ∷ later) =
+    (s.describes ≡ None → IsUnwritten later s.output) × HaveOneWriter later
 HaveOneWriter (Reduce r ∷ later) = HaveOneWriter later
 
 -- the plane at this index has a client's image; the planes of the slots come first
@@ -71,13 +76,17 @@ IsClients slots count c = (slots ≤ c) × (c < count)
 -- client's
 abbrev pub IsNeeded : (ℕ → Type 0) → ℕ → List Task → ℕ → ℕ → Type 0
 IsNeeded kept high [] c rows = kept c × (rows ≡ 0)
-IsNeeded kept high (Write s ∷ later) c rows = (ReadsPlane s c × (rows ≡ min high (s.halo + s.radius))) ⊎ ((c ≢ s.output) × IsNeeded kept high later c rows)
-IsNeeded kept high (Reduce r ∷ later) c rows = ((r.input ≡ c) × (rows ≡ 0)) ⊎ IsNeeded kept high later c rows
+IsNeeded kept high (Write s ∷ later) c rows =
+    (ReadsPlane s c × (rows ≡ min high (s.halo + s.radius)))
+    ⊎ ((c ≢ s.output) × IsNeeded kept high later c rows)
+IsNeeded kept high (Reduce r ∷ later) c rows =
+    ((r.input ≡ c) × (rows ≡ 0)) ⊎ IsNeeded kept high later c rows
 
 -- each step writes as many rows above and below a band as later tasks need of its output
 abbrev pub AreEnough : ℕ → List Task → Type 0
 AreEnough high [] = Unit {0}
-AreEnough high (Write s ∷ later) = ((rows : ℕ) → IsNeeded (λ c. ⊥) high later s.output rows → rows ≤ s.halo) × AreEnough high later
+AreEnough high (Write s ∷ later) =
+    ((rows : ℕ) → IsNeeded (λ c. ⊥) high later s.output rows → rows ≤ s.halo) × AreEnough high later
 AreEnough high (Reduce r ∷ later) = AreEnough high later
 
 -- ---- a band
@@ -92,20 +101,31 @@ after_task tables rows (Write s) planes = after_step tables s (band_rows s rows 
 after_task tables rows (Reduce r) planes = planes
 
 -- the planes after all tasks on a band, in order
-abbrev pub after_tasks : (ℕ → Option ObjectValue) → Band → List Task → List PlaneValue → List PlaneValue
+abbrev pub after_tasks : (ℕ → Option ObjectValue)
+    → Band
+    → List Task
+    → List PlaneValue
+    → List PlaneValue
 after_tasks tables rows [] planes = planes
-after_tasks tables rows (t ∷ later) planes = after_tasks tables rows later (after_task tables rows t planes)
+after_tasks tables rows (t ∷ later) planes =
+    after_tasks tables rows later (after_task tables rows t planes)
 
 -- ---- programs
 
 -- the block has the image's format and is large enough for a band of `size` rows with `more` rows
 -- of halo above and as many below
 abbrev pub HoldsRows : ℕ → ℕ → Description → Format × ℕ → Type 0
-HoldsRows size more d block = (block.0 ≡ d.format) × (min d.height (size + more + more) * d.width ≤ block.1)
+HoldsRows size more d block =
+    (block.0 ≡ d.format) × (min d.height (size + more + more) * d.width ≤ block.1)
 
 -- each slot's block holds a band, with halo, of each virtual image that steps write to the slot
 abbrev pub HaveRoom : ℕ → List Task → List (Format × ℕ) → Type 0
-HaveRoom size tasks blocks = (s : Step) → IsStepOf s tasks → (d : Description) → s.describes ≡ Some d → HoldsRows size s.halo d (capacity blocks s.output)
+HaveRoom size tasks blocks =
+    (s : Step)
+    → IsStepOf s tasks
+    → (d : Description)
+    → s.describes ≡ Some d
+    → HoldsRows size s.halo d (capacity blocks s.output)
 
 -- a step's planes have indices below `count`, and its output isn't an input. A virtual image is
 -- written to the plane of a slot, and a client's image to its own plane. A step that accumulates
@@ -125,7 +145,8 @@ pub record IsClient (p : PlaneValue) : Type 0 where
 
 -- the tasks can run in bands of `size` rows over planes of at most `high` rows. The first `slots`
 -- planes are for virtual images.
-pub record IsProgram (tables : ℕ → Option ObjectValue) (high size slots : ℕ) (tasks : List Task) (planes : List PlaneValue) : Type 0 where
+pub record IsProgram (tables : ℕ → Option ObjectValue) (high size slots : ℕ) (tasks : List Task)
+    (planes : List PlaneValue) : Type 0 where
   pub some : 0 < high
   pub forward : 0 < size
   pub clients : (c : ℕ) → IsClients slots (length planes) c → IsClient (plane planes c)
@@ -135,9 +156,14 @@ pub record IsProgram (tables : ℕ → Option ObjectValue) (high size slots : �
   pub runs : RunsInTurn tables high tasks (block_images planes)
   pub one_writer : HaveOneWriter tasks
   -- a task's input was written by an earlier step, or is a client's image that no step writes
-  pub begins : (c rows : ℕ) → IsNeeded (IsClients slots (length planes)) high tasks c rows → IsUnwritten tasks c × IsClients slots (length planes) c
+  pub begins : (c rows : ℕ)
+      → IsNeeded (IsClients slots (length planes)) high tasks c rows
+      → IsUnwritten tasks c × IsClients slots (length planes) c
   pub enough : AreEnough high tasks
   pub room : HaveRoom size tasks (capacities planes)
   -- a step that reads its own output writes each row once, to an image of all rows: either the
   -- output is a client's image and has no halo, or there is only one band
-  pub once : (s : Step) → IsStepOf s tasks → reads_output s.node.function ≡ true → ((s.halo ≡ 0) × (s.describes ≡ None)) ⊎ (high ≤ size)
+  pub once : (s : Step)
+      → IsStepOf s tasks
+      → reads_output s.node.function ≡ true
+      → ((s.halo ≡ 0) × (s.describes ≡ None)) ⊎ (high ≤ size)

@@ -37,14 +37,18 @@ abbrev pub ReadsPlane : Step → ℕ → Type 0
 ReadsPlane s c = (s.first ≡ c) ⊎ (s.second ≡ Plane c)
 
 -- a step's second input: an image, an object of `tables`, or none
-abbrev pub second_in : (ℕ → Option ObjectValue) → (ℕ → ImageValue) → SecondSource → Option ObjectValue
+abbrev pub second_in : (ℕ → Option ObjectValue)
+    → (ℕ → ImageValue)
+    → SecondSource
+    → Option ObjectValue
 second_in tables images Nothing = None
 second_in tables images (Plane c) = Some (ImageObject (images c))
 second_in tables images (Table k) = tables k
 
 -- the image that a step computes from its inputs and, if it accumulates, from its old output
 abbrev pub image_from_inputs : Step → ImageValue → Option ObjectValue → ImageValue → ImageValue
-image_from_inputs s first second own = node_image s.node s.which own.format first (second_or_output s.node second (ImageObject own))
+image_from_inputs s first second own =
+    node_image s.node s.which own.format first (second_or_output s.node second (ImageObject own))
 
 -- the image that a kernel computes, given the old output
 abbrev pub kernel_image : Kernel → ImageValue → ImageValue
@@ -56,7 +60,8 @@ held_image out = image_over_rows out.desc out.valid out.rows (target_image out).
 
 -- the image that a step computes from its inputs in `images` and `tables`, given the old output
 abbrev pub step_image : (ℕ → Option ObjectValue) → Step → (ℕ → ImageValue) → ImageValue → ImageValue
-step_image tables s images own = image_from_inputs s (images s.first) (second_in tables images s.second) own
+step_image tables s images own =
+    image_from_inputs s (images s.first) (second_in tables images s.second) own
 
 -- an image with this description and no samples
 abbrev pub blank_image : Description → ImageValue
@@ -75,7 +80,16 @@ whole_image tables s images = step_image tables s images (own_by s.describes (im
 -- plane indices aren't used
 abbrev pub lent_step : Node → Output → Step
 lent_step n which =
-    record { node = n; which = which; first = 0; second = Nothing; output = 0; describes = None; radius = 0; halo = 0 }
+    record {
+      node = n;
+      which = which;
+      first = 0;
+      second = Nothing;
+      output = 0;
+      describes = None;
+      radius = 0;
+      halo = 0;
+    }
 
 -- ---- integral images
 
@@ -92,17 +106,27 @@ reads_output function = accumulates function || is_integral function
 -- the integral image's row above `start`, in a block that begins with row `top`; 0 if the block has
 -- no such row
 abbrev pub sums_above : ℕ → ℕ → ℕ → List ℤ → ℕ → ℕ
-sums_above width top start samples x = if start == top then 0 else unsigned_abs (slice_index_or samples ((start - top - 1) * width + x) (pos 0))
+sums_above width top start samples x =
+    if start == top then 0 else unsigned_abs
+    (slice_index_or samples ((start - top - 1) * width + x) (pos 0))
 
 -- the integral image in the rows from `start` on, continued from the row above `start` in the
 -- output's block
 abbrev pub scan_image : ℕ → ImageValue → PlaneValue → ImageValue
-scan_image start first out = image_from first.width first.height out.desc.format first.valid (sum_on first start (sums_above out.desc.width out.top start out.samples))
+scan_image start first out =
+    image_from first.width first.height out.desc.format first.valid
+    (sum_on first start (sums_above out.desc.width out.top start out.samples))
 
 -- the image whose rows a step writes
-abbrev pub rows_image : (ℕ → Option ObjectValue) → Step → Band → (ℕ → ImageValue) → PlaneValue → ImageValue
+abbrev pub rows_image : (ℕ → Option ObjectValue)
+    → Step
+    → Band
+    → (ℕ → ImageValue)
+    → PlaneValue
+    → ImageValue
 rows_image tables s rows images out =
-    if is_integral s.node.function then scan_image rows.start (images s.first) out else step_image tables s images (plane_image (with_read_rows rows out))
+    if is_integral s.node.function then scan_image rows.start (images s.first) out else
+    step_image tables s images (plane_image (with_read_rows rows out))
 
 -- a step's radius: the number of input rows that it reads above an output row, and as many below.
 -- It is 0 for Integral, which continues from the output row above. It is None if the function
@@ -114,10 +138,16 @@ step_radius function matrix = if is_integral function then Some 0 else window_ra
 
 -- the inputs and an output of this description have the kinds, formats and sizes that the function
 -- takes
-pub record CanMake (s : Step) (first : ImageValue) (second : Option ObjectValue) (out : Description) : Type 0 where
+pub record CanMake (s : Step) (first : ImageValue) (second : Option ObjectValue)
+    (out : Description) : Type 0 where
   pub node : IsNode s.node
-  pub kind : IfSome second (λ object. (parameters s.node.function).second_input ≡ Some (object_kind object))
-  pub formats : IsTrue (takes_formats s.node.function first.format (option_and_then object_format second) (Some out.format))
+  pub kind :
+      IfSome second
+      (λ object. (parameters s.node.function).second_input ≡ Some (object_kind object))
+  pub formats :
+      IsTrue
+      (takes_formats s.node.function first.format (option_and_then object_format second)
+      (Some out.format))
   pub size : IsTrue (same_size out (description_of first))
   pub second_size : SecondHasSize first second
 
@@ -127,10 +157,15 @@ Covers (Some rows) radius high = rows ≤ radius
 Covers None radius high = high ≤ radius
 
 -- a step can run on these whole images, if the heights are at most `high`
-pub record Suits (tables : ℕ → Option ObjectValue) (high : ℕ) (s : Step) (images : ℕ → ImageValue) : Type 0 where
-  pub makes : CanMake s (images s.first) (second_in tables images s.second) (description_of (own_by s.describes (images s.output)))
+pub record Suits (tables : ℕ → Option ObjectValue) (high : ℕ) (s : Step)
+    (images : ℕ → ImageValue) : Type 0 where
+  pub makes :
+      CanMake s (images s.first) (second_in tables images s.second)
+      (description_of (own_by s.describes (images s.output)))
   pub table : (k : ℕ) → s.second ≡ Table k → IfSome (tables k) IsObject
-  pub near : Covers (step_radius s.node.function (matrix_in (second_in tables images s.second))) s.radius high
+  pub near :
+      Covers (step_radius s.node.function (matrix_in (second_in tables images s.second)))
+      s.radius high
   pub tall : (c : ℕ) → ReadsPlane s c → (images c).height ≤ high
 
 -- the description of a step's output
@@ -138,21 +173,32 @@ abbrev pub output_desc : Step → List PlaneValue → Description
 output_desc s planes = unwrap_or s.describes (plane planes s.output).desc
 
 -- a step can write these rows of its output
-pub record CanStep (tables : ℕ → Option ObjectValue) (s : Step) (rows : Band) (planes : List PlaneValue) : Type 0 where
-  pub makes : CanMake s (read_images planes s.first) (second_in tables (read_images planes) s.second) (output_desc s planes)
+pub record CanStep (tables : ℕ → Option ObjectValue) (s : Step) (rows : Band)
+    (planes : List PlaneValue) : Type 0 where
+  pub makes :
+      CanMake s (read_images planes s.first) (second_in tables (read_images planes) s.second)
+      (output_desc s planes)
   pub table : (k : ℕ) → s.second ≡ Table k → IfSome (tables k) IsObject
   pub output : s.output < length planes
-  pub reads : (c : ℕ) → ReadsPlane s c → (c < length planes) × (c ≢ s.output) × IsReadable (plane planes c)
+  pub reads : (c : ℕ)
+      → ReadsPlane s c
+      → (c < length planes) × (c ≢ s.output) × IsReadable (plane planes c)
   pub within : IsInRows (output_desc s planes).height rows
   -- the plane of a virtual image has the image's format, and a block that is large enough
-  pub block : (d : Description) → s.describes ≡ Some d → ((plane planes s.output).format ≡ d.format) × (rows.count * d.width ≤ length (plane planes s.output).samples)
+  pub block : (d : Description)
+      → s.describes ≡ Some d
+      → ((plane planes s.output).format ≡ d.format)
+      × (rows.count * d.width ≤ length (plane planes s.output).samples)
   -- a client's image has all rows
   pub whole : s.describes ≡ None → IsWhole (plane planes s.output)
 
 -- a step that reads these planes can write these rows of this output
-pub record CanWrite (tables : ℕ → Option ObjectValue) (s : Step) (rows : Band) (planes : List PlaneValue) (out : PlaneValue) : Type 0 where
+pub record CanWrite (tables : ℕ → Option ObjectValue) (s : Step) (rows : Band)
+    (planes : List PlaneValue) (out : PlaneValue) : Type 0 where
   pub reads : (c : ℕ) → ReadsPlane s c → (c < length planes) × IsReadable (plane planes c)
-  pub makes : CanMake s (read_images planes s.first) (second_in tables (read_images planes) s.second) out.desc
+  pub makes :
+      CanMake s (read_images planes s.first) (second_in tables (read_images planes) s.second)
+      out.desc
   pub output : TakesRows rows out
 
 -- ---- effect on planes
@@ -167,7 +213,8 @@ output_plane (Some d) top p = with_description d top p
 abbrev pub after_step : (ℕ → Option ObjectValue) → Step → Band → List PlaneValue → List PlaneValue
 after_step tables s rows planes =
     let out = output_plane s.describes rows.start (plane planes s.output) in
-    slice_set planes s.output (with_rows rows (rows_image tables s rows (read_images planes) out) out)
+    slice_set planes s.output
+    (with_rows rows (rows_image tables s rows (read_images planes) out) out)
 
 -- the format and the number of samples of each plane's block
 abbrev pub capacities : List PlaneValue → List (Format × ℕ)

@@ -33,24 +33,40 @@ use Rattle.graph_tests.proofs.LinkLemmas.{Finds, IsThere, link_finds, link_is, o
 -- ---- the table is made
 
 -- one more step to a context
-pub step : (f : Context → Context) (k next value : Context) → next ≡ f k → k ≡ value → next ≡ f value
+pub step : (f : Context → Context) (k next value : Context)
+    → next ≡ f k
+    → k ≡ value
+    → next ≡ f value
 step f k next value is before = is ∙ ap f before
 
 -- one more node
-pub added : (a b : ImageValue) (d : PartialDesc) (g : GraphValue) (n : Node) (k next : Context) → next ≡ with_objects k (with_graph k.objects 3 (with_node (graph_under k.objects 3) n))
-    → k ≡ record { next = 9; objects = linked_by g a b d } → next ≡ record { next = 9; objects = linked_by (with_node g n) a b d }
-added a b d g n k next is before = is ∙ ap (λ (c : Context). with_objects c (with_graph c.objects 3 (with_node (graph_under c.objects 3) n))) before
+pub added : (a b : ImageValue) (d : PartialDesc) (g : GraphValue) (n : Node) (k next : Context)
+    → next ≡ with_objects k (with_graph k.objects 3 (with_node (graph_under k.objects 3) n))
+    → k ≡ record { next = 9; objects = linked_by g a b d }
+    → next ≡ record { next = 9; objects = linked_by (with_node g n) a b d }
+added a b d g n k next is before =
+    is
+    ∙ ap
+    (λ (c : Context). with_objects c
+    (with_graph c.objects 3 (with_node (graph_under c.objects 3) n)))
+    before
 
 -- ---- what it holds are objects
 
 -- each link is a valid node, and the graph can take it
 abbrev HasRoom : GraphValue → List (ℕ × ℕ) → Type 0
 HasRoom g [] = Unit {0}
-HasRoom g (l ∷ links) = (can_add g ≡ true) × IsNode (box_to l.0 l.1) × HasRoom (with_node g (box_to l.0 l.1)) links
+HasRoom g (l ∷ links) =
+    (can_add g ≡ true) × IsNode (box_to l.0 l.1) × HasRoom (with_node g (box_to l.0 l.1)) links
 
-boxes_are : (g : GraphValue) (links : List (ℕ × ℕ)) → IsGraph g → HasRoom g links → IsGraph (with_boxes g links)
+boxes_are : (g : GraphValue) (links : List (ℕ × ℕ))
+    → IsGraph g
+    → HasRoom g links
+    → IsGraph (with_boxes g links)
 boxes_are g [] is room = is
-boxes_are g (l ∷ links) is (room, node, more) = boxes_are (with_node g (box_to l.0 l.1)) links (IsGraph-with_node g (box_to l.0 l.1) is room node) more
+boxes_are g (l ∷ links) is (room, node, more) =
+    boxes_are (with_node g (box_to l.0 l.1)) links
+    (IsGraph-with_node g (box_to l.0 l.1) is room node) more
 
 new_is : IsGraph new_graph
 new_is = grind arith
@@ -66,7 +82,15 @@ six_are =
         (
           refl,
           link_is Box 5 6 refl (omega arith) (omega arith),
-          (refl, link_is Box 6 7 refl (omega arith) (omega arith), (refl, link_is Box 7 8 refl (omega arith) (omega arith), (refl, link_is Box 8 2 refl (omega arith) (omega arith), tt))),
+          (
+            refl,
+            link_is Box 6 7 refl (omega arith) (omega arith),
+            (
+              refl,
+              link_is Box 7 8 refl (omega arith) (omega arith),
+              (refl, link_is Box 8 2 refl (omega arith) (omega arith), tt),
+            ),
+          ),
         ),
       ),
     )
@@ -74,15 +98,24 @@ six_are =
 abbrev pub chain : ImageValue → ImageValue → PartialDesc → List NamedObject
 chain a b d = linked_by six_boxes a b d
 
-pub chain_objects : (a b : ImageValue) (d : PartialDesc) → IsImage a → IsImage b → IsPartialDescription d → All (λ o. IsObject o.object) (chain a b d)
+pub chain_objects : (a b : ImageValue) (d : PartialDesc)
+    → IsImage a
+    → IsImage b
+    → IsPartialDescription d
+    → All (λ o. IsObject o.object) (chain a b d)
 chain_objects a b d first second partial_desc =
-    let virtual : IsObject (chain_image d) = record { graph = omega arith; declared = partial_desc } in
-    All-from_recursion (λ (o : NamedObject). IsObject o.object) (chain a b d) (first, (second, (six_are, (virtual, (virtual, (virtual, (virtual, (virtual, tt))))))))
+    let virtual : IsObject (chain_image d) =
+    record { graph = omega arith; declared = partial_desc } in
+    All-from_recursion (λ (o : NamedObject). IsObject o.object) (chain a b d) (
+      first,
+      (second, (six_are, (virtual, (virtual, (virtual, (virtual, (virtual, tt))))))),
+    )
 
 abbrev names : List ℕ
 names = 1 ∷ 2 ∷ 3 ∷ 4 ∷ 5 ∷ 6 ∷ 7 ∷ 8 ∷ []
 
-chain_names : (a b : ImageValue) (d : PartialDesc) → IsStrictlyIncreasing (map {A = NamedObject} {B = ℕ} (λ o. o.name) (chain a b d))
+chain_names : (a b : ImageValue) (d : PartialDesc)
+    → IsStrictlyIncreasing (map {A = NamedObject} {B = ℕ} (λ o. o.name) (chain a b d))
 chain_names a b d = each
   where
     each : (k : ℕ) → k + 1 < 8 → slice_index names k < slice_index names (k + 1)
@@ -97,7 +130,9 @@ chain_names a b d = each
 
 -- ---- its graph can run
 
-nodes_there : (o : Option ObjectValue) (other : ObjectValue) (nodes : List Node) → option_map nodes_in o ≡ Some nodes → nodes_of (graph_value (unwrap_or o other)) ≡ nodes
+nodes_there : (o : Option ObjectValue) (other : ObjectValue) (nodes : List Node)
+    → option_map nodes_in o ≡ Some nodes
+    → nodes_of (graph_value (unwrap_or o other)) ≡ nodes
 nodes_there o other nodes e = grind arith
 
 abbrev pub chain_nodes : List Node
@@ -106,16 +141,22 @@ chain_nodes = nodes_of six_boxes
 pub nodes_are : All IsNode chain_nodes
 nodes_are = All-map IsNode (λ (n : Numbered). n.node) six_boxes.nodes six_are.nodes
 
-module _ (objects : List NamedObject) (a b : ImageValue) (d : PartialDesc) (lasts : Lasts (chain a b d) objects) where
+module _ (objects : List NamedObject) (a b : ImageValue) (d : PartialDesc)
+    (lasts : Lasts (chain a b d) objects) where
   abbrev is : Reference → Option Operand
   is = operands_in objects
 
   -- each cell is to a node what it was at first
   stays : (cell : Reference) → is cell ≡ operands_in (chain a b d) cell
-  stays cell = option_map-determined skeleton operand_of operand_of operand-skeleton (object_at objects cell) (object_at (chain a b d) cell)
-      (skeletons-last (object_at objects cell) (object_at (chain a b d) cell) (cell-lasts (chain a b d) objects cell lasts.lasting))
+  stays cell =
+      option_map-determined skeleton operand_of operand_of operand-skeleton
+      (object_at objects cell) (object_at (chain a b d) cell)
+      (skeletons-last (object_at objects cell) (object_at (chain a b d) cell)
+      (cell-lasts (chain a b d) objects cell lasts.lasting))
 
-  there : (name : ℕ) → IsThere (operands_in (chain a b d) (reference_to name)) → IsThere (is (reference_to name))
+  there : (name : ℕ)
+      → IsThere (operands_in (chain a b d) (reference_to name))
+      → IsThere (is (reference_to name))
   there name at_first = subst IsThere (sym (stays (reference_to name))) at_first
 
   pub all_find : All (Finds is) chain_nodes
@@ -142,17 +183,25 @@ module _ (objects : List NamedObject) (a b : ImageValue) (d : PartialDesc) (last
       )
 
   -- the object under name 3 is the graph
-  graph_there : option_map lasting_part (object_held objects 3) ≡ Some (lasting_part (GraphObject six_boxes))
+  graph_there :
+      option_map lasting_part (object_held objects 3) ≡ Some (lasting_part (GraphObject six_boxes))
   graph_there = held-lasts (chain a b d) objects 3 lasts.lasting
 
   pub is_graph : IsUnder objects kind.Graph 3
-  is_graph = option_map-determined skeleton object_kind object_kind kind-skeleton (object_held objects 3) (Some (GraphObject six_boxes)) (skeletons-last (object_held objects 3) (Some (GraphObject six_boxes)) graph_there)
+  is_graph =
+      option_map-determined skeleton object_kind object_kind kind-skeleton
+      (object_held objects 3) (Some (GraphObject six_boxes))
+      (skeletons-last (object_held objects 3) (Some (GraphObject six_boxes)) graph_there)
 
   pub nodes_under : nodes_of (graph_under objects 3) ≡ chain_nodes
-  nodes_under = nodes_there (object_held objects 3) _ chain_nodes (nodes-last (object_held objects 3) (Some (GraphObject six_boxes)) graph_there)
+  nodes_under =
+      nodes_there (object_held objects 3) _ chain_nodes
+      (nodes-last (object_held objects 3) (Some (GraphObject six_boxes)) graph_there)
 
   pub first_images : All (λ n. IsTrue (is_image (operand_held objects n.in1))) chain_nodes
-  first_images = All-weaker (Finds is) (λ n. IsTrue (is_image (operand_held objects n.in1))) (λ n f. f.first) chain_nodes all_find
+  first_images =
+      All-weaker (Finds is) (λ n. IsTrue (is_image (operand_held objects n.in1)))
+      (λ n f. f.first) chain_nodes all_find
 
   pub names_increase : IsStrictlyIncreasing (map {A = NamedObject} {B = ℕ} (λ o. o.name) objects)
   names_increase = Lasts-names (chain a b d) objects lasts (chain_names a b d)

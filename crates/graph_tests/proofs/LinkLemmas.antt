@@ -27,7 +27,11 @@ use Rattle.graph_run.proofs.LinkLaws.{In-from_All}
 abbrev link : Function → ℕ → ℕ → Node
 link function input output = node_to function Wrap input None output
 
-pub link_is : (function : Function) (input output : ℕ) → is_node (link function input output) ≡ true → input < 2 ^ 32 → output < 2 ^ 32 → IsNode (link function input output)
+pub link_is : (function : Function) (input output : ℕ)
+    → is_node (link function input output) ≡ true
+    → input < 2 ^ 32
+    → output < 2 ^ 32
+    → IsNode (link function input output)
 link_is function input output shape in1 out1 =
     record {
       shape = shape;
@@ -40,13 +44,26 @@ link_is function input output shape in1 out1 =
     }
 
 -- what it names is the one or the other
-writes_output : (function : Function) (input output : ℕ) (c : Reference) → writes (link function input output) c ≡ true → c ≡ reference_to output
-writes_output function input output c w = elim (In-from_same c (outputs (link function input output)) w) [ inl same ↦ same | inr none ↦ absurd none ]
+writes_output : (function : Function) (input output : ℕ) (c : Reference)
+    → writes (link function input output) c ≡ true
+    → c ≡ reference_to output
+writes_output function input output c w =
+    elim (In-from_same c (outputs (link function input output)) w) [
+      | inl same ↦ same
+      | inr none ↦ absurd none
+    ]
 
-names_one : (function : Function) (input output : ℕ) (c : Reference) → names_cell (link function input output) c ≡ true → (c ≡ reference_to input) ⊎ (c ≡ reference_to output)
+names_one : (function : Function) (input output : ℕ) (c : Reference)
+    → names_cell (link function input output) c ≡ true
+    → (c ≡ reference_to input) ⊎ (c ≡ reference_to output)
 names_one function input output c named =
-    elim (or_cases (reads (link function input output) c) (writes (link function input output) c) named) [
-      | inl r ↦ elim (In-from_same c (inputs (link function input output)) r) [ inl same ↦ inl same | inr none ↦ absurd none ]
+    elim
+    (or_cases (reads (link function input output) c) (writes (link function input output) c)
+    named) [
+      | inl r ↦ elim (In-from_same c (inputs (link function input output)) r) [
+        | inl same ↦ inl same
+        | inr none ↦ absurd none
+      ]
       | inr w ↦ inr (writes_output function input output c w)
     ]
 
@@ -64,21 +81,34 @@ pub record IsThere (o : Option Operand) : Type 0 where
 pub record Finds (is : Reference → Option Operand) (n : Node) : Type 0 where
   pub first : is_image (found_as (is n.in1)) ≡ true
   pub found : (c : Reference) → names_cell n c ≡ true → is c ≡ Some (found_as (is c))
-  pub kinds : (c : Reference) → writes n c ≡ true → StandsFor (found_as (is c)) (parameters n.function).output
+  pub kinds : (c : Reference)
+      → writes n c ≡ true
+      → StandsFor (found_as (is c)) (parameters n.function).output
   pub each : All (λ operand. StandsFor (found_as (is operand.0)) operand.1) (operands n)
 
-pub link_finds : (is : Reference → Option Operand) (function : Function) (input output : ℕ) → (parameters function).output ≡ kind.Image
-    → IsThere (is (reference_to input)) → IsThere (is (reference_to output)) → Finds is (link function input output)
+pub link_finds : (is : Reference → Option Operand) (function : Function) (input output : ℕ)
+    → (parameters function).output ≡ kind.Image
+    → IsThere (is (reference_to input))
+    → IsThere (is (reference_to output))
+    → Finds is (link function input output)
 link_finds is function input output image first out =
-    let stands : StandsFor (found_as (is (reference_to output))) (parameters function).output = subst (λ (k : Kind). StandsFor (found_as (is (reference_to output))) k) (sym image) out.stands in
+    let stands : StandsFor (found_as (is (reference_to output))) (parameters function).output =
+    subst (λ (k : Kind). StandsFor (found_as (is (reference_to output))) k) (sym image)
+    out.stands in
     record {
       first = first.image;
       found = λ c named. elim (names_one function input output c named) [
         | inl same ↦ subst (λ (x : Reference). is x ≡ Some (found_as (is x))) (sym same) first.there
         | inr same ↦ subst (λ (x : Reference). is x ≡ Some (found_as (is x))) (sym same) out.there
       ];
-      kinds = λ c w. subst (λ (x : Reference). StandsFor (found_as (is x)) (parameters function).output) (sym (writes_output function input output c w)) stands;
-      each = All-from_recursion (λ (operand : Reference × Kind). StandsFor (found_as (is operand.0)) operand.1) (operands (link function input output)) (first.stands, (stands, tt));
+      kinds =
+          λ c w. subst
+          (λ (x : Reference). StandsFor (found_as (is x)) (parameters function).output)
+          (sym (writes_output function input output c w)) stands;
+      each =
+          All-from_recursion
+          (λ (operand : Reference × Kind). StandsFor (found_as (is operand.0)) operand.1)
+          (operands (link function input output)) (first.stands, (stands, tt));
     }
 
 -- the operands that cells hold
@@ -86,8 +116,13 @@ abbrev pub operands_in : List NamedObject → Reference → Option Operand
 operands_in objects cell = option_map operand_of (object_at objects cell)
 
 -- nodes that find what they name are ready to run
-pub ready : (objects : List NamedObject) (nodes : List Node) → All IsNode nodes → All (Finds (operands_in objects)) nodes
-    → (v : Verified) (work : ℕ) → IsVerified (operand_held objects) nodes v → verdict work (operand_held objects) nodes ≡ None → IsReady objects nodes v
+pub ready : (objects : List NamedObject) (nodes : List Node)
+    → All IsNode nodes
+    → All (Finds (operands_in objects)) nodes
+    → (v : Verified) (work : ℕ)
+    → IsVerified (operand_held objects) nodes v
+    → verdict work (operand_held objects) nodes ≡ None
+    → IsReady objects nodes v
 ready objects nodes are find v work verified allowed =
     record {
       verified = verified;
@@ -95,8 +130,13 @@ ready objects nodes are find v work verified allowed =
       are_nodes = are;
       cells =
           record {
-            found = λ n c i named. (In-from_All (Finds (operands_in objects)) nodes find n i).found c named;
+            found =
+                λ n c i named. (In-from_All (Finds (operands_in objects)) nodes find n i).found
+                c named;
             kinds = λ n c i w. (In-from_All (Finds (operands_in objects)) nodes find n i).kinds c w;
           };
-      kinds = All-weaker (Finds (operands_in objects)) (λ n. All (λ operand. StandsFor (operand_held objects operand.0) operand.1) (operands n)) (λ n f. f.each) nodes find;
+      kinds =
+          All-weaker (Finds (operands_in objects))
+          (λ n. All (λ operand. StandsFor (operand_held objects operand.0) operand.1) (operands n))
+          (λ n f. f.each) nodes find;
     }

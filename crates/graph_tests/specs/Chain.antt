@@ -35,10 +35,22 @@ chain_image declared = VirtualObject (record { graph = 3; declared = declared })
 
 -- the objects of a table: two images, a graph, and five virtual images
 abbrev pub linked_by : GraphValue → ImageValue → ImageValue → PartialDesc → List NamedObject
-linked_by graph a b declared = live 1 (ImageObject a) ∷ live 2 (ImageObject b) ∷ live 3 (GraphObject graph) ∷ live 4 (chain_image declared)
-    ∷ live 5 (chain_image declared) ∷ live 6 (chain_image declared) ∷ live 7 (chain_image declared) ∷ live 8 (chain_image declared) ∷ []
+linked_by graph a b declared =
+    live 1 (ImageObject a)
+    ∷ live 2 (ImageObject b)
+    ∷ live 3 (GraphObject graph)
+    ∷ live 4 (chain_image declared)
+    ∷ live 5 (chain_image declared)
+    ∷ live 6 (chain_image declared)
+    ∷ live 7 (chain_image declared)
+    ∷ live 8 (chain_image declared)
+    ∷ []
 
 -- the objects are well-formed, and are those of `linked_by six_boxes` except for the parts that a
 -- write or a run may change
 abbrev pub IsChain : List NamedObject → Type 0
-IsChain objects = (a : ImageValue) × (b : ImageValue) × (declared : PartialDesc) × Lasts (linked_by six_boxes a b declared) objects
+IsChain objects =
+    (a : ImageValue)
+    × (b : ImageValue)
+    × (declared : PartialDesc)
+    × Lasts (linked_by six_boxes a b declared) objects

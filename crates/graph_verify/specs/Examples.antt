@@ -49,7 +49,8 @@ accumulate_to input output = node_to Accumulate Wrap input None output
 
 -- an image of this width, height and format
 abbrev pub image_operand : ℕ → ℕ → Format → Operand
-image_operand width height format = Image (record { width = width; height = height; format = format })
+image_operand width height format =
+    Image (record { width = width; height = height; format = format })
 
 -- a virtual image whose size is open, and whose format may be declared
 abbrev pub virtual_of : Option Format → Operand
@@ -65,4 +66,5 @@ example_operand cell =
 
 -- name 2 is this operand; all other names are U8 images of this size
 abbrev pub operand_except : Operand → ℕ → ℕ → Reference → Operand
-operand_except second width height cell = if cell.name == 2 then second else image_operand width height U8
+operand_except second width height cell =
+    if cell.name == 2 then second else image_operand width height U8

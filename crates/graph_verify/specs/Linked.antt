@@ -27,7 +27,8 @@ given_unwritten nodes cell operand = false
 
 -- whether a node reads a virtual image that none of the nodes writes
 abbrev pub reads_unwritten_virtual : List Node → Linked → Bool
-reads_unwritten_virtual nodes l = lacks_writer nodes l.node.in1 l.operands.in1 || given_unwritten nodes l.node.in2 l.operands.in2
+reads_unwritten_virtual nodes l =
+    lacks_writer nodes l.node.in1 l.operands.in1 || given_unwritten nodes l.node.in2 l.operands.in2
 
 -- whether an operand is a virtual image; false if no operand is given
 abbrev pub is_given_virtual : Option Operand → Bool
@@ -36,4 +37,6 @@ is_given_virtual (Some operand) = is_virtual operand
 
 -- whether a node accumulates into a virtual image
 abbrev pub has_virtual_sum : Linked → Bool
-has_virtual_sum l = accumulates l.node.function && (is_given_virtual l.operands.out1 || is_given_virtual l.operands.out2)
+has_virtual_sum l =
+    accumulates l.node.function &&
+    (is_given_virtual l.operands.out1 || is_given_virtual l.operands.out2)

@@ -13,4 +13,5 @@ AllIn {X} xs ys = (x : X) → In x xs → In x ys
 -- xs has some of the members of ys, possibly all or none, in the same order
 abbrev pub IsSublist : {X : Type 0} → List X → List X → Type 0
 IsSublist xs [] = xs ≡ []
-IsSublist {X} xs (y ∷ ys) = IsSublist xs ys ⊎ ((rest : List X) × (xs ≡ y ∷ rest) × IsSublist rest ys)
+IsSublist {X} xs (y ∷ ys) =
+    IsSublist xs ys ⊎ ((rest : List X) × (xs ≡ y ∷ rest) × IsSublist rest ys)

@@ -77,7 +77,12 @@ resolved_bytes other = 0
 
 -- the operands that a node's references denote
 abbrev pub operands_of : (Reference → Operand) → Node → Operands
-operands_of is n = record { in1 = is n.in1; in2 = option_map is n.in2; out1 = option_map is n.out1; out2 = option_map is n.out2 }
+operands_of is n = record {
+  in1 = is n.in1;
+  in2 = option_map is n.in2;
+  out1 = option_map is n.out1;
+  out2 = option_map is n.out2;
+}
 
 -- a node's output operands
 abbrev pub written_operands : Operands → List Operand

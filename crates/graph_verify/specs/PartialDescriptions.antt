@@ -27,17 +27,28 @@ operand_partial_desc other = all_unknown
 -- the description that a function gives its output image: the size of the first input, and the
 -- function's default format for that input
 abbrev pub given_partial_desc : Function → PartialDescription → PartialDescription
-given_partial_desc function first = record { width = first.width; height = first.height; format = option_map (open_format function) first.format }
+given_partial_desc function first = record {
+  width = first.width;
+  height = first.height;
+  format = option_map (open_format function) first.format;
+}
 
 -- the description of an output: the declared parts, with open parts filled in by the node that
 -- writes the output
-abbrev pub written_partial_desc : (Reference → Operand) → Node → (Reference → PartialDescription) → Reference → PartialDescription
-written_partial_desc is n known cell = with_defaults (operand_partial_desc (is cell)) (given_partial_desc n.function (known n.in1))
+abbrev pub written_partial_desc : (Reference → Operand)
+    → Node
+    → (Reference → PartialDescription)
+    → Reference
+    → PartialDescription
+written_partial_desc is n known cell =
+    with_defaults (operand_partial_desc (is cell)) (given_partial_desc n.function (known n.in1))
 
 -- the description of each image after as many rounds as there are nodes, starting from the declared
 -- descriptions. In a round, all nodes fill in their outputs simultaneously.
 abbrev pub partial_descs : (Reference → Operand) → List Node → Reference → PartialDescription
-partial_descs is nodes = rounds writes (written_partial_desc is) nodes (length nodes) (λ cell. operand_partial_desc (is cell))
+partial_descs is nodes =
+    rounds writes (written_partial_desc is) nodes (length nodes)
+    (λ cell. operand_partial_desc (is cell))
 
 -- an image with the full description, if one is given; otherwise a virtual image with the partial
 -- description

@@ -16,7 +16,8 @@ use Rattle.graph_verify.specs.Verdict.{virtual_outputs}
 -- the description of a virtual image in `known`, or None if the image isn't in `known`; parts of
 -- the description may still be open
 abbrev pub known_of : List ResolvedOutput → Reference → Option PartialDescription
-known_of known cell = option_map (λ k. k.partial_desc) (find (λ k. same_reference k.cell cell) known)
+known_of known cell =
+    option_map (λ k. k.partial_desc) (find (λ k. same_reference k.cell cell) known)
 
 -- an operand's partial description; for a virtual image, the description in `known`, or the
 -- declared one if the image isn't in `known`
@@ -26,15 +27,21 @@ known_partial_desc known cell operand = operand_partial_desc operand
 
 -- the output as a list, with open parts filled in from `given`; the list is empty unless the output
 -- is a virtual image
-abbrev pub resolved_output : Option Reference → Option Operand → PartialDescription → List ResolvedOutput
-resolved_output (Some cell) (Some (Virtual declared)) given = record { cell = cell; partial_desc = with_defaults declared given } ∷ []
+abbrev pub resolved_output : Option Reference
+    → Option Operand
+    → PartialDescription
+    → List ResolvedOutput
+resolved_output (Some cell) (Some (Virtual declared)) given =
+    record { cell = cell; partial_desc = with_defaults declared given } ∷ []
 resolved_output cell operand given = []
 
 -- the virtual images that a node writes, resolved from the description of its first input
 abbrev pub resolved_by : List ResolvedOutput → Linked → List ResolvedOutput
 resolved_by known l =
-    resolved_output l.node.out1 l.operands.out1 (given_partial_desc l.node.function (known_partial_desc known l.node.in1 l.operands.in1))
-    ++ resolved_output l.node.out2 l.operands.out2 (given_partial_desc l.node.function (known_partial_desc known l.node.in1 l.operands.in1))
+    resolved_output l.node.out1 l.operands.out1
+    (given_partial_desc l.node.function (known_partial_desc known l.node.in1 l.operands.in1))
+    ++ resolved_output l.node.out2 l.operands.out2
+    (given_partial_desc l.node.function (known_partial_desc known l.node.in1 l.operands.in1))
 
 -- a resolved operand: a virtual image without open parts becomes an image
 abbrev pub known_operand : List ResolvedOutput → Reference → Operand → Operand
@@ -57,10 +64,12 @@ known_operands known l =
 
 -- a virtual image with its full description, if no part of the description is open
 abbrev pub described_output : ResolvedOutput → Option VirtualOutput
-described_output k = option_map (λ d. record { cell = k.cell; desc = d }) (full_description k.partial_desc)
+described_output k =
+    option_map (λ d. record { cell = k.cell; desc = d }) (full_description k.partial_desc)
 
 -- `known` has the virtual images that the nodes write, in the order of writing, each with its
 -- description after all rounds of resolution
-pub record AreResolved (is : Reference → Operand) (nodes : List Node) (known : List ResolvedOutput) : Type 0 where
+pub record AreResolved (is : Reference → Operand) (nodes : List Node)
+    (known : List ResolvedOutput) : Type 0 where
   pub cells : map (λ k. k.cell) known ≡ virtual_outputs is nodes
   pub each : All (λ k. k.partial_desc ≡ partial_descs is nodes k.cell) known

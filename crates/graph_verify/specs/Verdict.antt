@@ -41,18 +41,22 @@ reads_own_output n = list_any (λ a. list_any (same_reference a) (outputs n)) (i
 -- first input has no format
 abbrev pub takes_first : Function → Option Format → Option Format → List Operand → Bool
 takes_first function None second written = false
-takes_first function (Some first) second written = list_all (λ out. takes_formats function first second (operand_format out)) written
+takes_first function (Some first) second written =
+    list_all (λ out. takes_formats function first second (operand_format out)) written
 
 -- whether the function takes the formats of a node's operands
 abbrev pub takes_operands : Function → Operands → Bool
-takes_operands function o = takes_first function (operand_format o.in1) (option_and_then operand_format o.in2) (written_operands o)
+takes_operands function o =
+    takes_first function (operand_format o.in1) (option_and_then operand_format o.in2)
+    (written_operands o)
 
 -- a node's fault: its function doesn't take the formats, or an image doesn't have the size of the
 -- first input
 abbrev pub node_fault : Function → Operands → Option Verdict
 node_fault function o =
     if not (takes_operands function o) then Some InvalidFormat
-    else (if list_all (are_of_one_size o.in1) (other_operands o) then None else Some InvalidDimension)
+    else
+    (if list_all (are_of_one_size o.in1) (other_operands o) then None else Some InvalidDimension)
 
 -- the verdict on a node alone; None if the node can run
 abbrev pub verdict_on : Node → Operands → Option Verdict
@@ -81,12 +85,14 @@ adds_to_virtual is n = accumulates n.function && list_any (λ cell. is_virtual (
 
 -- whether any node accumulates into a virtual image, or reads a virtual image that no node writes
 abbrev pub has_unwritten_input : (Reference → Operand) → List Node → Bool
-has_unwritten_input is nodes = list_any (λ n. reads_unwritten is nodes n || adds_to_virtual is n) nodes
+has_unwritten_input is nodes =
+    list_any (λ n. reads_unwritten is nodes n || adds_to_virtual is n) nodes
 
 -- the fault of the first node that has a fault; the nodes are in the order in which they were added
 abbrev pub first_fault : (Reference → Operand) → List Node → Option Verdict
 first_fault is [] = None
-first_fault is (n ∷ nodes) = option_or (node_fault n.function (operands_of is n)) (first_fault is nodes)
+first_fault is (n ∷ nodes) =
+    option_or (node_fault n.function (operands_of is n)) (first_fault is nodes)
 
 -- the virtual images that the nodes write
 abbrev pub virtual_outputs : (Reference → Operand) → List Node → List Reference
@@ -94,7 +100,8 @@ virtual_outputs is nodes = filter (λ cell. is_virtual (is cell)) (flat_map outp
 
 -- the bytes of the samples of all virtual images that the nodes write
 abbrev pub work_bytes : (Reference → Operand) → List Node → ℕ
-work_bytes is nodes = sum_by (λ cell. resolved_bytes (resolved_operand is nodes cell)) (virtual_outputs is nodes)
+work_bytes is nodes =
+    sum_by (λ cell. resolved_bytes (resolved_operand is nodes cell)) (virtual_outputs is nodes)
 
 -- the verdict on a graph with these operands; its virtual images may take at most `work` bytes.
 -- None if the graph can run
@@ -103,4 +110,5 @@ verdict work is nodes =
     if two_writers nodes then Some MultipleWriters
     else (if has_cycle feeds nodes then Some InvalidGraph
     else (if has_unwritten_input is nodes then Some InvalidLink
-    else option_or (first_fault (resolved_operand is nodes) nodes) (if nat_le (work_bytes is nodes) work then None else Some NoResources)))
+    else option_or (first_fault (resolved_operand is nodes) nodes)
+    (if nat_le (work_bytes is nodes) work then None else Some NoResources)))

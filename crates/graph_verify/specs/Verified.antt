@@ -28,14 +28,16 @@ pub record VerifiedValue : Type 0 where
 
 -- `v` has the nodes in an order in which they can run, and each virtual image that the nodes write,
 -- with its resolved description
-pub record IsVerified (is : Reference → Operand) (nodes : List Node) (v : VerifiedValue) : Type 0 where
+pub record IsVerified (is : Reference → Operand) (nodes : List Node) (v : VerifiedValue) : Type
+    0 where
   pub order : IsOrder feeds nodes v.steps
   pub cells : map (λ o. o.cell) v.virtual_outputs ≡ virtual_outputs is v.steps
   pub descriptions : All (λ o. resolved_operand is nodes o.cell ≡ Image o.desc) v.virtual_outputs
 
 -- `v` is the verification of the graph of these nodes
 abbrev pub VerifiesNodes : List Linked → VerifiedValue → Type 0
-VerifiesNodes nodes v = (is : Reference → Operand) → AreOperands is nodes → IsVerified is (linked_nodes nodes) v
+VerifiesNodes nodes v =
+    (is : Reference → Operand) → AreOperands is nodes → IsVerified is (linked_nodes nodes) v
 
 -- `v` has these nodes in some order, and their numbers in the same order
 abbrev pub ReordersNodes : List Linked → VerifiedValue → Type 0
@@ -43,7 +45,8 @@ ReordersNodes nodes v = IsPermutation (map (λ l. (l.number, l.node)) nodes) (zi
 
 -- the graph of these nodes can run, with a limit of `work` bytes for its virtual images
 abbrev pub CanRunWithin : ℕ → List Linked → Type 0
-CanRunWithin work nodes = (is : Reference → Operand) → AreOperands is nodes → verdict work is (linked_nodes nodes) ≡ None
+CanRunWithin work nodes =
+    (is : Reference → Operand) → AreOperands is nodes → verdict work is (linked_nodes nodes) ≡ None
 
 -- if the graph was refused, P holds for the verdict; if memory ran out, nothing is stated
 abbrev pub IfRefused : VerifyFault → (Verdict → Type 0) → Type 0
@@ -52,7 +55,10 @@ IfRefused (Refused v) P = P v
 
 -- if the graph of these nodes was refused, the fault carries the verdict on this graph
 abbrev pub RefusesNodes : ℕ → List Linked → VerifyFault → Type 0
-RefusesNodes work nodes fault = (is : Reference → Operand) → AreOperands is nodes → IfRefused fault (λ v. verdict work is (linked_nodes nodes) ≡ Some v)
+RefusesNodes work nodes fault =
+    (is : Reference → Operand)
+    → AreOperands is nodes
+    → IfRefused fault (λ v. verdict work is (linked_nodes nodes) ≡ Some v)
 
 -- `v` is the verification of some graph with some operands; no object has two writers, and each
 -- step has a number
@@ -66,4 +72,6 @@ pub record IsVerifiedGraph (v : VerifiedValue) : Type 0 where
 -- the resolved description of a virtual image that the nodes write; None if a part of the
 -- description is still open, and for any other object
 abbrev pub written_description : (Reference → Operand) → List Node → Reference → Option Description
-written_description is nodes cell = if is_virtual (is cell) && is_written nodes cell then operand_description (resolved_operand is nodes cell) else None
+written_description is nodes cell =
+    if is_virtual (is cell) && is_written nodes cell then operand_description
+    (resolved_operand is nodes cell) else None

@@ -16,7 +16,11 @@ pub record WaitingNode : Type 0 where
 -- an unordered node, with the inputs for which it waits; `nodes` are all unordered nodes
 abbrev pub waiting_among : List Node → Linked → WaitingNode
 waiting_among nodes l =
-    record { linked = l; for_in1 = is_written nodes l.node.in1; for_in2 = list_any (is_written nodes) (optional_cells l.node.in2) }
+    record {
+      linked = l;
+      for_in1 = is_written nodes l.node.in1;
+      for_in2 = list_any (is_written nodes) (optional_cells l.node.in2);
+    }
 
 -- an unordered node, updated after another node is ordered: it no longer waits for inputs that the
 -- ordered node writes

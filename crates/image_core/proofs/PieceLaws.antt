@@ -20,19 +20,38 @@ pieces_end n m k some h = ends (n / m + min 1 (n % m)) h (div_ceil_times n m som
     ends c below bound = grind arith
 
 -- one more piece of a row is written, from item `at` on to `end`
-pub piece_written : {T : Type 0} (value : T → ℤ) (g : ℕ → ℤ) (out ws : List T) (x m k r n end : ℕ) → length out ≡ n → m * k < n → end ≡ min (m * k + m) n
-    → map value (take (min (m * k) n) out) ≡ run x (min (m * k) n) g → length ws ≡ end - m * k → map value ws ≡ run (x + m * k) (length ws) g
-    → map value (take (min (m * (k + 1)) n) (put_mid (m * k) r out ws)) ≡ run x (min (m * (k + 1)) n) g
+pub piece_written : {T : Type 0} (value : T → ℤ) (g : ℕ → ℤ) (out ws : List T) (x m k r n end : ℕ)
+    → length out ≡ n
+    → m * k < n
+    → end ≡ min (m * k + m) n
+    → map value (take (min (m * k) n) out) ≡ run x (min (m * k) n) g
+    → length ws ≡ end - m * k
+    → map value ws ≡ run (x + m * k) (length ws) g
+    → map value (take (min (m * (k + 1)) n) (put_mid (m * k) r out ws))
+    ≡ run x (min (m * (k + 1)) n) g
 piece_written value g out ws x m k r n end size begun at_end before long is =
     let first : min (m * k) n ≡ m * k = omega arith in
     let next : m * (k + 1) ≡ m * k + m = grind arith in
     let more : min (m * (k + 1)) n ≡ m * k + length ws = omega (arith, next, long, at_end) in
     let so_far = rw first at before in
-    rw (take-put_mid (m * k) r out ws (min (m * (k + 1)) n) more (omega (arith, size)), map-append value (take (m * k) out) ws, so_far, is, more)
+    rw (
+      take-put_mid (m * k) r out ws (min (m * (k + 1)) n) more (omega (arith, size)),
+      map-append value (take (m * k) out) ws,
+      so_far,
+      is,
+      more,
+    )
     (sym (run-append g x (m * k) (length ws)))
 
 -- a row after all its pieces are written
-pub row_of_pieces : {T : Type 0} (value : T → ℤ) (g : ℕ → ℤ) (out : List T) (x m k n : ℕ) → 1 ≤ m → length out ≡ n → n / m + min 1 (n % m) ≤ k → map value (take (min (m * k) n) out) ≡ run x (min (m * k) n) g → map value out ≡ run x n g
+pub row_of_pieces : {T : Type 0} (value : T → ℤ) (g : ℕ → ℤ) (out : List T) (x m k n : ℕ)
+    → 1 ≤ m
+    → length out ≡ n
+    → n / m + min 1 (n % m) ≤ k
+    → map value (take (min (m * k) n) out) ≡ run x (min (m * k) n) g
+    → map value out ≡ run x n g
 row_of_pieces value g out x m k n some size h written =
     let end = pieces_end n m k some h in
-    ap (map value) (sym (take_all (min (m * k) n) out (omega (arith, end, size)))) ∙ written ∙ ap (λ i. run x i g) end
+    ap (map value) (sym (take_all (min (m * k) n) out (omega (arith, end, size))))
+    ∙ written
+    ∙ ap (λ i. run x i g) end

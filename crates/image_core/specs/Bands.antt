@@ -25,13 +25,23 @@ zero_rows width count = replicate (count * width) (pos 0)
 -- all other samples are 0
 abbrev pub image_over_rows : Description → Rectangle → Band → List ℤ → ImageValue
 image_over_rows d valid rows samples =
-    image_over d valid (zero_rows d.width rows.start ++ (samples ++ zero_rows d.width (d.height - (rows.start + rows.count))))
+    image_over d valid
+    (zero_rows d.width rows.start
+    ++ (samples ++ zero_rows d.width (d.height - (rows.start + rows.count))))
 
 -- the image, with all samples outside the band's rows set to 0
 abbrev pub zero_outside_rows : Band → ImageValue → ImageValue
-zero_outside_rows rows image = image_over_rows (description_of image) image.valid rows (band image.width rows.start rows.count (pixel_at image))
+zero_outside_rows rows image =
+    image_over_rows (description_of image) image.valid rows
+    (band image.width rows.start rows.count (pixel_at image))
 
 -- the image, with only the band's rows in its list of samples
 abbrev pub rows_in : Band → ImageValue → ImageValue
 rows_in rows image =
-    record { width = image.width; height = image.height; format = image.format; valid = image.valid; samples = band image.width rows.start rows.count (pixel_at image) }
+    record {
+      width = image.width;
+      height = image.height;
+      format = image.format;
+      valid = image.valid;
+      samples = band image.width rows.start rows.count (pixel_at image);
+    }

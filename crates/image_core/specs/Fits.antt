@@ -20,8 +20,12 @@ SecondHasSize a other = ⊤
 
 -- The function takes the formats of the inputs and of the output. The output has the first input's
 -- size. If the second input is an image, it also has this size.
-pub record Fits (function : Function) (a : ImageValue) (second : Option ObjectValue) (out : ImageMut) : Type 0 where
+pub record Fits (function : Function) (a : ImageValue) (second : Option ObjectValue)
+    (out : ImageMut) : Type 0 where
   pub target : IsTarget out
   pub size : HaveSameSize (target_image out) a
   pub second_size : SecondHasSize a second
-  pub formats : IsTrue (takes_formats function a.format (option_and_then object_format second) (Some (target_image out).format))
+  pub formats :
+      IsTrue
+      (takes_formats function a.format (option_and_then object_format second)
+      (Some (target_image out).format))

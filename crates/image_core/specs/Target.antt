@@ -7,7 +7,9 @@ use Rattle.image_core.specs.Bands.{IsInRows, rows_in}
 
 -- the output as an image value, which has only the samples of the output's band
 abbrev pub target_image : ImageMut → ImageValue
-target_image image = image_over image.desc image.valid (slice_of image.desc.format image.bytes.now image.shorts.now image.words.now)
+target_image image =
+    image_over image.desc image.valid
+    (slice_of image.desc.format image.bytes.now image.shorts.now image.words.now)
 
 -- an output whose band lies within the image, with one sample for each pixel of the band
 pub record IsTarget (image : ImageMut) : Type 0 where

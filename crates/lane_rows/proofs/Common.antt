@@ -1,6 +1,16 @@
 -- Names that several proofs use. Declares nothing.
 pub use Rattle.lane_rows.specs.MatrixRows.{matrix_sum}
-pub use Rattle.lane_rows.specs.Pairs.{IsNear, IsPairTable, alternation, first_of_pair, line_of, pair_at, row_sum, second_of_pair, sum_of_rows}
+pub use Rattle.lane_rows.specs.Pairs.{
+  IsNear,
+  IsPairTable,
+  alternation,
+  first_of_pair,
+  line_of,
+  pair_at,
+  row_sum,
+  second_of_pair,
+  sum_of_rows,
+}
 pub use Rattle.lane_rows.specs.Quarters.{swap_quarters}
 pub use Rattle.lane_rows.specs.Running.{sum_below, sums_below}
 pub use Rattle.lane_rows.specs.Tallies.{count_at, count_in_all}
@@ -10,12 +20,32 @@ pub use Rattle.std.proofs.Math.Seq.{take-add}
 pub use Rattle.std.proofs.lemmas.Bool.{cases_Bool, cases_eq, cases_lt}
 pub use Rattle.std.proofs.lemmas.Bool.Decides.{nat_tests}
 pub use Rattle.std.proofs.lemmas.Grind.{common_steps}
-pub use Rattle.std.proofs.lemmas.Int.{clamps, fits_signed_from_abs, int_wrap_fits, ints, to_z-of_z, to_z_pos}
+pub use Rattle.std.proofs.lemmas.Int.{
+  clamps,
+  fits_signed_from_abs,
+  int_wrap_fits,
+  ints,
+  to_z-of_z,
+  to_z_pos,
+}
 pub use Rattle.std.proofs.lemmas.List.{drop-map, get_or-map, length-map, map-append, take-map}
 pub use Rattle.std.proofs.lemmas.List.Elements.{All-cons, All-head, All-nil, All-tail}
-pub use Rattle.std.proofs.lemmas.List.Sums.{count_by-le-length, sum_by-append, sum_by-cons, sum_by_more}
+pub use Rattle.std.proofs.lemmas.List.Sums.{
+  count_by-le-length,
+  sum_by-append,
+  sum_by-cons,
+  sum_by_more,
+}
 pub use Rattle.std.proofs.lemmas.Nat.{and_mask}
-pub use Rattle.std.proofs.lemmas.Simd.{Each1-all, Each1-chunk, Each1-from_get_or, length-chunk, length-zip2, map-map, put_chunk_whole}
+pub use Rattle.std.proofs.lemmas.Simd.{
+  Each1-all,
+  Each1-chunk,
+  Each1-from_get_or,
+  length-chunk,
+  length-zip2,
+  map-map,
+  put_chunk_whole,
+}
 pub use Rattle.std.proofs.lemmas.Slice.{take-put_mid}
 pub use Rattle.std.specs.Int.{int_div_euclid, int_max, int_min}
 pub use Rattle.std.specs.Int.Signed.{shr_z}

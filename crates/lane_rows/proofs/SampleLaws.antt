@@ -11,11 +11,18 @@ sample_fits z s =
     first_of (search (rules, ints), grind (arith, ints, low, high))
 
 pub samples_fit : (zs : List ℤ) → All (IsSample S16) zs → Each1 (FitsSigned w16) zs
-samples_fit zs all = Each1-from_get_or (FitsSigned w16) zs (pos 0) (λ i room. sample_fits (get_or zs i (pos 0)) (All-get_or (IsSample S16) zs i (pos 0) room all))
+samples_fit zs all =
+    Each1-from_get_or (FitsSigned w16) zs (pos 0)
+    (λ i room. sample_fits (get_or zs i (pos 0)) (All-get_or (IsSample S16) zs i (pos 0) room all))
 
 -- a block of samples is read back from the bits of the vector that is loaded from it
 abbrev AreRead : ℕ → Type 0
-AreRead n = (zs : List ℤ) → length zs ≡ n → All (IsSample S16) zs → (map (to_z w16) (map (of_z w16) (chunk 0 n zs)) ≡ zs) × Each1 (FitsSigned w16) (map (to_z w16) (map (of_z w16) (chunk 0 n zs)))
+AreRead n =
+    (zs : List ℤ)
+    → length zs ≡ n
+    → All (IsSample S16) zs
+    → (map (to_z w16) (map (of_z w16) (chunk 0 n zs)) ≡ zs)
+    × Each1 (FitsSigned w16) (map (to_z w16) (map (of_z w16) (chunk 0 n zs)))
 
 pub sixteen_read : AreRead 16
 sixteen_read zs long all = read_whole w16 16 zs long (samples_fit zs all)

@@ -34,16 +34,23 @@ second_of_pair table j = slice_index_or table (16 * j + 1) (pos 0)
 
 -- the table holds each of n pairs eight times
 abbrev pub IsPairTable : ℕ → List ℤ → Type 0
-IsPairTable n table = (j : ℕ) → j < n → chunk (16 * j) 16 table ≡ alternation 8 (first_of_pair table j) (second_of_pair table j)
+IsPairTable n table =
+    (j : ℕ)
+    → j < n
+    → chunk (16 * j) 16 table ≡ alternation 8 (first_of_pair table j) (second_of_pair table j)
 
 -- the dot product of a row's samples, from index p on, with the coefficients of n pairs. Pair j
 -- applies to the samples at p + 2 j and p + 2 j + 1
 abbrev pub row_sum : List ℤ → List ℤ → ℕ → ℕ → ℤ
-row_sum row table n p = sum_of_first n (λ j. pair_at row (first_of_pair table j) (second_of_pair table j) (p + 2 * j))
+row_sum row table n p =
+    sum_of_first n (λ j. pair_at row (first_of_pair table j) (second_of_pair table j) (p + 2 * j))
 
 -- `after` is `before` with g 0 to g 15 added to its 16 items, modulo 2 ^ 32
 abbrev pub AreAdded : (ℕ → ℤ) → List ℤ → List ℤ → Type 0
-AreAdded g before after = (f : ℕ → ℤ) → before ≡ run 0 16 (λ i. int_wrap w32 (f i)) → after ≡ run 0 16 (λ i. int_wrap w32 (f i +ℤ g i))
+AreAdded g before after =
+    (f : ℕ → ℤ)
+    → before ≡ run 0 16 (λ i. int_wrap w32 (f i))
+    → after ≡ run 0 16 (λ i. int_wrap w32 (f i +ℤ g i))
 
 -- row l of `items`, which holds rows of `line` items
 abbrev pub line_of : List ℤ → ℕ → ℕ → List ℤ
@@ -52,4 +59,5 @@ line_of items line l = chunk (l * line) line items
 -- the sum of `row_sum` over the first n rows, at an index. Each row has its own 80 items of the
 -- table, enough for five pairs
 abbrev pub sum_of_rows : List ℤ → ℕ → List ℤ → ℕ → ℕ → ℕ → ℤ
-sum_of_rows rows line table pairs n p = sum_of_first n (λ l. row_sum (line_of rows line l) (line_of table 80 l) pairs p)
+sum_of_rows rows line table pairs n p =
+    sum_of_first n (λ l. row_sum (line_of rows line l) (line_of table 80 l) pairs p)

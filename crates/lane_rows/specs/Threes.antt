@@ -25,4 +25,6 @@ zip3 f xs ys zs = []
 
 -- the number that `op` chooses from the three bytes at an index of three rows
 abbrev pub chosen_at : (ℤ → ℤ → ℤ) → Three → ℕ → ℤ
-chosen_at op rows i = op (op (number_at (map pos rows.left.now) i) (number_at (map pos rows.middle.now) i)) (number_at (map pos rows.right.now) i)
+chosen_at op rows i =
+    op (op (number_at (map pos rows.left.now) i) (number_at (map pos rows.middle.now) i))
+    (number_at (map pos rows.right.now) i)

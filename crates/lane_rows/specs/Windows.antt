@@ -6,12 +6,16 @@ use Rattle.lane_rows.specs.declared.nine_rows.Nine.{Nine}
 
 -- the items of three rows at one index
 abbrev pub three_of : Three → ℕ → ℕ × ℕ × ℕ
-three_of rows i = (slice_index rows.left.now i, slice_index rows.middle.now i, slice_index rows.right.now i)
+three_of rows i =
+    (slice_index rows.left.now i, slice_index rows.middle.now i, slice_index rows.right.now i)
 
 -- for each of three rows, the 32 items from an index on
 abbrev pub lanes_of : Three → ℕ → List ℕ × List ℕ × List ℕ
-lanes_of rows index =
-    (map (slice_index rows.left.now) (range_with_len index 32), map (slice_index rows.middle.now) (range_with_len index 32), map (slice_index rows.right.now) (range_with_len index 32))
+lanes_of rows index = (
+  map (slice_index rows.left.now) (range_with_len index 32),
+  map (slice_index rows.middle.now) (range_with_len index 32),
+  map (slice_index rows.right.now) (range_with_len index 32),
+)
 
 -- nine bytes in row-major order, as numbers
 abbrev pub nine_of : ℕ × ℕ × ℕ → ℕ × ℕ × ℕ → ℕ × ℕ × ℕ → List ℤ
@@ -38,4 +42,5 @@ nine_from above here below i = nine_of (three_from above i) (three_from here i) 
 
 -- the weighted sum of `to` minus the weighted sum of `from`, with weights 1, 2, 1
 abbrev pub change : ℕ × ℕ × ℕ → ℕ × ℕ × ℕ → ℤ
-change from to = (pos to.0 -ℤ pos from.0) +ℤ pos 2 *ℤ (pos to.1 -ℤ pos from.1) +ℤ (pos to.2 -ℤ pos from.2)
+change from to =
+    (pos to.0 -ℤ pos from.0) +ℤ pos 2 *ℤ (pos to.1 -ℤ pos from.1) +ℤ (pos to.2 -ℤ pos from.2)

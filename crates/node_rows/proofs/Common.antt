@@ -9,12 +9,38 @@ pub use Rattle.vx_base.proofs.RectangleLaws.{both_inside}
 pub use Rattle.vx_base.specs.Convolution.{ConvolutionValue}
 pub use Rattle.vx_base.specs.Description.{Description}
 pub use Rattle.vx_base.specs.Image.{ImageValue, IsImage, pixel_at, image_from}
-pub use Rattle.vx_base.specs.Object.{ConvolutionObject, ImageObject, IsObject, LutObject, ObjectValue, ThresholdObject}
+pub use Rattle.vx_base.specs.Object.{
+  ConvolutionObject,
+  ImageObject,
+  IsObject,
+  LutObject,
+  ObjectValue,
+  ThresholdObject,
+}
 pub use Rattle.vx_base.specs.Outputs.{image_of_one, node_image}
-pub use Rattle.vx_base.specs.Pixelwise.{formula_of_one, formula_of_two, from_one, from_two, lookup_result, threshold_result}
+pub use Rattle.vx_base.specs.Pixelwise.{
+  formula_of_one,
+  formula_of_two,
+  from_one,
+  from_two,
+  lookup_result,
+  threshold_result,
+}
 pub use Rattle.vx_base.specs.Rectangle.{Rectangle, has_pixel, meet_of}
 pub use Rattle.vx_base.specs.Sample.{clamp}
-pub use Rattle.vx_base.specs.Window.{convolution_result, formula_of_nine, from_matrix, from_nine, holds, sample_or_border, matrix_product, clamp_coordinate, nine_around, row_product, window_valid}
+pub use Rattle.vx_base.specs.Window.{
+  convolution_result,
+  formula_of_nine,
+  from_matrix,
+  from_nine,
+  holds,
+  sample_or_border,
+  matrix_product,
+  clamp_coordinate,
+  nine_around,
+  row_product,
+  window_valid,
+}
 pub use Rattle.vx_base.specs.declared.border.Border.{Border}
 pub use Rattle.vx_base.specs.declared.border.Border.TheVariants.{Constant, Replicate, Undefined}
 pub use Rattle.vx_base.specs.declared.format.Format.{Format}

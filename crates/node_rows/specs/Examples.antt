@@ -16,7 +16,13 @@ use Rattle.vx_base.specs.Rectangle.{whole_rectangle}
 
 -- an image of one column with these samples, from top to bottom
 abbrev pub column : ℕ → ℕ → ℕ → ℕ → ImageValue
-column a b c d = record { width = 1; height = 4; format = U8; valid = whole_rectangle 1 4; samples = pos a ∷ pos b ∷ pos c ∷ pos d ∷ [] }
+column a b c d = record {
+  width = 1;
+  height = 4;
+  format = U8;
+  valid = whole_rectangle 1 4;
+  samples = pos a ∷ pos b ∷ pos c ∷ pos d ∷ [];
+}
 
 -- a matrix of 3 columns and 5 rows whose only non-zero coefficient is a 1 in the middle of its top
 -- row. Convolution turns the matrix by 180 degrees, so each output sample is the input sample two
@@ -28,7 +34,22 @@ upper_row =
       rows = 5;
       exponent = 0;
       coefficients =
-          pos 0 ∷ pos 1 ∷ pos 0 ∷ pos 0 ∷ pos 0 ∷ pos 0 ∷ pos 0 ∷ pos 0 ∷ pos 0 ∷ pos 0 ∷ pos 0 ∷ pos 0 ∷ pos 0 ∷ pos 0 ∷ pos 0 ∷ [];
+          pos 0
+          ∷ pos 1
+          ∷ pos 0
+          ∷ pos 0
+          ∷ pos 0
+          ∷ pos 0
+          ∷ pos 0
+          ∷ pos 0
+          ∷ pos 0
+          ∷ pos 0
+          ∷ pos 0
+          ∷ pos 0
+          ∷ pos 0
+          ∷ pos 0
+          ∷ pos 0
+          ∷ [];
     }
 
 -- a node of the function, with one input and a replicated border
@@ -47,4 +68,5 @@ example_node function =
 
 -- the output samples of the function's example node, given an image and an optional second operand
 abbrev pub node_samples : Function → Format → ImageValue → Option ObjectValue → List ℤ
-node_samples function format image second = (node_image (example_node function) First format image second).samples
+node_samples function format image second =
+    (node_image (example_node function) First format image second).samples

@@ -12,7 +12,12 @@ pub record AreAlike (a b : ImageValue) : Type 0 where
 -- images don't count
 pub record AgreeInRows (first last : ℕ) (a b : ImageValue) : Type 0 where
   pub alike : AreAlike a b
-  pub samples : (x y : ℕ) → x < a.width → y < a.height → first ≤ y → y ≤ last → pixel_at a x y ≡ pixel_at b x y
+  pub samples : (x y : ℕ)
+      → x < a.width
+      → y < a.height
+      → first ≤ y
+      → y ≤ last
+      → pixel_at a x y ≡ pixel_at b x y
 
 -- second operands that agree: two images that agree in rows `first` to `last`, or two equal
 -- operands

@@ -31,17 +31,21 @@ LendsAtLeast pool blocks = (format : Format) → blocks format ≤ lent_of pool 
 
 -- the number of lent blocks of each format has risen by `blocks format`
 abbrev pub LendsMore : Pool → Pool → (Format → ℕ) → Type 0
-LendsMore old new blocks = (format : Format) → lent_of new format ≡ lent_of old format + blocks format
+LendsMore old new blocks =
+    (format : Format) → lent_of new format ≡ lent_of old format + blocks format
 
 -- the number of lent blocks of each format has fallen by `blocks format`
 abbrev pub LendsLess : Pool → Pool → (Format → ℕ) → Type 0
-LendsLess old new blocks = (format : Format) → lent_of new format + blocks format ≡ lent_of old format
+LendsLess old new blocks =
+    (format : Format) → lent_of new format + blocks format ≡ lent_of old format
 
 -- for each format, the number of lent blocks and the number of blocks that the objects occupy have
 -- changed by the same amount
 abbrev pub Balances : Pool → Pool → List NamedObject → List NamedObject → Type 0
 Balances pool changed before after =
-    (format : Format) → lent_of changed format + blocks_in before format ≡ lent_of pool format + blocks_in after format
+    (format : Format)
+    → lent_of changed format + blocks_in before format
+    ≡ lent_of pool format + blocks_in after format
 
 -- the objects occupy as many blocks of each format as before
 abbrev pub KeepsBlocks : List NamedObject → List NamedObject → Type 0

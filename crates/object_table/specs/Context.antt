@@ -18,7 +18,8 @@ new_context = record { next = 1; objects = [] }
 
 -- the object of a live name
 abbrev pub object_named : List NamedObject → ℕ → Option ObjectValue
-object_named objects name = option_map (λ o. o.object) (find (λ o. o.live && o.name == name) objects)
+object_named objects name =
+    option_map (λ o. o.object) (find (λ o. o.live && o.name == name) objects)
 
 -- the bytes that a context is charged for its objects
 abbrev pub charge_of : List NamedObject → ℕ
@@ -30,7 +31,10 @@ can_insert c = nat_lt c.next END_OF_NAMES && nat_lt (length c.objects) GREATEST_
 
 -- the context with one more object, under the next name
 abbrev pub with_new : Context → ObjectValue → Context
-with_new c object = record { next = c.next + 1; objects = c.objects ++ record { name = c.next; live = true; object = object } ∷ [] }
+with_new c object = record {
+  next = c.next + 1;
+  objects = c.objects ++ record { name = c.next; live = true; object = object } ∷ [];
+}
 
 -- the context with these objects
 abbrev pub with_objects : Context → List NamedObject → Context

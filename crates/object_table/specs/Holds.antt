@@ -30,4 +30,6 @@ still_held objects = filter (is_held objects) objects
 
 -- the objects, with this name no longer live
 abbrev pub without_name : List NamedObject → ℕ → List NamedObject
-without_name objects name = map {A = NamedObject} {B = NamedObject} (λ o. if o.name == name then record o { live = false } else o) objects
+without_name objects name =
+    map {A = NamedObject} {B = NamedObject}
+    (λ o. if o.name == name then record o { live = false } else o) objects

@@ -24,7 +24,8 @@ object_at objects cell = option_and_then (in_slot cell.slot) (object_held object
 abbrev pub with_object : List NamedObject → Reference → ObjectValue → List NamedObject
 with_object [] cell object = []
 with_object (o ∷ objects) cell object =
-    (if o.name == cell.name then record o { object = with_slot cell.slot object o.object } else o) ∷ with_object objects cell object
+    (if o.name == cell.name then record o { object = with_slot cell.slot object o.object } else o)
+    ∷ with_object objects cell object
 
 -- the objects after several writes, in order
 abbrev pub with_written : List NamedObject → List (Reference × ObjectValue) → List NamedObject

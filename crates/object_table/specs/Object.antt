@@ -43,8 +43,10 @@ aged_object other = other
 
 -- an image of the object's size and format, with this valid rectangle and these samples
 abbrev pub with_samples : ObjectValue → Rectangle → List ℤ → ObjectValue
-with_samples object valid samples = ImageObject (image_over (description_of (image_value object)) valid samples)
+with_samples object valid samples =
+    ImageObject (image_over (description_of (image_value object)) valid samples)
 
 -- a distribution with the object's bins and these counts
 abbrev pub with_counts : ObjectValue → List ℕ → ObjectValue
-with_counts object counts = DistributionObject (record { bins = (distribution_value object).bins; counts = counts })
+with_counts object counts =
+    DistributionObject (record { bins = (distribution_value object).bins; counts = counts })

@@ -16,7 +16,8 @@ image_skeleton image = image_over (description_of image) empty_rectangle []
 abbrev pub skeleton : ObjectValue → ObjectValue
 skeleton (ImageObject image) = ImageObject (image_skeleton image)
 skeleton (DelayObject images) = DelayObject (map image_skeleton images)
-skeleton (DistributionObject distribution) = DistributionObject (record { bins = distribution.bins; counts = [] })
+skeleton (DistributionObject distribution) =
+    DistributionObject (record { bins = distribution.bins; counts = [] })
 skeleton (ExtremesObject extremes) = ExtremesObject no_extremes
 skeleton (GraphObject graph) = GraphObject new_graph
 skeleton other = other

@@ -57,20 +57,30 @@ entry_object e = record { name = e.0; live = e.1.live; object = e.1.object }
 
 -- the nodes of the graph under a name; none if there is no such graph
 abbrev pub nodes_at : ℕ → List (ℕ × Entry) → List Node
-nodes_at name entries = unwrap_or (option_map (λ e. nodes_in e.object) (lookup (is_at (nat_cmp name)) entries)) []
+nodes_at name entries =
+    unwrap_or (option_map (λ e. nodes_in e.object) (lookup (is_at (nat_cmp name)) entries)) []
 
 -- the entries, each with its use count raised by the number of occurrences of its name in a list
 abbrev pub used_more : List ℕ → List (ℕ × Entry) → List (ℕ × Entry)
-used_more names entries = map {A = ℕ × Entry} {B = ℕ × Entry} (λ e. let n : Entry = e.1 in (e.0, record n { uses = n.uses + name_count e.0 names })) entries
+used_more names entries =
+    map {A = ℕ × Entry} {B = ℕ × Entry}
+    (λ e. let n : Entry = e.1 in (e.0, record n { uses = n.uses + name_count e.0 names }))
+    entries
 
 -- the entries, each with its use count lowered by the number of occurrences of its name in a list,
 -- but not below 0
 abbrev pub used_less : List ℕ → List (ℕ × Entry) → List (ℕ × Entry)
-used_less names entries = map {A = ℕ × Entry} {B = ℕ × Entry} (λ e. let n : Entry = e.1 in (e.0, record n { uses = n.uses - name_count e.0 names })) entries
+used_less names entries =
+    map {A = ℕ × Entry} {B = ℕ × Entry}
+    (λ e. let n : Entry = e.1 in (e.0, record n { uses = n.uses - name_count e.0 names }))
+    entries
 
 -- the entries, with this name no longer live
 abbrev pub entries_without_name : ℕ → List (ℕ × Entry) → List (ℕ × Entry)
-entries_without_name name entries = map {A = ℕ × Entry} {B = ℕ × Entry} (λ e. let n : Entry = e.1 in if e.0 == name then (e.0, record n { live = false }) else e) entries
+entries_without_name name entries =
+    map {A = ℕ × Entry} {B = ℕ × Entry}
+    (λ e. let n : Entry = e.1 in if e.0 == name then (e.0, record n { live = false }) else e)
+    entries
 
 -- whether an entry is held: its name is live, or a node uses it
 abbrev pub is_kept : ℕ × Entry → Bool

@@ -202,7 +202,8 @@ impl Object {
         ensures desc { result.0 ≡ description_of (image_value (object_in slot self.old)) }
         ensures value { values result.1 ≡ (image_value (object_in slot self.old)).samples }
         ensures format { samples_format result.1 ≡ (image_value (object_in slot self.old)).format }
-        ensures size { IsAllOrNone (sample_count (description_of (image_value (object_in slot self.old))))
+        ensures size { IsAllOrNone
+            (sample_count (description_of (image_value (object_in slot self.old))))
             (length (values result.1)) }
         ensures left { self.new ≡ with_slot slot
             (with_samples (object_in slot self.old)
@@ -221,7 +222,8 @@ impl Object {
     pub fn put(&mut self, slot: Option<u8>, samples: Samples, valid: Rect)
         requires there { HasImage slot self.old }
         requires format { samples_format samples ≡ (image_value (object_in slot self.old)).format }
-        requires size { IsAllOrNone (sample_count (description_of (image_value (object_in slot self.old))))
+        requires size { IsAllOrNone
+            (sample_count (description_of (image_value (object_in slot self.old))))
             (length (values samples)) }
         ensures value { self.new ≡ with_slot slot
             (with_samples (object_in slot self.old) valid (values samples)) self.old }

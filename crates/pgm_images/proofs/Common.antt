@@ -1,9 +1,49 @@
 -- The names that several proofs cite, passed on from one place. Declares nothing.
 pub use Rattle.pgm_images.specs.Grammar.{AreSpaced, IsBlank, IsBlanks, IsHeader, IsSpaced, Encodes}
-pub use Rattle.pgm_images.specs.Header.{HeaderValue, format_up_to, header_description, is_maxval, take_header}
-pub use Rattle.pgm_images.specs.Marks.{FindNumbers, BeginsWith, TakesNumber, FindsNumber, begins_comment, begins_digit, begins_gap, digits_after, ends, is_space, past_blanks, take_next, then_take}
-pub use Rattle.pgm_images.specs.Raster.{LeftToFill, PlainUpTo, all_up_to, nothing_left, numbers_in, samples_up_to, take_count, take_long_sample, take_raw, take_short_sample}
-pub use Rattle.pgm_images.specs.Reading.{description_in, fault, fault_of, is_headed, picture_after, picture_under, picture_with, read_result}
+pub use Rattle.pgm_images.specs.Header.{
+  HeaderValue,
+  format_up_to,
+  header_description,
+  is_maxval,
+  take_header,
+}
+pub use Rattle.pgm_images.specs.Marks.{
+  FindNumbers,
+  BeginsWith,
+  TakesNumber,
+  FindsNumber,
+  begins_comment,
+  begins_digit,
+  begins_gap,
+  digits_after,
+  ends,
+  is_space,
+  past_blanks,
+  take_next,
+  then_take,
+}
+pub use Rattle.pgm_images.specs.Raster.{
+  LeftToFill,
+  PlainUpTo,
+  all_up_to,
+  nothing_left,
+  numbers_in,
+  samples_up_to,
+  take_count,
+  take_long_sample,
+  take_raw,
+  take_short_sample,
+}
+pub use Rattle.pgm_images.specs.Reading.{
+  description_in,
+  fault,
+  fault_of,
+  is_headed,
+  picture_after,
+  picture_under,
+  picture_with,
+  read_result,
+}
 pub use Rattle.pgm_images.specs.Writing.{pgm_text, written_header}
 pub use Rattle.pgm_images.specs.declared.fault.PgmFault.{PgmFault}
 pub use Rattle.pgm_images.specs.declared.fault.PgmFault.TheVariants.{InvalidFormat, InvalidValue}

@@ -6,13 +6,19 @@ use Rattle.pgm_images.proofs.StandsLemmas.{headed, pictured, sampled}
 
 -- ---- a picture that is read has the description of the header
 
-pub read_description : (text : List ℕ) (d : Description) (p : PictureValue) → description_in text ≡ Ok d → read_result text ≡ Ok p → p.description ≡ d
+pub read_description : (text : List ℕ) (d : Description) (p : PictureValue)
+    → description_in text ≡ Ok d
+    → read_result text ≡ Ok p
+    → p.description ≡ d
 read_description text d p told e =
     let (value, rest, is, e1) = headed (take_header text) p e in
-    let (found, described, e2) = pictured value (header_description value.width value.height value.maxval) rest p e1 in
+    let (found, described, e2) =
+    pictured value (header_description value.width value.height value.maxval) rest p e1 in
     let (samples, from, same) = sampled found _ p e2 in
     cc (ap (λ (p : PictureValue). p.description) same, ap description_after is)
 
 -- a text with a description has a header that is accepted
-pub told_headed : (text : List ℕ) (d : Description) → description_in text ≡ Ok d → is_headed text ≡ true
+pub told_headed : (text : List ℕ) (d : Description)
+    → description_in text ≡ Ok d
+    → is_headed text ≡ true
 told_headed text d told = grind arith

@@ -11,8 +11,11 @@ digit_in c is = grind (arith, nat_tests)
 abbrev pub value_after : ℕ → List ℕ → ℕ
 value_after n ds = (digits_after n ds).0
 
-pub value_more : (n c : ℕ) (cs : List ℕ) → is_ascii_digit c ≡ true → value_after n (c ∷ cs) ≡ value_after (n * 10 + (c - 48)) cs
-value_more n c cs is = ap (λ b. (if b then digits_after (n * 10 + (c - 48)) cs else (n, c ∷ cs)).0) is
+pub value_more : (n c : ℕ) (cs : List ℕ)
+    → is_ascii_digit c ≡ true
+    → value_after n (c ∷ cs) ≡ value_after (n * 10 + (c - 48)) cs
+value_more n c cs is =
+    ap (λ b. (if b then digits_after (n * 10 + (c - 48)) cs else (n, c ∷ cs)).0) is
 
 folds : FoldsDigits value_after
 folds = record {
@@ -23,9 +26,13 @@ folds = record {
 pub digits_model : IsNumeralModel (λ ds. all_ascii_digits ds ≡ true) (value_after 0)
 digits_model = numerals_by_fold _ tells_all_ascii_digits value_after folds
 
-pub first_digit : (c : ℕ) (cs : List ℕ) → all_ascii_digits (c ∷ cs) ≡ true → (is_ascii_digit c ≡ true) × (all_ascii_digits cs ≡ true)
+pub first_digit : (c : ℕ) (cs : List ℕ)
+    → all_ascii_digits (c ∷ cs) ≡ true
+    → (is_ascii_digit c ≡ true) × (all_ascii_digits cs ≡ true)
 first_digit c cs e = and_parts (is_ascii_digit c) (all_ascii_digits cs) e
 
 -- what a digit isn't
-pub digit_begins : (c : ℕ) → is_ascii_digit c ≡ true → (begins_comment c ≡ false) × (is_space c ≡ false)
+pub digit_begins : (c : ℕ)
+    → is_ascii_digit c ≡ true
+    → (begins_comment c ≡ false) × (is_space c ≡ false)
 digit_begins c is = grind (arith, nat_tests)

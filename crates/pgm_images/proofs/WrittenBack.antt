@@ -7,13 +7,24 @@ use Rattle.pgm_images.proofs.SpacedLemmas.{value_is}
 use Rattle.pgm_images.proofs.StandsLemmas.{read_stands, stands_read}
 
 -- a number behind a whitespace byte
-spaced : (space n : ℕ) (digits : List ℕ) → is_space space ≡ true → all_ascii_digits digits ≡ true → 0 < length digits → digits_value 10 digits ≡ n → IsSpaced (space ∷ digits) n
+spaced : (space n : ℕ) (digits : List ℕ)
+    → is_space space ≡ true
+    → all_ascii_digits digits ≡ true
+    → 0 < length digits
+    → digits_value 10 digits ≡ n
+    → IsSpaced (space ∷ digits) n
 spaced space n digits is are some value =
     record {
       gap = space ∷ [];
       digits = digits;
       spelled = refl;
-      blanks = record { parts = (space ∷ []) ∷ []; each = All-cons IsBlank (space ∷ []) [] (inl (is, refl)) (All-nil IsBlank); spelled = refl };
+      blanks =
+          record {
+            parts = (space ∷ []) ∷ [];
+            each = All-cons IsBlank (space ∷ []) [] (inl (is, refl))
+                (All-nil IsBlank);
+            spelled = refl;
+          };
       some = omega arith;
       decimal = are;
       one = some;
@@ -30,7 +41,10 @@ spaced_decimal space n is below =
 side_below : (n : ℕ) → IsTrue (is_side n) → n < 2 ^ 64
 side_below n is = grind (arith, nat_tests)
 
-samples_bytes : (samples : List ℤ) → All (IsSample U8) samples → (map pos (map unsigned_abs samples) ≡ samples) × (all_up_to 255 (map unsigned_abs samples) ≡ true)
+samples_bytes : (samples : List ℤ)
+    → All (IsSample U8) samples
+    → (map pos (map unsigned_abs samples) ≡ samples)
+    × (all_up_to 255 (map unsigned_abs samples) ≡ true)
 samples_bytes [] is = (refl, refl)
 samples_bytes (pos n ∷ samples) is =
     let first = All-head (IsSample U8) (pos n) samples is in
@@ -42,7 +56,10 @@ samples_bytes (negsuc n ∷ samples) is =
     absurd (omega (arith, ints, first.at_least))
 
 -- a picture that was written
-pub read_back : (p : PictureValue) → IsPicture p → p.description.format ≡ U8 → read_result (pgm_text p) ≡ Ok p
+pub read_back : (p : PictureValue)
+    → IsPicture p
+    → p.description.format ≡ U8
+    → read_result (pgm_text p) ≡ Ok p
 read_back p is same =
     let w = p.description.width in
     let h = p.description.height in
@@ -59,7 +76,13 @@ read_back p is same =
         body = (10 ∷ decimal w) ++ ((32 ∷ decimal h) ++ last);
         space = 10;
         raster = bytes;
-        numbers = (10 ∷ decimal w, (32 ∷ decimal h) ++ last, wide, (32 ∷ decimal h, last, high, (last, [], ends, refl, refl), refl), refl);
+        numbers = (
+          10 ∷ decimal w,
+          (32 ∷ decimal h) ++ last,
+          wide,
+          (32 ∷ decimal h, last, high, (last, [], ends, refl, refl), refl),
+          refl,
+        );
         white = refl;
         bytes = inl (omega arith, refl);
         spelled = simp append_assoc;

@@ -44,18 +44,21 @@ pub record IsSpaced (text : List ℕ) (n : ℕ) : Type 0 where
 -- these numbers, one after the other, each after a gap
 abbrev pub AreSpaced : List ℕ → List ℕ → Type 0
 AreSpaced text [] = text ≡ []
-AreSpaced text (n ∷ numbers) = (first rest : List ℕ) × IsSpaced first n × AreSpaced rest numbers × (text ≡ first ++ rest)
+AreSpaced text (n ∷ numbers) =
+    (first rest : List ℕ) × IsSpaced first n × AreSpaced rest numbers × (text ≡ first ++ rest)
 
 -- ---- rasters
 
 -- two bytes for each number, the most significant first
 abbrev pub ArePairs : List ℕ → List ℕ → Type 0
 ArePairs bytes [] = bytes ≡ []
-ArePairs bytes (n ∷ numbers) = (a b : ℕ) × (rest : List ℕ) × (bytes ≡ a ∷ b ∷ rest) × (n ≡ 256 * a + b) × ArePairs rest numbers
+ArePairs bytes (n ∷ numbers) =
+    (a b : ℕ) × (rest : List ℕ) × (bytes ≡ a ∷ b ∷ rest) × (n ≡ 256 * a + b) × ArePairs rest numbers
 
 -- one byte for each number if the maxval is below 256, else two bytes
 abbrev pub IsRaster : (maxval : ℕ) → List ℕ → List ℕ → Type 0
-IsRaster maxval bytes numbers = ((maxval < 256) × (bytes ≡ numbers)) ⊎ ((256 ≤ maxval) × ArePairs bytes numbers)
+IsRaster maxval bytes numbers =
+    ((maxval < 256) × (bytes ≡ numbers)) ⊎ ((256 ≤ maxval) × ArePairs bytes numbers)
 
 -- ---- a header, and the samples after it
 
@@ -80,7 +83,8 @@ pub record IsHeader (text : List ℕ) (header : HeaderValue) (rest : List ℕ) :
 
 -- `rest`, the text after a header, encodes exactly these samples
 abbrev pub HasSamples : Encoding → (maxval : ℕ) → List ℕ → List ℕ → Type 0
-HasSamples Plain maxval rest samples = (body end : List ℕ) × AreSpaced body samples × IsBlanks end × (rest ≡ body ++ end)
+HasSamples Plain maxval rest samples =
+    (body end : List ℕ) × AreSpaced body samples × IsBlanks end × (rest ≡ body ++ end)
 HasSamples Raw maxval rest samples = IsRaster maxval rest samples
 
 -- ---- whole texts
@@ -107,7 +111,9 @@ pub record IsRawText (text : List ℕ) (width height maxval : ℕ) (samples : Li
 pub record Encodes (text : List ℕ) (p : PictureValue) : Type 0 where
   pub maxval : ℕ
   pub numbers : List ℕ
-  pub encoded : IsPlainText text p.description.width p.description.height maxval numbers ⊎ IsRawText text p.description.width p.description.height maxval numbers
+  pub encoded :
+      IsPlainText text p.description.width p.description.height maxval numbers
+      ⊎ IsRawText text p.description.width p.description.height maxval numbers
   pub sides : IsDescription p.description
   pub allowed : IsTrue (is_maxval maxval)
   pub format : p.description.format ≡ format_up_to maxval

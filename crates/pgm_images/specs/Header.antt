@@ -23,7 +23,8 @@ abbrev pub take_magic : List ℕ → BeginsWith Encoding
 take_magic [] = None
 take_magic (a ∷ []) = None
 take_magic (a ∷ b ∷ text) =
-    if (a == 80) && (b == 50) then Some (Plain, text) else if (a == 80) && (b == 53) then Some (Raw, text) else None
+    if (a == 80) && (b == 50) then Some (Plain, text) else if (a == 80) && (b == 53) then Some
+    (Raw, text) else None
 
 -- The text after the header, given the text after its maxval. A header of P5 ends with one
 -- whitespace byte right after the maxval.
@@ -36,8 +37,13 @@ past_header Raw (b ∷ text) = if is_space b then Some text else None
 -- gap, and then the end of the header
 abbrev pub take_numbers : Encoding → List ℕ → BeginsWith HeaderValue
 take_numbers encoding text =
-    then_take (take_next text) (λ width rest. then_take (take_next rest) (λ height rest. then_take (take_next rest) (λ maxval rest.
-    option_map (λ rest. (record { encoding = encoding; width = width; height = height; maxval = maxval }, rest)) (past_header encoding rest))))
+    then_take (take_next text)
+    (λ width rest. then_take (take_next rest)
+    (λ height rest. then_take (take_next rest) (λ maxval rest.
+    option_map
+    (λ rest.
+    (record { encoding = encoding; width = width; height = height; maxval = maxval }, rest))
+    (past_header encoding rest))))
 
 -- the header that a text begins with: a magic number, then width, height and maxval
 abbrev pub take_header : List ℕ → BeginsWith HeaderValue
@@ -55,12 +61,16 @@ format_up_to maxval = if nat_lt maxval 256 then U8 else S16
 abbrev pub header_description : (width height maxval : ℕ) → Result Description PgmFault
 header_description width height maxval =
     if is_side width && is_side height
-    then (if is_maxval maxval then Ok (record { width = width; height = height; format = format_up_to maxval }) else Err InvalidFormat)
+    then
+    (if is_maxval maxval then Ok
+    (record { width = width; height = height; format = format_up_to maxval }) else Err
+    InvalidFormat)
     else Err InvalidDimension
 
 -- The code read this header, and `rest` is the text after it. A number above 65535 is read as
 -- 65535.
-pub record TakesHeader (taken : BeginsWith HeaderValue) (header : Header) (rest : List ℕ) : Type 0 where
+pub record TakesHeader (taken : BeginsWith HeaderValue) (header : Header) (rest : List ℕ) : Type
+    0 where
   pub value : HeaderValue
   pub is : taken ≡ Some (value, rest)
   pub encoding : header.encoding ≡ value.encoding

@@ -34,12 +34,14 @@ past_blanks true [] = None
 past_blanks true (b ∷ text) = past_blanks (not (ends_line b)) text
 past_blanks false [] = Some []
 past_blanks false (b ∷ text) =
-    if begins_comment b then past_blanks true text else if is_space b then past_blanks false text else Some (b ∷ text)
+    if begins_comment b then past_blanks true text else if is_space b then past_blanks false
+    text else Some (b ∷ text)
 
 -- n with the text's leading digits appended, and the text after them
 abbrev pub digits_after : ℕ → List ℕ → ℕ × List ℕ
 digits_after n [] = (n, [])
-digits_after n (b ∷ text) = if is_ascii_digit b then digits_after (n * 10 + (b - 48)) text else (n, b ∷ text)
+digits_after n (b ∷ text) =
+    if is_ascii_digit b then digits_after (n * 10 + (b - 48)) text else (n, b ∷ text)
 
 -- a number: one or more digits, up to the end or to a byte that isn't a digit
 abbrev pub take_number : List ℕ → BeginsWith ℕ
@@ -58,7 +60,8 @@ begins_gap (b ∷ text) = begins_comment b || is_space b
 
 -- the number after a gap; a gap is at least one whitespace byte or comment
 abbrev pub take_next : List ℕ → BeginsWith ℕ
-take_next text = if begins_gap text then option_and_then take_number (past_blanks false text) else None
+take_next text =
+    if begins_gap text then option_and_then take_number (past_blanks false text) else None
 
 -- whether the text is nothing but whitespace and comments
 abbrev pub ends : List ℕ → Bool
@@ -95,12 +98,18 @@ pub record FindsNumber (maxval number bytes : ℕ) (text : List ℕ) : Type 0 wh
 
 -- `FindsNumber` holds at each of the first `count` positions of a text
 abbrev pub FindNumbers : (maxval count : ℕ) (numbers bytes text : List ℕ) → Type 0
-FindNumbers maxval count numbers bytes text = (place : ℕ) → place < count → FindsNumber maxval (slice_index numbers place) (slice_index bytes place) (drop place text)
+FindNumbers maxval count numbers bytes text =
+    (place : ℕ)
+    → place < count
+    → FindsNumber maxval (slice_index numbers place) (slice_index bytes place) (drop place text)
 
 -- for each of 64 positions k, bit k of `begins` is 1 exactly if `bytes` isn't 0 at position k: a
 -- whitespace byte and a number begin there
 abbrev pub AreBegins : (begins : ℕ) (bytes : List ℕ) → Type 0
-AreBegins begins bytes = (place : ℕ) → place < 64 → bit_at begins place ≡ (if nat_lt 0 (slice_index bytes place) then 1 else 0)
+AreBegins begins bytes =
+    (place : ℕ)
+    → place < 64
+    → bit_at begins place ≡ (if nat_lt 0 (slice_index bytes place) then 1 else 0)
 
 -- The code examined the first 64 positions of a text and marked the positions where a number
 -- begins. The first position isn't inside a number.

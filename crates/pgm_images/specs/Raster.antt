@@ -15,7 +15,9 @@ take_short_sample (a ∷ text) = Some (a, text)
 
 -- a raster sample of two bytes, the more significant first
 abbrev pub take_long_sample : List ℕ → BeginsWith ℕ
-take_long_sample text = then_take (take_short_sample text) (λ a rest. then_take (take_short_sample rest) (λ b rest. Some (256 * a + b, rest)))
+take_long_sample text =
+    then_take (take_short_sample text)
+    (λ a rest. then_take (take_short_sample rest) (λ b rest. Some (256 * a + b, rest)))
 
 -- a raster sample: one byte if the maxval is below 256, else two
 abbrev pub take_raw : (maxval : ℕ) → List ℕ → BeginsWith ℕ
@@ -27,9 +29,14 @@ nothing_left [] = true
 nothing_left (b ∷ text) = false
 
 -- `count` numbers, each as `take` reads it, and then an end that `is_end` accepts
-abbrev pub take_count : (take : List ℕ → BeginsWith ℕ) (is_end : List ℕ → Bool) → ℕ → List ℕ → Option (List ℕ)
+abbrev pub take_count : (take : List ℕ → BeginsWith ℕ) (is_end : List ℕ → Bool)
+    → ℕ
+    → List ℕ
+    → Option (List ℕ)
 take_count take is_end zero text = if is_end text then Some [] else None
-take_count take is_end (suc count) text = then_take (take text) (λ number rest. option_map (λ numbers. number ∷ numbers) (take_count take is_end count rest))
+take_count take is_end (suc count) text =
+    then_take (take text)
+    (λ number rest. option_map (λ numbers. number ∷ numbers) (take_count take is_end count rest))
 
 -- The `count` numbers in the text after a header, or None if the text has fewer numbers or doesn't
 -- end after `count` numbers. In a plain text each number comes after a gap, and whitespace and
@@ -46,16 +53,19 @@ all_up_to maxval numbers = list_all (λ n. nat_le n maxval) numbers
 -- given instead of numbers
 abbrev pub samples_up_to : ℕ → Option (List ℕ) → Result (List ℤ) PgmFault
 samples_up_to maxval None = Err InvalidFormat
-samples_up_to maxval (Some numbers) = if all_up_to maxval numbers then Ok (map pos numbers) else Err InvalidValue
+samples_up_to maxval (Some numbers) =
+    if all_up_to maxval numbers then Ok (map pos numbers) else Err InvalidValue
 
 -- The code wrote the samples of `wanted` over existing samples, or returned the fault of `wanted`.
-pub record Reads {A : Type 0} (wanted : Result (List ℤ) PgmFault) (samples : List ℤ) (result : Result A PgmFault) : Type 0 where
+pub record Reads {A : Type 0} (wanted : Result (List ℤ) PgmFault) (samples : List ℤ)
+    (result : Result A PgmFault) : Type 0 where
   pub ok : OnOk result (wanted ≡ Ok samples)
   pub err : IfErr result (λ fault. wanted ≡ Err fault)
 
 -- `high` says whether one of the `numbers` is above the maxval. If none is, `written` are these
 -- numbers as samples.
-pub record HoldsNumbers (maxval : ℕ) (high : Bool) (written : List ℤ) (numbers : List ℕ) : Type 0 where
+pub record HoldsNumbers (maxval : ℕ) (high : Bool) (written : List ℤ) (numbers : List ℕ) : Type
+    0 where
   pub above : high ≡ not (all_up_to maxval numbers)
   pub samples : high ≡ false → written ≡ map pos numbers
 
@@ -67,11 +77,22 @@ prepend done o = option_map (λ others. done ++ others) o
 -- the maxval. If none is, the samples hold these numbers. The remaining `left` numbers are to be
 -- read from `rest`. `whole` is all numbers of the text, or None if `rest` doesn't have exactly
 -- `left` numbers.
-abbrev pub LeftToFill : (take : List ℕ → BeginsWith ℕ) (is_end : List ℕ → Bool) (maxval : ℕ) (above : Bool) (samples : List ℤ) (left : ℕ) (rest : List ℕ) (whole : Option (List ℕ)) → Type 0
-LeftToFill take is_end maxval above samples left rest whole = (numbers : List ℕ) × HoldsNumbers maxval above samples numbers × (whole ≡ prepend numbers (take_count take is_end left rest))
+abbrev pub LeftToFill :
+    (take : List ℕ → BeginsWith ℕ) (is_end : List ℕ → Bool) (maxval : ℕ) (above : Bool)
+    (samples : List ℤ) (left : ℕ) (rest : List ℕ) (whole : Option (List ℕ))
+    → Type 0
+LeftToFill take is_end maxval above samples left rest whole =
+    (numbers : List ℕ)
+    × HoldsNumbers maxval above samples numbers
+    × (whole ≡ prepend numbers (take_count take is_end left rest))
 
 -- The first numbers of a plain text have been read. `above` says whether one of these numbers is
 -- above the maxval. If none is, the first `index` samples hold these numbers. The remaining numbers
 -- are to be read from `rest`.
-abbrev pub PlainUpTo : {T : Type 0} (value : T → ℤ) (maxval index : ℕ) (above : Bool) (samples : List T) (rest : List ℕ) (whole : Option (List ℕ)) → Type 0
-PlainUpTo value maxval index above samples rest whole = LeftToFill take_next ends maxval above (map value (take index samples)) (length samples - index) rest whole
+abbrev pub PlainUpTo :
+    {T : Type 0} (value : T → ℤ) (maxval index : ℕ) (above : Bool) (samples : List T)
+    (rest : List ℕ) (whole : Option (List ℕ))
+    → Type 0
+PlainUpTo value maxval index above samples rest whole =
+    LeftToFill take_next ends maxval above (map value (take index samples))
+    (length samples - index) rest whole

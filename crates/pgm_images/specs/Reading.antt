@@ -16,15 +16,21 @@ picture_with d (Err fault) = Err fault
 
 -- The picture with this header and the samples in the text after it, or the first fault. The
 -- header's fault comes before a fault of the samples.
-abbrev pub picture_under : HeaderValue → Result Description PgmFault → List ℕ → Result PictureValue PgmFault
+abbrev pub picture_under : HeaderValue
+    → Result Description PgmFault
+    → List ℕ
+    → Result PictureValue PgmFault
 picture_under header (Err fault) text = Err fault
-picture_under header (Ok d) text = picture_with d (samples_up_to header.maxval (numbers_in header.encoding header.maxval (sample_count d) text))
+picture_under header (Ok d) text =
+    picture_with d
+    (samples_up_to header.maxval (numbers_in header.encoding header.maxval (sample_count d) text))
 
 -- the picture with the header that was read from a text, or the first fault; InvalidFormat if the
 -- text has no header
 abbrev pub picture_after : BeginsWith HeaderValue → Result PictureValue PgmFault
 picture_after None = Err InvalidFormat
-picture_after (Some taken) = picture_under taken.0 (header_description taken.0.width taken.0.height taken.0.maxval) taken.1
+picture_after (Some taken) =
+    picture_under taken.0 (header_description taken.0.width taken.0.height taken.0.maxval) taken.1
 
 -- the picture that a text encodes, or the text's first fault
 abbrev pub read_result : List ℕ → Result PictureValue PgmFault
@@ -65,7 +71,8 @@ is_headed text = allowed (take_header text)
 
     allowed : BeginsWith HeaderValue → Bool
     allowed None = false
-    allowed (Some taken) = without_fault (header_description taken.0.width taken.0.height taken.0.maxval)
+    allowed (Some taken) =
+        without_fault (header_description taken.0.width taken.0.height taken.0.maxval)
 
 -- why reading failed: the first fault of the text; or NoMemory, if the text's header is accepted
 pub record FailsFor (text : List ℕ) (e : PgmFault) : Type 0 where

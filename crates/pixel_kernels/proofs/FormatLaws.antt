@@ -14,7 +14,10 @@ use Rattle.image_core.specs.Target.{Writes}
 use Rattle.vx_base.specs.declared.threshold.ThresholdKind.{ThresholdKind}
 
 -- an output that is not U8 is S16
-pub short_output : (a b format : Format) → IsTrue (are_arithmetic a b format) → (format ≡ U8 → ⊥) → format ≡ S16
+pub short_output : (a b format : Format)
+    → IsTrue (are_arithmetic a b format)
+    → (format ≡ U8 → ⊥)
+    → format ≡ S16
 short_output a b U8 takes other = absurd (other refl)
 short_output a b S16 takes other = refl
 short_output U8 U8 U32 takes other = search rules
@@ -26,17 +29,37 @@ short_output S16 U32 U32 takes other = search rules
 short_output U32 b U32 takes other = search rules
 
 -- an output by a table's parts
-pub table_written : (lut : LutValue) (format : Format) (entries : List ℤ) (image : ImageValue) (old new : ImageMut) → format ≡ lut.format → entries ≡ lut.entries → old.desc.format ≡ format
-    → Writes (from_one format (lookup_result (record { format = format; entries = entries })) image) old new → Writes (from_one old.desc.format (lookup_result lut) image) old new
+pub table_written :
+    (lut : LutValue) (format : Format) (entries : List ℤ) (image : ImageValue) (old new : ImageMut)
+    → format ≡ lut.format
+    → entries ≡ lut.entries
+    → old.desc.format ≡ format
+    → Writes
+    (from_one format (lookup_result (record { format = format; entries = entries })) image) old
+    new
+    → Writes (from_one old.desc.format (lookup_result lut) image) old new
 table_written lut format entries image old new f e known is =
     let table : record { format = format; entries = entries } ≡ lut = rw (f, e) refl in
-    in_format (λ f. from_one f (lookup_result lut) image) old.desc.format format old new known (subst (λ (t : LutValue). Writes (from_one format (lookup_result t) image) old new) table is)
+    in_format (λ f. from_one f (lookup_result lut) image) old.desc.format format old new known
+    (subst (λ (t : LutValue). Writes (from_one format (lookup_result t) image) old new) table is)
 
 -- an output by a threshold's parts
-pub rule_written : (rule : ThresholdValue) (format : Format) (kind : ThresholdKind) (t f : ℕ) (image : ImageValue) (old new : ImageMut) → format ≡ rule.format → kind ≡ rule.kind → t ≡ rule.true_value → f ≡ rule.false_value
-    → Writes (from_one U8 (threshold_result (record { format = format; kind = kind; true_value = t; false_value = f })) image) old new → Writes (from_one U8 (threshold_result rule) image) old new
+pub rule_written :
+    (rule : ThresholdValue) (format : Format) (kind : ThresholdKind) (t f : ℕ)
+    (image : ImageValue) (old new : ImageMut)
+    → format ≡ rule.format
+    → kind ≡ rule.kind
+    → t ≡ rule.true_value
+    → f ≡ rule.false_value
+    → Writes
+    (from_one U8
+    (threshold_result (record { format = format; kind = kind; true_value = t; false_value = f }))
+    image)
+    old new
+    → Writes (from_one U8 (threshold_result rule) image) old new
 rule_written rule format kind t f image old new a b c d is =
-    let same : record { format = format; kind = kind; true_value = t; false_value = f } ≡ rule = rw (a, b, c, d) refl in
+    let same : record { format = format; kind = kind; true_value = t; false_value = f } ≡ rule =
+    rw (a, b, c, d) refl in
     subst (λ (r : ThresholdValue). Writes (from_one U8 (threshold_result r) image) old new) same is
 
 -- the limits of a threshold are numbers of 16 bits
@@ -44,9 +67,13 @@ abbrev pub AreKept : ThresholdKind → Type 0
 AreKept (Binary t) = to_z w16 (of_z w16 t) ≡ t
 AreKept (Range l u) = (to_z w16 (of_z w16 l) ≡ l) × (to_z w16 (of_z w16 u) ≡ u)
 
-pub limits_kept : (format : Format) (kind : ThresholdKind) → IsTrue (has_limits format kind) → AreKept kind
+pub limits_kept : (format : Format) (kind : ThresholdKind)
+    → IsTrue (has_limits format kind)
+    → AreKept kind
 limits_kept U8 (Binary t) has = grind (arith, nat_tests, ints, has)
 limits_kept S16 (Binary t) has = grind (arith, nat_tests, ints, has)
-limits_kept U8 (Range l u) has = (grind (arith, nat_tests, ints, has), grind (arith, nat_tests, ints, has))
-limits_kept S16 (Range l u) has = (grind (arith, nat_tests, ints, has), grind (arith, nat_tests, ints, has))
+limits_kept U8 (Range l u) has =
+    (grind (arith, nat_tests, ints, has), grind (arith, nat_tests, ints, has))
+limits_kept S16 (Range l u) has =
+    (grind (arith, nat_tests, ints, has), grind (arith, nat_tests, ints, has))
 limits_kept U32 kind has = search rules

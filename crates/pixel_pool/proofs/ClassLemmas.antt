@@ -6,7 +6,9 @@ use Rattle.pixel_pool.specs.Classes.{class_step, class_size, class_count, FitsIn
 
 -- the capacity of a class is not far above that of the class below it
 pub step_small : (class : ℕ) → class < class_count → class_step class ≤ 2 ^ 23
-step_small class below = let few : class / 8 - 1 ≤ 23 = omega arith in pow-le-pow_right {n = 2} (omega arith) {j = 23} few
+step_small class below =
+    let few : class / 8 - 1 ≤ 23 = omega arith in
+    pow-le-pow_right {n = 2} (omega arith) {j = 23} few
 
 pub capacity_zero : class_size 0 ≡ 0
 unfolding class_size
@@ -20,9 +22,13 @@ pub capacity_more : (class : ℕ) → class_size (class + 1) ≡ class_size clas
 capacity_more class = rw add-one (capacity_suc class)
 
 -- a greater class has no less capacity
-pub capacity_rises : (class above : ℕ) → class ≤ class + above → class_size class ≤ class_size (class + above)
+pub capacity_rises : (class above : ℕ)
+    → class ≤ class + above
+    → class_size class ≤ class_size (class + above)
 capacity_rises class zero within = rw add-zero (omega arith)
-capacity_rises class (suc above) within = rw add-suc (omega (arith, capacity_rises class above (omega arith), capacity_suc (class + above)))
+capacity_rises class (suc above) within =
+    rw add-suc
+    (omega (arith, capacity_rises class above (omega arith), capacity_suc (class + above)))
 
 pub capacity_mono : (class other : ℕ) → class ≤ other → class_size class ≤ class_size other
 capacity_mono class other within =
@@ -32,7 +38,13 @@ capacity_mono class other within =
 -- the capacity of a class can't overflow
 pub capacity_small : (class : ℕ) → class ≤ class_count → class_size class ≤ class * 2 ^ 23
 capacity_small zero within = omega (arith, capacity_zero)
-capacity_small (suc class) within = omega (arith, capacity_suc class, step_small class (omega arith), capacity_small class (omega arith))
+capacity_small (suc class) within =
+    omega (
+      arith,
+      capacity_suc class,
+      step_small class (omega arith),
+      capacity_small class (omega arith),
+    )
 
 -- the capacity of a class, for loops over classes
 pub ruleset capacity_steps = (capacity_zero, capacity_more, capacity_mono, capacity_small)
@@ -47,7 +59,11 @@ unfolding class_size
 largest_capacity = refl
 
 -- samples that fit in two capacities fit in any that isn't below the lesser of them
-pub fits_least : (count one other capacity : ℕ) → FitsIn count one → FitsIn count other → min one other ≤ capacity → FitsIn count capacity
+pub fits_least : (count one other capacity : ℕ)
+    → FitsIn count one
+    → FitsIn count other
+    → min one other ≤ capacity
+    → FitsIn count capacity
 fits_least count one other capacity fits fits_other least small =
     elim (cases_lt one other) [
       | inl p ↦ let x = fits small in (x.0, x.1, x.2, omega (arith, x.3, p, least))
@@ -55,4 +71,5 @@ fits_least count one other capacity fits fits_other least small =
     ]
 
 pub fits_more : (count one capacity : ℕ) → FitsIn count one → one ≤ capacity → FitsIn count capacity
-fits_more count one capacity fits more small = let x = fits small in (x.0, x.1, x.2, omega (arith, x.3, more))
+fits_more count one capacity fits more small =
+    let x = fits small in (x.0, x.1, x.2, omega (arith, x.3, more))

@@ -26,4 +26,5 @@ pub record IsClassOf (memory class : ℕ) : Type 0 where
 -- class has as many
 abbrev pub FitsIn : ℕ → ℕ → Type 0
 FitsIn count memory =
-    count ≤ class_size 192 → (class : ℕ) × (class < class_count) × (count ≤ class_size class) × (class_size class ≤ memory)
+    count ≤ class_size 192
+    → (class : ℕ) × (class < class_count) × (count ≤ class_size class) × (class_size class ≤ memory)

@@ -46,7 +46,8 @@ pub record GetsFree (memory : ℕ) (old new : List ℕ) : Type 0 where
 -- the total number of samples of the free blocks of all classes below this one
 unfoldable pub samples_below : List ℕ → ℕ → ℕ
 samples_below free zero = 0
-samples_below free (suc class) = samples_below free class + slice_index free class * class_size class
+samples_below free (suc class) =
+    samples_below free class + slice_index free class * class_size class
 
 -- the number of free blocks and their total number of samples are within the limits
 pub record IsTrim (free : List ℕ) : Type 0 where
@@ -70,7 +71,8 @@ LosesBlocks old new class = slice_index new class < slice_index old class
 
 -- a class loses blocks only if no greater class has any left
 abbrev pub LosesLargestFirst : List ℕ → List ℕ → Type 0
-LosesLargestFirst old new = (class other : ℕ) → LosesBlocks old new class → class < other → slice_index new other ≡ 0
+LosesLargestFirst old new =
+    (class other : ℕ) → LosesBlocks old new class → class < other → slice_index new other ≡ 0
 
 -- a class loses blocks only if keeping one more of its blocks would exceed the limits
 abbrev pub LosesNoMore : List ℕ → List ℕ → Type 0

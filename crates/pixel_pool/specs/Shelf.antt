@@ -35,7 +35,8 @@ module _ {T : Type 0} where
   -- if the stack isn't empty, `top` is the key of a free block of the class, and the stack's other
   -- blocks are under this block
   abbrev pub IsStack : Slab (Free T) → ℕ → Stack → Type 0
-  IsStack free class stack = 0 < stack.len → IsSomeAnd (get free stack.top) (IsTopOf class stack.len)
+  IsStack free class stack =
+      0 < stack.len → IsSomeAnd (get free stack.top) (IsTopOf class stack.len)
 
   -- a block has memory for the samples of its class, and the block holds the part of the
   -- class's stack that is below the block
@@ -52,6 +53,8 @@ module _ {T : Type 0} where
     pub all : length stacks ≡ class_count
     pub tops : (class : ℕ) → IsStack free class (stack_at stacks class)
     pub each : (key : ℕ) (block : Free T) → get free key ≡ Some block → IsStacked stacks free block
-    pub alone : (key other : ℕ) (block another : Free T) → get free key ≡ Some block → get free other ≡ Some another
+    pub alone : (key other : ℕ) (block another : Free T)
+        → get free key ≡ Some block
+        → get free other ≡ Some another
         → block.class ≡ another.class → block.under.len ≡ another.under.len → key ≡ other
     pub counted : free_count (lengths stacks) ≡ slab_len free

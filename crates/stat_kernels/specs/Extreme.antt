@@ -12,7 +12,11 @@ use Rattle.stat_kernels.specs.declared.extreme.Found.{Found}
 abbrev pub extreme_among : (ℤ → ℤ → ℤ) → (ℕ → ℕ → ℤ) → List (ℕ × ℕ) → Extreme
 extreme_among choose f ps =
     let zs = map (λ p. f p.0 p.1) ps in
-    record { value = best_of choose zs; count = count_of (best_of choose zs) zs; at = first_of f (best_of choose zs) ps }
+    record {
+      value = best_of choose zs;
+      count = count_of (best_of choose zs) zs;
+      at = first_of f (best_of choose zs) ps;
+    }
 
 -- the least and the greatest value of f at some pixels
 abbrev pub found_in : (ℕ → ℕ → ℤ) → List (ℕ × ℕ) → Found
@@ -24,12 +28,19 @@ merge beyond a b =
     if b.count == 0 then a
     else if a.count == 0 then b
     else if beyond b.value a.value then b
-    else if int_eq b.value a.value then record { value = a.value; count = a.count + b.count; at = a.at }
+    else if int_eq b.value a.value then record {
+      value = a.value;
+      count = a.count + b.count;
+      at = a.at;
+    }
     else a
 
 -- the extremes of some pixels, merged with the extremes of later pixels
 abbrev pub merge_found : Found → Found → Found
-merge_found a b = record { least = merge int_lt a.least b.least; greatest = merge (λ z v. int_lt v z) a.greatest b.greatest }
+merge_found a b = record {
+  least = merge int_lt a.least b.least;
+  greatest = merge (λ z v. int_lt v z) a.greatest b.greatest;
+}
 
 -- the numbers of an `Extremes` record, as a `Found` record
 abbrev pub found_of : Extremes → Found
@@ -57,9 +68,13 @@ shift_down down l = record l { at = (l.at.0, l.at.1 + down) }
 
 -- both extremes, with their pixels moved down by `down` rows
 abbrev pub shift_found : ℕ → Found → Found
-shift_found down f = record { least = shift_down down f.least; greatest = shift_down down f.greatest }
+shift_found down f = record {
+  least = shift_down down f.least;
+  greatest = shift_down down f.greatest;
+}
 
 -- the extremes of the rows above a band, merged with the band's extremes. Before the merge, the
 -- pixels of the band's extremes are moved down by `down` rows.
 abbrev pub added_extremes : ℕ → Extremes → Extremes → Extremes
-added_extremes down e band = extremes_of (merge_found (found_of e) (shift_found down (found_of band)))
+added_extremes down e band =
+    extremes_of (merge_found (found_of e) (shift_found down (found_of band)))

@@ -8,7 +8,8 @@ use Rattle.image_core.specs.declared.band.Band.{Band}
 
 -- the last row of a list that has `width` items for each row; None if the list is empty
 abbrev pub last_row : ℕ → (before : List ℕ) → Option (List ℕ)
-last_row width before = if length before == 0 then None else Some (drop (length before - width) before)
+last_row width before =
+    if length before == 0 then None else Some (drop (length before - width) before)
 
 -- ---- bands that continue from the row above them
 
@@ -28,26 +29,35 @@ pub record IsRowOf (part : ImageValue) (y : ℕ) (whole : ImageValue) (line : �
   pub samples : (x : ℕ) → x < whole.width → pixel_at part x y ≡ pixel_at whole x line
 
 -- the rows of a band of `part` are rows of the image `whole`, from its row `line` on
-pub record AreRowsOf (part : ImageValue) (rows : Band) (whole : ImageValue) (line : ℕ) : Type 0 where
-  pub is : IsImage whole
-  pub each : (k : ℕ) → k < rows.count → IsRowOf part (rows.start + k) whole (line + k)
+pub record AreRowsOf (part : ImageValue) (rows : Band) (whole : ImageValue) (line : ℕ) : Type 0
+  where
+    pub is : IsImage whole
+    pub each : (k : ℕ) → k < rows.count → IsRowOf part (rows.start + k) whole (line + k)
 
 -- ---- sums from the row above a band
 
 -- the sum of the valid samples to the left of column x, in the rows from `start` to y - 1
 abbrev pub sum_between : ImageValue → ℕ → ℕ → ℕ → ℕ
-sum_between image start x y = sum_by unsigned_abs (samples_in (record { x0 = image.valid.x0; y0 = max image.valid.y0 start; x1 = x; y1 = y }) image)
+sum_between image start x y =
+    sum_by unsigned_abs
+    (samples_in (record { x0 = image.valid.x0; y0 = max image.valid.y0 start; x1 = x; y1 = y })
+    image)
 
 -- the sample of the valid pixel (x, y) of an integral image, where y is at least `start`: the sum
 -- of the samples up to column x in rows `start` to y, plus `above x`, modulo 2^32. `above x` is the
 -- integral image's sample in the row above row `start`, and counts as 0 if row `start` is above the
 -- valid rectangle.
 abbrev pub sum_on : ImageValue → ℕ → (ℕ → ℕ) → ℕ → ℕ → ℤ
-sum_on image start above x y = pos (((if nat_le image.valid.y0 start then above x else 0) + sum_between image start (x + 1) (y + 1)) % 2 ^ 32)
+sum_on image start above x y =
+    pos
+    (((if nat_le image.valid.y0 start then above x else 0) + sum_between image start (x + 1)
+    (y + 1))
+    % 2 ^ 32)
 
 -- the sum of the valid samples of row y up to column x
 abbrev pub row_total : ImageValue → ℕ → ℕ → ℕ
-row_total image x y = sum_by unsigned_abs (run image.valid.x0 (x + 1 - image.valid.x0) (λ k. pixel_at image k y))
+row_total image x y =
+    sum_by unsigned_abs (run image.valid.x0 (x + 1 - image.valid.x0) (λ k. pixel_at image k y))
 
 -- the sample of the valid pixel (x, y) of an integral image, computed from the sample above it,
 -- `above x`

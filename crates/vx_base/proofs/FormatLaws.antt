@@ -19,7 +19,8 @@ arithmetic S16 U8 g is = refl
 arithmetic S16 S16 g is = refl
 arithmetic a b g is = cc
 
-pub open_formats : (function : Function) (first output : Format) (second : Option Format) → IsTrue (takes_formats function first second (Some output))
+pub open_formats : (function : Function) (first output : Format) (second : Option Format)
+    → IsTrue (takes_formats function first second (Some output))
     → IsTrue (takes_formats function first second (Some (open_format function first)))
 open_formats AndBits a g (Some b) is = bytes a b g is
 open_formats OrBits a g (Some b) is = bytes a b g is

@@ -14,17 +14,26 @@ pictured_image p h =
     record {
       sides = h.description;
       size = h.size;
-      canonical = whole_canonical p.description.width p.description.height h.description.width h.description.height;
+      canonical =
+          whole_canonical p.description.width p.description.height h.description.width
+          h.description.height;
       room = record { columns = omega arith; rows = omega arith };
       sampled = λ x y a b.
-          let below : y * p.description.width + x < length p.samples = omega (arith, h.size, above p.description.width p.description.height x y a b) in
-          All-get_or (IsSample p.description.format) p.samples (y * p.description.width + x) (pos 0) below h.sampled;
-      outside = λ x y a b e. let i = inside_whole p.description.width p.description.height x y a b in cc;
+          let below : y * p.description.width + x < length p.samples =
+          omega (arith, h.size, above p.description.width p.description.height x y a b) in
+          All-get_or (IsSample p.description.format) p.samples (y * p.description.width + x)
+          (pos 0) below h.sampled;
+      outside =
+          λ x y a b e. let i = inside_whole p.description.width p.description.height x y a b in cc;
     }
 
 pub picture_of_image : (a : ImageValue) → IsImage a → IsPicture (picture_of a)
 picture_of_image a h =
-    record { description = h.sides; size = h.size; sampled = All-from_get_or (IsSample a.format) a.samples (pos 0) each }
+    record {
+      description = h.sides;
+      size = h.size;
+      sampled = All-from_get_or (IsSample a.format) a.samples (pos 0) each;
+    }
   where
     each : (k : ℕ) → k < length a.samples → IsSample a.format (get_or a.samples k (pos 0))
     each k below =

@@ -19,5 +19,6 @@ signed_agrees v m h = signed (int_lt m (pos 32768)) h
 
 pub wrap_agrees : (format : Format) (v : ℤ) → AgreesModulo (range_size format) v (wrap format v)
 wrap_agrees U8 v = rest_agrees 256 v (omega arith)
-wrap_agrees S16 v = signed_agrees v (int_rem_euclid v (pos 65536)) (rest_agrees 65536 v (omega arith))
+wrap_agrees S16 v =
+    signed_agrees v (int_rem_euclid v (pos 65536)) (rest_agrees 65536 v (omega arith))
 wrap_agrees U32 v = rest_agrees 4294967296 v (omega arith)

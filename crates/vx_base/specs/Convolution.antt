@@ -19,7 +19,8 @@ is_odd_side n = (n == 3 || n == 5) || (n == 7 || n == 9)
 -- whether a matrix may have these numbers of columns and rows, this exponent and this number of
 -- coefficients
 abbrev pub is_convolution : ℕ → ℕ → ℕ → ℕ → Bool
-is_convolution columns rows exponent count = (is_odd_side columns && is_odd_side rows) && (nat_le exponent 31 && count == rows * columns)
+is_convolution columns rows exponent count =
+    (is_odd_side columns && is_odd_side rows) && (nat_le exponent 31 && count == rows * columns)
 
 -- the coefficient at a row and a column
 abbrev pub coefficient : ConvolutionValue → ℕ → ℕ → ℤ

@@ -17,7 +17,8 @@ is_side n = nat_le 1 n && nat_le n GREATEST_SIDE
 -- the description of an image, if its sides are permitted
 abbrev pub description : ℕ → ℕ → Format → Option Description
 description width height format =
-    if is_side width && is_side height then Some (record { width = width; height = height; format = format }) else None
+    if is_side width && is_side height then Some
+    (record { width = width; height = height; format = format }) else None
 
 -- the number of samples of an image
 abbrev pub sample_count : Description → ℕ

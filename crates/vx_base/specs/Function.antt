@@ -37,8 +37,32 @@ function_number AccumulateSquare = 25
 -- all functions, in the order of their numbers
 abbrev pub functions : List Function
 functions =
-    AndBits ∷ OrBits ∷ XorBits ∷ NotBits ∷ Add ∷ Subtract ∷ Multiply ∷ AbsoluteDifference ∷ MinPixel ∷ MaxPixel ∷ Threshold ∷ TableLookup ∷ ConvertDepth
-    ∷ Box ∷ Gaussian ∷ Median ∷ Erode ∷ Dilate ∷ Sobel ∷ Convolve ∷ Histogram ∷ Integral ∷ MinMaxLoc ∷ Accumulate ∷ AccumulateSquare ∷ []
+    AndBits
+    ∷ OrBits
+    ∷ XorBits
+    ∷ NotBits
+    ∷ Add
+    ∷ Subtract
+    ∷ Multiply
+    ∷ AbsoluteDifference
+    ∷ MinPixel
+    ∷ MaxPixel
+    ∷ Threshold
+    ∷ TableLookup
+    ∷ ConvertDepth
+    ∷ Box
+    ∷ Gaussian
+    ∷ Median
+    ∷ Erode
+    ∷ Dilate
+    ∷ Sobel
+    ∷ Convolve
+    ∷ Histogram
+    ∷ Integral
+    ∷ MinMaxLoc
+    ∷ Accumulate
+    ∷ AccumulateSquare
+    ∷ []
 
 -- the function with this number
 abbrev pub function_numbered : ℕ → Option Function
@@ -48,7 +72,13 @@ function_numbered n = find (λ function. function_number function == n) function
 
 -- one input image and one output image
 abbrev pub of_one_image : Parameters
-of_one_image = record { second_input = None; policy = false; greatest_amount = None; output = kind.Image; output_pair = false }
+of_one_image = record {
+  second_input = None;
+  policy = false;
+  greatest_amount = None;
+  output = kind.Image;
+  output_pair = false;
+}
 
 -- one input image, a second input of this kind, and one output image
 abbrev pub of_two_operands : Kind → Parameters

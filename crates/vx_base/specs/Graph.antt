@@ -28,7 +28,10 @@ can_add g = nat_lt g.next 4294967296 && nat_lt (length g.nodes) GREATEST_NODES
 
 -- the graph with one more node, which gets the next number
 abbrev pub with_node : GraphValue → Node → GraphValue
-with_node g n = record g { next = g.next + 1; nodes = g.nodes ++ record { number = g.next; node = n } ∷ [] }
+with_node g n = record g {
+  next = g.next + 1;
+  nodes = g.nodes ++ record { number = g.next; node = n } ∷ [];
+}
 
 -- whether the graph has a node of this number
 abbrev pub has_node : GraphValue → ℕ → Bool

@@ -36,7 +36,13 @@ description_of image = record { width = image.width; height = image.height; form
 
 -- the image with this description, valid rectangle and samples
 abbrev pub image_over : Description → Rectangle → List ℤ → ImageValue
-image_over d valid samples = record { width = d.width; height = d.height; format = d.format; valid = valid; samples = samples }
+image_over d valid samples = record {
+  width = d.width;
+  height = d.height;
+  format = d.format;
+  valid = valid;
+  samples = samples;
+}
 
 -- the sample in column x of row y
 abbrev pub pixel_at : ImageValue → ℕ → ℕ → ℤ
@@ -49,17 +55,31 @@ pub record IsImage (image : ImageValue) : Type 0 where
   pub size : length image.samples ≡ image.height * image.width
   pub canonical : IsCanonical image.valid
   pub room : IsWithin image.valid image.width image.height
-  pub sampled : (x y : ℕ) → x < image.width → y < image.height → IsSample image.format (pixel_at image x y)
-  pub outside : (x y : ℕ) → x < image.width → y < image.height → has_pixel image.valid x y ≡ false → pixel_at image x y ≡ pos 0
+  pub sampled : (x y : ℕ)
+      → x < image.width
+      → y < image.height
+      → IsSample image.format (pixel_at image x y)
+  pub outside : (x y : ℕ)
+      → x < image.width
+      → y < image.height
+      → has_pixel image.valid x y ≡ false
+      → pixel_at image x y ≡ pos 0
 
 -- the image whose samples are f in the valid rectangle and 0 elsewhere
 abbrev pub image_from : ℕ → ℕ → Format → Rectangle → (ℕ → ℕ → ℤ) → ImageValue
 image_from width height format valid f =
-    record { width = width; height = height; format = format; valid = valid; samples = table width height (zero_outside valid f) }
+    record {
+      width = width;
+      height = height;
+      format = format;
+      valid = valid;
+      samples = table width height (zero_outside valid f);
+    }
 
 -- a new image: wholly valid, all samples 0
 abbrev pub new_image : ℕ → ℕ → Format → ImageValue
-new_image width height format = image_from width height format (whole_rectangle width height) (λ _ _. pos 0)
+new_image width height format =
+    image_from width height format (whole_rectangle width height) (λ _ _. pos 0)
 
 -- the image with another valid rectangle; the samples outside it become 0
 abbrev pub with_valid : Rectangle → ImageValue → ImageValue

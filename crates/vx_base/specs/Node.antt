@@ -33,7 +33,8 @@ is_wrap Saturate = false
 -- must be Wrap. If the function takes no amount, the amount must be 0. Otherwise the amount must be
 -- at most the function's greatest amount.
 abbrev pub has_amount : Parameters → Policy → ℕ → Bool
-has_amount p policy amount = (p.policy || is_wrap policy) && nat_le amount (unwrap_or p.greatest_amount 0)
+has_amount p policy amount =
+    (p.policy || is_wrap policy) && nat_le amount (unwrap_or p.greatest_amount 0)
 
 -- whether the operands suit the function. A second input must be given exactly if the function
 -- takes one. If the function has two outputs, one or both must be given. Otherwise the first output
@@ -41,11 +42,15 @@ has_amount p policy amount = (p.policy || is_wrap policy) && nat_le amount (unwr
 abbrev pub has_operands : Parameters → Node → Bool
 has_operands p n =
     (if is_some p.second_input then is_some n.in2 else is_none n.in2)
-    && (if p.output_pair then (is_some n.out1 || is_some n.out2) else (is_some n.out1 && is_none n.out2))
+    &&
+    (if p.output_pair then (is_some n.out1 || is_some n.out2) else
+    (is_some n.out1 && is_none n.out2))
 
 -- whether a node's fields suit its function
 abbrev pub is_node : Node → Bool
-is_node n = has_amount (parameters n.function) n.policy n.amount && (has_operands (parameters n.function) n && all_named n)
+is_node n =
+    has_amount (parameters n.function) n.policy n.amount &&
+    (has_operands (parameters n.function) n && all_named n)
 
 -- the node with these fields, if they suit its function
 abbrev pub node_spec : Node → Option Node
@@ -80,7 +85,9 @@ with_kind k (Some cell) = (cell, k) ∷ []
 abbrev pub operands : Node → List (Reference × Kind)
 operands n =
     (n.in1, kind.Image) ∷ (with_kind (second_kind n) n.in2
-    ++ (with_kind (parameters n.function).output n.out1 ++ with_kind (parameters n.function).output n.out2))
+    ++
+    (with_kind (parameters n.function).output n.out1
+    ++ with_kind (parameters n.function).output n.out2))
 
 -- a border whose constant, if it has one, is a U8 sample
 abbrev pub IsBorder : Border → Type 0

@@ -87,7 +87,14 @@ new_distribution bins = record { bins = bins; counts = replicate bins.bins 0 }
 
 -- the initial extremes: all 0
 abbrev pub no_extremes : Extremes
-no_extremes = record { min = pos 0; max = pos 0; min_count = 0; max_count = 0; min_at = (0, 0); max_at = (0, 0) }
+no_extremes = record {
+  min = pos 0;
+  max = pos 0;
+  min_count = 0;
+  max_count = 0;
+  min_at = (0, 0);
+  max_at = (0, 0);
+}
 
 -- ---- well-formed objects
 

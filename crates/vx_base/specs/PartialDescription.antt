@@ -19,7 +19,8 @@ may_be_side (Some n) = is_side n
 -- the partial description with these parts, if its given sides are permitted
 abbrev pub partial_description : Option ℕ → Option ℕ → Option Format → Option PartialDescription
 partial_description width height format =
-    if may_be_side width && may_be_side height then Some (record { width = width; height = height; format = format }) else None
+    if may_be_side width && may_be_side height then Some
+    (record { width = width; height = height; format = format }) else None
 
 -- a description as a partial description with no part open
 abbrev pub partial_desc_of : Description → PartialDescription
@@ -28,11 +29,16 @@ partial_desc_of d = record { width = Some d.width; height = Some d.height; forma
 -- the first partial description, with its open parts taken from the second
 abbrev pub with_defaults : PartialDescription → PartialDescription → PartialDescription
 with_defaults o other =
-    record { width = option_or o.width other.width; height = option_or o.height other.height; format = option_or o.format other.format }
+    record {
+      width = option_or o.width other.width;
+      height = option_or o.height other.height;
+      format = option_or o.format other.format;
+    }
 
 -- the description with these parts, if all are given
 abbrev pub described_by : Option ℕ → Option ℕ → Option Format → Option Description
-described_by (Some width) (Some height) (Some format) = Some (record { width = width; height = height; format = format })
+described_by (Some width) (Some height) (Some format) =
+    Some (record { width = width; height = height; format = format })
 described_by width height format = None
 
 -- the full description, if no part is open

@@ -32,7 +32,8 @@ picture_of image = record { description = description_of image; samples = image.
 
 -- a picture as an image that is wholly valid
 abbrev pub picture_image : PictureValue → ImageValue
-picture_image p = image_over p.description (whole_rectangle p.description.width p.description.height) p.samples
+picture_image p =
+    image_over p.description (whole_rectangle p.description.width p.description.height) p.samples
 
 -- a picture of permitted size, with a sample of its format for each pixel
 pub record IsPicture (p : PictureValue) : Type 0 where

@@ -59,7 +59,8 @@ greater a b = int_max a b
 
 -- "Thresholding": the true value where the sample passes, else the false value
 abbrev pub threshold_result : ThresholdValue → ℤ → ℤ
-threshold_result threshold a = if passes threshold.kind a then pos threshold.true_value else pos threshold.false_value
+threshold_result threshold a =
+    if passes threshold.kind a then pos threshold.true_value else pos threshold.false_value
 
 -- "TableLookup": the table's entry for the sample
 abbrev pub lookup_result : LutValue → ℤ → ℤ
@@ -90,7 +91,9 @@ from_one format f a = image_from a.width a.height format a.valid (λ x y. f (pix
 
 -- the image whose samples are f of the samples of two images, valid where both are
 abbrev pub from_two : Format → (ℤ → ℤ → ℤ) → ImageValue → ImageValue → ImageValue
-from_two format f a b = image_from a.width a.height format (meet_of a.valid b.valid) (λ x y. f (pixel_at a x y) (pixel_at b x y))
+from_two format f a b =
+    image_from a.width a.height format (meet_of a.valid b.valid)
+    (λ x y. f (pixel_at a x y) (pixel_at b x y))
 
 -- ---- the formula of each pixel-wise function of one image, and of each function of two images; an
 -- accumulator's earlier content counts as the second image

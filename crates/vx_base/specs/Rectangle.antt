@@ -23,11 +23,14 @@ is_rectangle x0 y0 x1 y1 =
 
 -- the rectangle with these bounds, if they are in canonical form
 abbrev pub rectangle : ℕ → ℕ → ℕ → ℕ → Option Rectangle
-rectangle x0 y0 x1 y1 = if is_rectangle x0 y0 x1 y1 then Some (record { x0 = x0; y0 = y0; x1 = x1; y1 = y1 }) else None
+rectangle x0 y0 x1 y1 =
+    if is_rectangle x0 y0 x1 y1 then Some (record { x0 = x0; y0 = y0; x1 = x1; y1 = y1 }) else None
 
 -- the rectangle with these bounds, or the empty rectangle if these bounds include no pixel
 abbrev pub rectangle_or_empty : ℕ → ℕ → ℕ → ℕ → Rectangle
-rectangle_or_empty x0 y0 x1 y1 = if nat_lt x0 x1 && nat_lt y0 y1 then record { x0 = x0; y0 = y0; x1 = x1; y1 = y1 } else empty_rectangle
+rectangle_or_empty x0 y0 x1 y1 =
+    if nat_lt x0 x1 && nat_lt y0 y1 then record { x0 = x0; y0 = y0; x1 = x1; y1 = y1 } else
+    empty_rectangle
 
 -- all pixels of an image of this width and height
 abbrev pub whole_rectangle : ℕ → ℕ → Rectangle

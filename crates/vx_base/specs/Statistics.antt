@@ -40,15 +40,21 @@ pub record BinsValue : Type 0 where
 -- whether a histogram may have this number of bins, this offset and this range; the sum of offset
 -- and range may exceed 256
 abbrev pub are_bins : ℕ → ℕ → ℕ → Bool
-are_bins bins offset range = ((nat_le 1 bins && nat_le bins GREATEST_BINS) && nat_lt offset 256) && (nat_le 1 range && nat_le range 256)
+are_bins bins offset range =
+    ((nat_le 1 bins && nat_le bins GREATEST_BINS) && nat_lt offset 256) &&
+    (nat_le 1 range && nat_le range 256)
 
 -- the bins of a histogram, if their number, the offset and the range are permitted
 abbrev pub bins_of : ℕ → ℕ → ℕ → Option BinsValue
-bins_of bins offset range = if are_bins bins offset range then Some (record { bins = bins; offset = offset; range = range }) else None
+bins_of bins offset range =
+    if are_bins bins offset range then Some
+    (record { bins = bins; offset = offset; range = range }) else None
 
 -- the bin that counts a sample, if there is one
 abbrev pub bin_of : BinsValue → ℕ → Option ℕ
-bin_of b p = if nat_le b.offset p && nat_lt p (b.offset + b.range) then Some ((p - b.offset) * b.bins / b.range) else None
+bin_of b p =
+    if nat_le b.offset p && nat_lt p (b.offset + b.range) then Some
+    ((p - b.offset) * b.bins / b.range) else None
 
 -- whether there is a bin and it is bin k
 abbrev pub is_bin : ℕ → Option ℕ → Bool
@@ -57,7 +63,9 @@ is_bin k (Some bin) = bin == k
 
 -- the number of samples in each bin
 abbrev pub tallies : BinsValue → List ℤ → List ℕ
-tallies b samples = map (λ k. count_by (λ z. is_bin k (bin_of b (unsigned_abs z))) samples) (range_with_len 0 b.bins)
+tallies b samples =
+    map (λ k. count_by (λ z. is_bin k (bin_of b (unsigned_abs z))) samples)
+    (range_with_len 0 b.bins)
 
 -- the histogram of a U8 image: the number of its valid samples in each bin
 abbrev pub histogram : BinsValue → ImageValue → List ℕ
@@ -67,7 +75,10 @@ histogram b image = tallies b (valid_samples image)
 
 -- the sum of the valid U8 samples in columns 0 to x of rows 0 to y, modulo 2^32
 abbrev pub sum_to : ImageValue → ℕ → ℕ → ℤ
-sum_to image x y = pos (sum_by unsigned_abs (samples_in (meet_of image.valid (whole_rectangle (x + 1) (y + 1))) image) % 2 ^ 32)
+sum_to image x y =
+    pos
+    (sum_by unsigned_abs
+    (samples_in (meet_of image.valid (whole_rectangle (x + 1) (y + 1))) image) % 2 ^ 32)
 
 -- the integral image, in this format, of a U8 image. It is valid where the input is; samples
 -- outside the input's valid rectangle count as 0. These zeros and the modulus 2^32 are this

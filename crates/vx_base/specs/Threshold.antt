@@ -23,13 +23,15 @@ is_sample format z = int_le (min_sample format) z && int_le z (max_sample format
 abbrev pub has_limits : Format → ThresholdKind → Bool
 has_limits U32 kind = false
 has_limits format (Binary t) = is_sample format t
-has_limits format (Range lower upper) = is_sample format lower && (is_sample format upper && int_le lower upper)
+has_limits format (Range lower upper) =
+    is_sample format lower && (is_sample format upper && int_le lower upper)
 
 -- the threshold with these limits and results, if its limits are permitted
 abbrev pub threshold : Format → ThresholdKind → ℕ → ℕ → Option ThresholdValue
 threshold format kind true_value false_value =
     if has_limits format kind
-    then Some (record { format = format; kind = kind; true_value = true_value; false_value = false_value })
+    then Some
+    (record { format = format; kind = kind; true_value = true_value; false_value = false_value })
     else None
 
 -- whether a sample passes. It passes a binary threshold if it is above t, and a range threshold if

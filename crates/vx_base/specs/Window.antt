@@ -20,7 +20,8 @@ use Rattle.vx_base.specs.Image.{ImageValue, pixel_at, image_from}
 
 -- whether a pixel, which may lie outside the image, is in the rectangle
 abbrev pub holds : Rectangle → ℤ → ℤ → Bool
-holds r x y = (int_le (pos r.x0) x && int_lt x (pos r.x1)) && (int_le (pos r.y0) y && int_lt y (pos r.y1))
+holds r x y =
+    (int_le (pos r.x0) x && int_lt x (pos r.x1)) && (int_le (pos r.y0) y && int_lt y (pos r.y1))
 
 -- the number from `low` to `high - 1` that is nearest to v, or `low` if there is none
 abbrev pub clamp_coordinate : ℕ → ℕ → ℤ → ℕ
@@ -32,12 +33,16 @@ clamp_coordinate low high v = unsigned_abs (int_max (pos low) (int_min v (pos hi
 abbrev pub border_sample : ImageValue → Border → ℤ → ℤ → ℤ
 border_sample image Undefined x y = pos 0
 border_sample image (Constant value) x y = pos value
-border_sample image Replicate x y = pixel_at image (clamp_coordinate image.valid.x0 image.valid.x1 x) (clamp_coordinate image.valid.y0 image.valid.y1 y)
+border_sample image Replicate x y =
+    pixel_at image (clamp_coordinate image.valid.x0 image.valid.x1 x)
+    (clamp_coordinate image.valid.y0 image.valid.y1 y)
 
 -- the sample that a window reads at a pixel: the image's own in the valid rectangle, else the
 -- border's
 abbrev pub sample_or_border : ImageValue → Border → ℤ → ℤ → ℤ
-sample_or_border image border x y = if holds image.valid x y then pixel_at image (unsigned_abs x) (unsigned_abs y) else border_sample image border x y
+sample_or_border image border x y =
+    if holds image.valid x y then pixel_at image (unsigned_abs x) (unsigned_abs y) else
+    border_sample image border x y
 
 -- the 3x3 window around a pixel, in row-major order
 abbrev pub nine_around : (ℤ → ℤ → ℤ) → ℤ → ℤ → List ℤ
@@ -75,7 +80,8 @@ gaussian_mean zs = int_div_euclid (dot_product gaussian_weights zs) (pos 16)
 
 -- whether at most four of the samples are below v, and at most four are above it
 abbrev pub is_middle : List ℤ → ℤ → Bool
-is_middle zs v = nat_le (count_by (λ z. int_lt z v) zs) 4 && nat_le (count_by (λ z. int_lt v z) zs) 4
+is_middle zs v =
+    nat_le (count_by (λ z. int_lt z v) zs) 4 && nat_le (count_by (λ z. int_lt v z) zs) 4
 
 -- "Median Filter": the median of the nine samples
 abbrev pub median : List ℤ → ℤ
@@ -123,16 +129,23 @@ formula_of_nine other output = λ _. pos 0
 -- the dot product of the samples around column x, taken from right to left, with row l of the
 -- matrix
 abbrev pub row_product : ConvolutionValue → (ℤ → ℤ) → ℤ → ℕ → ℤ
-row_product c f x l = total (map (λ k. f (x +ℤ pos (c.columns / 2) -ℤ pos k) *ℤ coefficient c l k) (range_with_len 0 c.columns))
+row_product c f x l =
+    total
+    (map (λ k. f (x +ℤ pos (c.columns / 2) -ℤ pos k) *ℤ coefficient c l k)
+    (range_with_len 0 c.columns))
 
 -- the dot product of the matrix, turned by 180 degrees, with the samples around a pixel
 abbrev pub matrix_product : ConvolutionValue → (ℤ → ℤ → ℤ) → ℤ → ℤ → ℤ
-matrix_product c f x y = total (map (λ l. row_product c (λ u. f u (y +ℤ pos (c.rows / 2) -ℤ pos l)) x l) (range_with_len 0 c.rows))
+matrix_product c f x y =
+    total
+    (map (λ l. row_product c (λ u. f u (y +ℤ pos (c.rows / 2) -ℤ pos l)) x l)
+    (range_with_len 0 c.rows))
 
 -- the dot product with the turned matrix, divided by 2^exponent, rounded toward zero and clamped to
 -- the format
 abbrev pub convolution_result : ConvolutionValue → Format → (ℤ → ℤ → ℤ) → ℤ → ℤ → ℤ
-convolution_result c format f x y = clamp format (int_div (matrix_product c f x y) (pos (2 ^ c.exponent)))
+convolution_result c format f x y =
+    clamp format (int_div (matrix_product c f x y) (pos (2 ^ c.exponent)))
 
 -- ---- images
 
@@ -146,9 +159,12 @@ window_valid Replicate rx ry valid = valid
 -- the image in which each valid sample is f of the 3x3 window around its pixel
 abbrev pub from_nine : Format → (List ℤ → ℤ) → Border → ImageValue → ImageValue
 from_nine format f border a =
-    image_from a.width a.height format (window_valid border 1 1 a.valid) (λ x y. f (nine_around (sample_or_border a border) (pos x) (pos y)))
+    image_from a.width a.height format (window_valid border 1 1 a.valid)
+    (λ x y. f (nine_around (sample_or_border a border) (pos x) (pos y)))
 
 -- the image convolved with a matrix
 abbrev pub from_matrix : Format → ConvolutionValue → Border → ImageValue → ImageValue
 from_matrix format c border a =
-    image_from a.width a.height format (window_valid border (c.columns / 2) (c.rows / 2) a.valid) (λ x y. convolution_result c format (sample_or_border a border) (pos x) (pos y))
+    image_from a.width a.height format
+    (window_valid border (c.columns / 2) (c.rows / 2) a.valid)
+    (λ x y. convolution_result c format (sample_or_border a border) (pos x) (pos y))

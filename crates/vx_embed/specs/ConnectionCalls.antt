@@ -28,4 +28,5 @@ module _ (connection : ℕ) (old new : Handle) where
   -- the handle before and after, and the status
   abbrev pub ClosesConnection : Status → Type 0
   ClosesConnection status.NotOpen = (old.held ≡ false) × (new ≡ old)
-  ClosesConnection result = StaysHeld old new × DisconnectResult connection old.world new.world result
+  ClosesConnection result =
+      StaysHeld old new × DisconnectResult connection old.world new.world result

@@ -21,8 +21,11 @@ abbrev pub limit_of : ℕ → Option ℕ
 limit_of n = if is_limit n then Some n else None
 
 -- digits alone give the number that they spell
-told_of_digits : (word : List ℕ) → all_ascii_digits word ≡ true → parse_bytes word ≡ limit_of (digits_value 10 word)
-told_of_digits word digits = ap (λ (t : Bool). if t then limit_of (digits_value 10 word) else None) digits
+told_of_digits : (word : List ℕ)
+    → all_ascii_digits word ≡ true
+    → parse_bytes word ≡ limit_of (digits_value 10 word)
+told_of_digits word digits =
+    ap (λ (t : Bool). if t then limit_of (digits_value 10 word) else None) digits
 
 -- a great number is no limit
 great : (n : ℕ) → 2 ^ 64 ≤ n → limit_of n ≡ None
@@ -42,14 +45,18 @@ told_of_others (c ∷ cs) others =
     ]
 
 -- what `parse` answers for a word without a plus in front
-module _ {E : Type 0} (word : List ℕ) (r : Result ℕ E) (plain : get_or word 0 0 ≢ 43) (read : ParsesUnsigned 64 10 word r) where
+module _ {E : Type 0} (word : List ℕ) (r : Result ℕ E) (plain : get_or word 0 0 ≢ 43)
+    (read : ParsesUnsigned 64 10 word r) where
   parsed : OkIff r (IsNumber word) (digits_value 10 word)
   parsed = parse_plain digits_model 64 word r read plain
 
   pub told_ok : (n : ℕ) → r ≡ Ok n → parse_bytes word ≡ limit_of n
   told_ok n is =
-      let found : IsNumber word × (n ≡ digits_value 10 word) = subst (λ (s : Result ℕ E). OkIff s (IsNumber word) (digits_value 10 word)) is parsed in
+      let found : IsNumber word × (n ≡ digits_value 10 word) =
+      subst (λ (s : Result ℕ E). OkIff s (IsNumber word) (digits_value 10 word)) is parsed in
       told_of_digits word found.0.0 ∙ ap (λ (m : ℕ). limit_of m) (sym found.1)
 
   pub told_err : (e : E) → r ≡ Err e → parse_bytes word ≡ None
-  told_err e is = told_of_others word (subst (λ (s : Result ℕ E). OkIff s (IsNumber word) (digits_value 10 word)) is parsed)
+  told_err e is =
+      told_of_others word
+      (subst (λ (s : Result ℕ E). OkIff s (IsNumber word) (digits_value 10 word)) is parsed)

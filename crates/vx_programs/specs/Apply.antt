@@ -35,7 +35,8 @@ pgm_fault_code fault.NoMemory = NoMemory
 -- the text that a job writes if it has read a U8 picture, otherwise the code of the fault
 abbrev pub applied_to : Job → Result PictureValue PgmFault → Result (List ℕ) Code
 applied_to job (Err fault) = Err (pgm_fault_code fault)
-applied_to job (Ok p) = if same_format p.description.format U8 then Ok (text_made job p) else Err InvalidFormat
+applied_to job (Ok p) =
+    if same_format p.description.format U8 then Ok (text_made job p) else Err InvalidFormat
 
 -- the PGM text that a job writes for the PGM text that it reads, or the code of the fault
 abbrev pub job_result : Job → List ℕ → Result (List ℕ) Code
@@ -43,4 +44,5 @@ job_result job text = applied_to job (read_result text)
 
 -- the program ended with NoMemory, or with the code in `outcome`
 pub record EndsFor (outcome : Result (List ℕ) Code) (ended : Ended) : Type 0 where
-  pub is : (ended ≡ Refused NoMemory) ⊎ ((code : Code) × (outcome ≡ Err code) × (ended ≡ Refused code))
+  pub is :
+      (ended ≡ Refused NoMemory) ⊎ ((code : Code) × (outcome ≡ Err code) × (ended ≡ Refused code))

@@ -16,11 +16,14 @@ said-other : (reply : Reply) → reply ≢ Refused NoMemory → ((said_of reply)
 said-other (Refused code) other = other_number code (λ e. other cc)
 said-other other_reply other = refl
 
-spelled-other : (limits : LimitsValue) (state : State) (spelled : Result Request BodyFault) → ((answer_spelled limits state spelled).0.code == 1) ≡ false
-spelled-other limits state (Ok request) = said-other (answer_to limits state request).0 (never_no_memory limits state request)
+spelled-other : (limits : LimitsValue) (state : State) (spelled : Result Request BodyFault)
+    → ((answer_spelled limits state spelled).0.code == 1) ≡ false
+spelled-other limits state (Ok request) =
+    said-other (answer_to limits state request).0 (never_no_memory limits state request)
 spelled-other limits state (Err InvalidValue) = refl
 spelled-other limits state other = refl
 
-pub answer-other : (limits : LimitsValue) (state : State) (op : ℕ) (body : List ℕ) → ((answer limits state op body).0.code == 1) ≡ false
+pub answer-other : (limits : LimitsValue) (state : State) (op : ℕ) (body : List ℕ)
+    → ((answer limits state op body).0.code == 1) ≡ false
 unfolding answer
 answer-other limits state op body = spelled-other limits state (request_of op body)

@@ -8,7 +8,14 @@ pub use Rattle.client_model.specs.Request.{IsRequest}
 pub use Rattle.client_model.specs.declared.reply.Reply.{Reply}
 pub use Rattle.client_model.specs.declared.reply.Reply.TheVariants.{Refused}
 pub use Rattle.client_model.specs.declared.request.Request.{Request}
-pub use Rattle.client_model.specs.declared.request.Request.TheVariants.{CreateConvolution, CreateLut, ReadImage, ReadImagePgm, WriteImage, WriteImagePgm}
+pub use Rattle.client_model.specs.declared.request.Request.TheVariants.{
+  CreateConvolution,
+  CreateLut,
+  ReadImage,
+  ReadImagePgm,
+  WriteImage,
+  WriteImagePgm,
+}
 pub use Rattle.pgm_images.specs.Writing.{pgm_text}
 pub use Rattle.std.proofs.KnownBytes.{Appends-kept, Appends-nil, Appends-trans, Consumes-trans}
 pub use Rattle.std.proofs.lemmas.Bool.{cases_Bool}
@@ -28,13 +35,53 @@ pub use Rattle.vx_base.specs.declared.code.Code.{Code}
 pub use Rattle.vx_base.specs.declared.code.Code.TheVariants.{NoMemory}
 pub use Rattle.vx_base.specs.declared.format.Format.{Format}
 pub use Rattle.vx_base.specs.declared.format.Format.TheVariants.{U8}
-pub use Rattle.vx_requests.specs.Frame.Frames.{Frame, IsFrame, IsLength, IsRest, ReplyFrame, Splits, frame_bytes, frame_of, frames_bytes, reply_bytes, reply_head, request_frame, said_length}
-pub use Rattle.vx_requests.specs.Frame.Reading.{BreaksOff, KeepsCount, ReadsPart, ReadsSamples, ReadsSome}
+pub use Rattle.vx_requests.specs.Frame.Frames.{
+  Frame,
+  IsFrame,
+  IsLength,
+  IsRest,
+  ReplyFrame,
+  Splits,
+  frame_bytes,
+  frame_of,
+  frames_bytes,
+  reply_bytes,
+  reply_head,
+  request_frame,
+  said_length,
+}
+pub use Rattle.vx_requests.specs.Frame.Reading.{
+  BreaksOff,
+  KeepsCount,
+  ReadsPart,
+  ReadsSamples,
+  ReadsSome,
+}
 pub use Rattle.vx_requests.specs.Serving.Answer.{answer, answer_spelled}
-pub use Rattle.vx_requests.specs.Serving.Clients.{ReceivedFrame, after, answer_frame, frames_of, is_kept_of, mine, reply_in, served, spelled_frame, state_then, states_after, states_of}
+pub use Rattle.vx_requests.specs.Serving.Clients.{
+  ReceivedFrame,
+  after,
+  answer_frame,
+  frames_of,
+  is_kept_of,
+  mine,
+  reply_in,
+  served,
+  spelled_frame,
+  state_then,
+  states_after,
+  states_of,
+}
 pub use Rattle.vx_requests.specs.Serving.Lost.{MayBeLost}
 pub use Rattle.vx_requests.specs.Serving.Session.{Session}
-pub use Rattle.vx_requests.specs.Serving.Turn.{AnswersBody, IsReply, ServesFrame, Turn, reply_frame, said_in}
+pub use Rattle.vx_requests.specs.Serving.Turn.{
+  AnswersBody,
+  IsReply,
+  ServesFrame,
+  Turn,
+  reply_frame,
+  said_in,
+}
 pub use Rattle.vx_requests.specs.Stream.Transfer.{AppendsFront, AppendsPart, Sends}
 pub use Rattle.vx_requests.specs.declared.serving.answered.Answered.{Answered}
 pub use Rattle.vx_requests.specs.declared.serving.answered.ReplyContent.{ReplyContent}

@@ -57,63 +57,99 @@ WideLeaves c outcome = IfOk outcome (λ done. is_wide done.0 ≡ true → done.1
 abbrev NeverLong : Outcome → Type 0
 NeverLong outcome = IfOk outcome (λ done. is_long done.0 ≡ false)
 
-write_text_leaves : (image : Result ImageValue Refusal) (c : Context) (cell : Reference) (picture : Result PictureValue PgmFault) → WideLeaves c (write_text_to image c cell picture)
+write_text_leaves :
+    (image : Result ImageValue Refusal) (c : Context) (cell : Reference)
+    (picture : Result PictureValue PgmFault)
+    → WideLeaves c (write_text_to image c cell picture)
 write_text_leaves image c cell picture = grind arith
 
-write_text_short : (image : Result ImageValue Refusal) (c : Context) (cell : Reference) (picture : Result PictureValue PgmFault) → NeverLong (write_text_to image c cell picture)
+write_text_short :
+    (image : Result ImageValue Refusal) (c : Context) (cell : Reference)
+    (picture : Result PictureValue PgmFault)
+    → NeverLong (write_text_to image c cell picture)
 write_text_short image c cell picture = grind arith
 
-unless_leaves : (refusal : Option Refusal) (c d : Context) → WideLeaves c (reply_unless refusal Empty d)
+unless_leaves : (refusal : Option Refusal) (c d : Context)
+    → WideLeaves c (reply_unless refusal Empty d)
 unless_leaves refusal c d = grind arith
 
 unless_short : (refusal : Option Refusal) (d : Context) → NeverLong (reply_unless refusal Empty d)
 unless_short refusal d = grind arith
 
-refused_or_leaves : (refusal : Option Refusal) (c : Context) (outcome : Outcome) → WideLeaves c outcome → WideLeaves c (refused_or refusal outcome)
+refused_or_leaves : (refusal : Option Refusal) (c : Context) (outcome : Outcome)
+    → WideLeaves c outcome
+    → WideLeaves c (refused_or refusal outcome)
 refused_or_leaves refusal c outcome h = grind arith
 
-refused_or_short : (refusal : Option Refusal) (outcome : Outcome) → NeverLong outcome → NeverLong (refused_or refusal outcome)
+refused_or_short : (refusal : Option Refusal) (outcome : Outcome)
+    → NeverLong outcome
+    → NeverLong (refused_or refusal outcome)
 refused_or_short refusal outcome h = grind arith
 
-outcome_leaves : (limits : LimitsValue) (c : Context) (request : Request) → WideLeaves c (outcome_of limits c request)
-outcome_leaves limits c (WriteImagePgm cell text) = write_text_leaves (image_of c.objects cell) c cell (read_result text)
+outcome_leaves : (limits : LimitsValue) (c : Context) (request : Request)
+    → WideLeaves c (outcome_of limits c request)
+outcome_leaves limits c (WriteImagePgm cell text) =
+    write_text_leaves (image_of c.objects cell) c cell (read_result text)
 outcome_leaves limits c (AddNode graph n) =
-    refused_or_leaves (operands_refusal (Some graph) c.objects ((reference_to graph, kind.Graph) ∷ operands n)) c (add_to (graph_named c.objects graph) c graph n) (grind arith)
+    refused_or_leaves
+    (operands_refusal (Some graph) c.objects ((reference_to graph, kind.Graph) ∷ operands n)) c
+    (add_to (graph_named c.objects graph) c graph n) (grind arith)
 outcome_leaves limits c (Immediate n) = unless_leaves (node_refusal c.objects n) c _
 outcome_leaves limits c other = grind arith
 
-outcome_short : (limits : LimitsValue) (c : Context) (request : Request) → (HasLongReply request → ⊥) → NeverLong (outcome_of limits c request)
+outcome_short : (limits : LimitsValue) (c : Context) (request : Request)
+    → (HasLongReply request → ⊥)
+    → NeverLong (outcome_of limits c request)
 outcome_short limits c (ReadImage image) none = absurd (none tt)
 outcome_short limits c (ReadImagePgm image) none = absurd (none tt)
 outcome_short limits c (ReadDistribution name) none = absurd (none tt)
-outcome_short limits c (WriteImagePgm cell text) none = write_text_short (image_of c.objects cell) c cell (read_result text)
+outcome_short limits c (WriteImagePgm cell text) none =
+    write_text_short (image_of c.objects cell) c cell (read_result text)
 outcome_short limits c (AddNode graph n) none =
-    refused_or_short (operands_refusal (Some graph) c.objects ((reference_to graph, kind.Graph) ∷ operands n)) (add_to (graph_named c.objects graph) c graph n) (grind arith)
+    refused_or_short
+    (operands_refusal (Some graph) c.objects ((reference_to graph, kind.Graph) ∷ operands n))
+    (add_to (graph_named c.objects graph) c graph n) (grind arith)
 outcome_short limits c (Immediate n) none = unless_short (node_refusal c.objects n) _
 outcome_short limits c other none = grind arith
 
 -- ---- replies of the model
 
-outcome_keeps : (c : Context) (outcome : Outcome) → WideLeaves c outcome → 20 ≤ length (said_of (reply_and_state c outcome).0).body → (reply_and_state c outcome).1 ≡ Some c
+outcome_keeps : (c : Context) (outcome : Outcome)
+    → WideLeaves c outcome
+    → 20 ≤ length (said_of (reply_and_state c outcome).0).body
+    → (reply_and_state c outcome).1 ≡ Some c
 outcome_keeps c (Err refusal) leaves long = refl
 outcome_keeps c (Ok done) leaves long =
-    elim (cases_Bool (is_wide done.0)) [ inl wide ↦ leaves wide | inr small ↦ absurd (omega (arith, long, small_body done.0 small)) ]
+    elim (cases_Bool (is_wide done.0)) [
+      | inl wide ↦ leaves wide
+      | inr small ↦ absurd (omega (arith, long, small_body done.0 small))
+    ]
 
-outcome_fits : (c : Context) (outcome : Outcome) → NeverLong outcome → length (said_of (reply_and_state c outcome).0).body ≤ 20
+outcome_fits : (c : Context) (outcome : Outcome)
+    → NeverLong outcome
+    → length (said_of (reply_and_state c outcome).0).body ≤ 20
 outcome_fits c (Err refusal) short = omega arith
 outcome_fits c (Ok done) short = short_body done.0 short
 
-answer_leaves : (limits : LimitsValue) (state : State) (request : Request) → 20 ≤ length (said_of (answer_to limits state request).0).body → (answer_to limits state request).1 ≡ state
+answer_leaves : (limits : LimitsValue) (state : State) (request : Request)
+    → 20 ≤ length (said_of (answer_to limits state request).0).body
+    → (answer_to limits state request).1 ≡ state
 answer_leaves limits None OpenContext long = absurd (omega arith)
 answer_leaves limits None other long = refl
-answer_leaves limits (Some c) request long = outcome_keeps c (outcome_of limits c request) (outcome_leaves limits c request) long
+answer_leaves limits (Some c) request long =
+    outcome_keeps c (outcome_of limits c request) (outcome_leaves limits c request) long
 
-answer_fits : (limits : LimitsValue) (state : State) (request : Request) → (HasLongReply request → ⊥) → length (said_of (answer_to limits state request).0).body ≤ 20
+answer_fits : (limits : LimitsValue) (state : State) (request : Request)
+    → (HasLongReply request → ⊥)
+    → length (said_of (answer_to limits state request).0).body ≤ 20
 answer_fits limits None OpenContext none = omega arith
 answer_fits limits None other none = omega arith
-answer_fits limits (Some c) request none = outcome_fits c (outcome_of limits c request) (outcome_short limits c request none)
+answer_fits limits (Some c) request none =
+    outcome_fits c (outcome_of limits c request) (outcome_short limits c request none)
 
-asks : (limits : LimitsValue) (state : State) (request : Request) → 20 < length (said_of (answer_to limits state request).0).body → HasLongReply request
+asks : (limits : LimitsValue) (state : State) (request : Request)
+    → 20 < length (said_of (answer_to limits state request).0).body
+    → HasLongReply request
 asks limits state (ReadImage image) long = tt
 asks limits state (ReadImagePgm image) long = tt
 asks limits state (ReadDistribution name) long = tt
@@ -121,19 +157,27 @@ asks limits state other long = absurd (omega (arith, long, answer_fits limits st
 
 -- ---- replies to bodies
 
-spelled_leaves : (limits : LimitsValue) (state : State) (spelled : Result Request BodyFault) → 20 ≤ length (answer_spelled limits state spelled).0.body → (answer_spelled limits state spelled).1 ≡ state
+spelled_leaves : (limits : LimitsValue) (state : State) (spelled : Result Request BodyFault)
+    → 20 ≤ length (answer_spelled limits state spelled).0.body
+    → (answer_spelled limits state spelled).1 ≡ state
 spelled_leaves limits state (Ok request) long = answer_leaves limits state request long
 spelled_leaves limits state (Err fault) long = refl
 
-spelled_asks : (limits : LimitsValue) (state : State) (spelled : Result Request BodyFault) → 20 < length (answer_spelled limits state spelled).0.body → SpellsLongReply spelled
+spelled_asks : (limits : LimitsValue) (state : State) (spelled : Result Request BodyFault)
+    → 20 < length (answer_spelled limits state spelled).0.body
+    → SpellsLongReply spelled
 spelled_asks limits state (Ok request) long = asks limits state request long
 spelled_asks limits state (Err fault) long = absurd (omega arith)
 
-body_leaves : (limits : LimitsValue) (state : State) (op : ℕ) (body : List ℕ) → 20 ≤ length (answer limits state op body).0.body → (answer limits state op body).1 ≡ state
+body_leaves : (limits : LimitsValue) (state : State) (op : ℕ) (body : List ℕ)
+    → 20 ≤ length (answer limits state op body).0.body
+    → (answer limits state op body).1 ≡ state
 unfolding answer
 body_leaves limits state op body long = spelled_leaves limits state (request_of op body) long
 
-body_asks : (limits : LimitsValue) (state : State) (op : ℕ) (body : List ℕ) → 20 < length (answer limits state op body).0.body → SpellsLongReply (request_of op body)
+body_asks : (limits : LimitsValue) (state : State) (op : ℕ) (body : List ℕ)
+    → 20 < length (answer limits state op body).0.body
+    → SpellsLongReply (request_of op body)
 unfolding answer
 body_asks limits state op body long = spelled_asks limits state (request_of op body) long
 
@@ -143,28 +187,43 @@ body_asks limits state op body long = spelled_asks limits state (request_of op b
 pub reply_size : (r : ReplyFrame) → length (reply_bytes r) ≡ length r.body + 8
 reply_size r = omega arith
 
-frame_asks : (limits : LimitsValue) (f : Frame) (old : ℕ → State) (lost : Bool) → 20 < length (reply_in (answer limits) old (record { frame = f; lost = lost })).body → AsksForLongReply f
+frame_asks : (limits : LimitsValue) (f : Frame) (old : ℕ → State) (lost : Bool)
+    → 20 < length (reply_in (answer limits) old (record { frame = f; lost = lost })).body
+    → AsksForLongReply f
 frame_asks limits f old true long = absurd (omega arith)
 frame_asks limits f old false long = body_asks limits (old f.client) f.op f.body long
 
-frame_leaves : (limits : LimitsValue) (f : Frame) (old : ℕ → State) (lost : Bool) (client : ℕ) → 20 ≤ length (reply_in (answer limits) old (record { frame = f; lost = lost })).body
+frame_leaves : (limits : LimitsValue) (f : Frame) (old : ℕ → State) (lost : Bool) (client : ℕ)
+    → 20 ≤ length (reply_in (answer limits) old (record { frame = f; lost = lost })).body
     → state_then (answer limits) old (record { frame = f; lost = lost }) client ≡ old client
 frame_leaves limits f old true client long = absurd (omega arith)
 frame_leaves limits f old false client long =
-    let state = λ (b : Bool). cond (b && true) (answer limits (old client) f.op f.body).1 (old client) in
+    let state =
+    λ (b : Bool). cond (b && true) (answer limits (old client) f.op f.body).1 (old client) in
     elim (cases_Bool (f.client == client)) [
       | inl same ↦
           let e : f.client ≡ client = eqb-true f.client client same in
-          ap state same ∙ subst (λ (c : ℕ). (answer limits (old c) f.op f.body).1 ≡ old c) e (body_leaves limits (old f.client) f.op f.body long)
+          ap state same
+          ∙ subst (λ (c : ℕ). (answer limits (old c) f.op f.body).1 ≡ old c) e
+          (body_leaves limits (old f.client) f.op f.body long)
       | inr differ ↦ ap state differ
     ]
 
-pub long_asks : (limits : LimitsValue) (f : Frame) (old new : ℕ → State) (reply : ReplyFrame) → IsReply limits f old new reply → 28 < length (reply_bytes reply) → AsksForLongReply f
+pub long_asks : (limits : LimitsValue) (f : Frame) (old new : ℕ → State) (reply : ReplyFrame)
+    → IsReply limits f old new reply
+    → 28 < length (reply_bytes reply)
+    → AsksForLongReply f
 long_asks limits f old new reply replied long =
     let size : 20 < length reply.body = omega (arith, long, reply_size reply) in
-    frame_asks limits f old replied.lost (subst (λ (r : ReplyFrame). 20 < length r.body) replied.said size)
+    frame_asks limits f old replied.lost
+    (subst (λ (r : ReplyFrame). 20 < length r.body) replied.said size)
 
-pub long_leaves : (limits : LimitsValue) (f : Frame) (old new : ℕ → State) (reply : ReplyFrame) → IsReply limits f old new reply → 28 ≤ length (reply_bytes reply) → SameStates old new
+pub long_leaves : (limits : LimitsValue) (f : Frame) (old new : ℕ → State) (reply : ReplyFrame)
+    → IsReply limits f old new reply
+    → 28 ≤ length (reply_bytes reply)
+    → SameStates old new
 long_leaves limits f old new reply replied long client =
     let size : 20 ≤ length reply.body = omega (arith, long, reply_size reply) in
-    replied.states client ∙ frame_leaves limits f old replied.lost client (subst (λ (r : ReplyFrame). 20 ≤ length r.body) replied.said size)
+    replied.states client
+    ∙ frame_leaves limits f old replied.lost client
+    (subst (λ (r : ReplyFrame). 20 ≤ length r.body) replied.said size)

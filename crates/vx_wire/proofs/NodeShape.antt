@@ -10,7 +10,9 @@ pub both_of : (a b : Bool) → IsTrue (a && b) → IsTrue a × IsTrue b
 both_of true b is = (refl, is)
 both_of false b is = cc
 
-second_has : (second : Bool) (in2 : Option Reference) → IsTrue (is_operand (if second then Required else Absent) in2) →
+second_has : (second : Bool) (in2 : Option Reference)
+    → IsTrue (is_operand (if second then Required else Absent) in2)
+    →
     IsTrue (if second then is_some in2 else is_none in2) × IsTrue (is_named in2)
 second_has true None h = cc
 second_has true (Some cell) h = (refl, h)
@@ -18,8 +20,12 @@ second_has false None h = (refl, refl)
 second_has false (Some cell) h = cc
 
 outputs_have : (pair : Bool) (out1 out2 : Option Reference) →
-    IsTrue (is_operand (if pair then Free else Required) out1) → IsTrue (is_operand (if pair then (if is_none out1 then Required else Free) else Absent) out2) →
-    IsTrue (if pair then (is_some out1 || is_some out2) else (is_some out1 && is_none out2)) × IsTrue (is_named out1) × IsTrue (is_named out2)
+    IsTrue (is_operand (if pair then Free else Required) out1)
+    → IsTrue (is_operand (if pair then (if is_none out1 then Required else Free) else Absent) out2)
+    →
+    IsTrue (if pair then (is_some out1 || is_some out2) else (is_some out1 && is_none out2))
+    × IsTrue (is_named out1)
+    × IsTrue (is_named out2)
 outputs_have true None None h k = cc
 outputs_have true None (Some cell) h k = (refl, refl, k)
 outputs_have true (Some cell) None h k = (refl, h, refl)
@@ -29,7 +35,10 @@ outputs_have false (Some cell) None h k = (refl, h, refl)
 outputs_have false (Some cell) (Some other) h k = cc
 
 -- of the parameters that were read from the function
-pub is_node-from_parameters : (n : Node) (p : Parameters) → p ≡ parameters n.function → IsTrue (p.policy || is_wrap n.policy) →
+pub is_node-from_parameters : (n : Node) (p : Parameters)
+    → p ≡ parameters n.function
+    → IsTrue (p.policy || is_wrap n.policy)
+    →
     IsTrue (nat_le n.amount (unwrap_or p.greatest_amount 0)) → IsTrue (not (is_nothing n.in1)) →
     IsTrue (is_operand (second_input p) n.in2) → IsTrue (is_operand (first_output p) n.out1) →
     IsTrue (is_operand (second_output p n.out1) n.out2) → IsTrue (is_node n)

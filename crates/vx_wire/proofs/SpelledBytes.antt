@@ -39,10 +39,14 @@ sample U8 (negsuc n) is = absurd (omega (arith, ints, is.at_least))
 sample S16 z is = number w16 (cast_unsigned w16 z)
 sample U32 z is = number w32 (unsigned_abs z)
 
-samples : (format : Format) (zs : List ℤ) → All (IsSample format) zs → AreBytes (encoded_samples format zs)
+samples : (format : Format) (zs : List ℤ)
+    → All (IsSample format) zs
+    → AreBytes (encoded_samples format zs)
 samples format [] are = none
 samples format (z ∷ zs) are =
-    joined (encoded_sample format z) (encoded_samples format zs) (sample format z (All-head (IsSample format) z zs are)) (samples format zs (All-tail (IsSample format) z zs are))
+    joined (encoded_sample format z) (encoded_samples format zs)
+    (sample format z (All-head (IsSample format) z zs are))
+    (samples format zs (All-tail (IsSample format) z zs are))
 
 -- ---- fields
 
@@ -53,10 +57,12 @@ open_format_byte : (format : Option Format) → open_format_number format < 2 ^ 
 open_format_byte format = search rules
 
 description : (d : Description) → AreBytes (description_bytes d)
-description d = more _ _ (format_byte d.format) (joined _ _ (number w16 d.width) (number w16 d.height))
+description d =
+    more _ _ (format_byte d.format) (joined _ _ (number w16 d.width) (number w16 d.height))
 
 picture : (p : PictureValue) → IsPicture p → AreBytes (picture_bytes p)
-picture p is = joined _ _ (description p.description) (samples p.description.format p.samples is.sampled)
+picture p is =
+    joined _ _ (description p.description) (samples p.description.format p.samples is.sampled)
 
 slot_byte : (slot : Option ℕ) → IfSome slot (λ k. k < 255) → unwrap_or slot 255 < 2 ^ 8
 slot_byte None is = omega arith
@@ -66,28 +72,37 @@ reference : (cell : Reference) → IsReference cell → AreBytes (reference_byte
 reference cell is = joined _ _ (number w32 cell.name) (more _ [] (slot_byte cell.slot is.slot) none)
 
 operand : (cell : Option Reference) → IfSome cell IsReference → AreBytes (operand_bytes cell)
-operand None is = reference (record { name = 0; slot = None }) (record { name = omega arith; slot = tt })
+operand None is =
+    reference (record { name = 0; slot = None }) (record { name = omega arith; slot = tt })
 operand (Some cell) is = reference cell is
 
 rectangle : (r : Rectangle) → AreBytes (rectangle_bytes r)
-rectangle r = joined _ _ (number w16 r.x0) (joined _ _ (number w16 r.y0) (joined _ _ (number w16 r.x1) (number w16 r.y1)))
+rectangle r =
+    joined _ _ (number w16 r.x0)
+    (joined _ _ (number w16 r.y0) (joined _ _ (number w16 r.x1) (number w16 r.y1)))
 
 partial_desc : (o : PartialDescription) → AreBytes (partial_desc_bytes o)
-partial_desc o = more _ _ (open_format_byte o.format) (joined _ _ (number w16 (open_side_number o.width)) (number w16 (open_side_number o.height)))
+partial_desc o =
+    more _ _ (open_format_byte o.format)
+    (joined _ _ (number w16 (open_side_number o.width)) (number w16 (open_side_number o.height)))
 
 bins : (b : BinsValue) → AreBytes (bins_bytes b)
 bins b = joined _ _ (number w16 b.bins) (joined _ _ (number w16 b.offset) (number w16 b.range))
 
 limits : (kind : ThresholdKind) → AreBytes (limit_bytes kind)
 limits (Binary t) = number w16 (cast_unsigned w16 t)
-limits (Range lower upper) = joined _ _ (number w16 (cast_unsigned w16 lower)) (number w16 (cast_unsigned w16 upper))
+limits (Range lower upper) =
+    joined _ _ (number w16 (cast_unsigned w16 lower)) (number w16 (cast_unsigned w16 upper))
 
 range_byte : (b : Bool) → range_number b < 2 ^ 8
 range_byte b = search rules
 
 threshold : (t : ThresholdValue) → IsThreshold t → AreBytes (threshold_bytes t)
 threshold t is =
-    more _ _ (range_byte _) (more _ _ (format_byte t.format) (joined _ _ (limits t.kind) (more t.true_value _ is.true_value (more t.false_value [] is.false_value none))))
+    more _ _ (range_byte _)
+    (more _ _ (format_byte t.format)
+    (joined _ _ (limits t.kind)
+    (more t.true_value _ is.true_value (more t.false_value [] is.false_value none))))
 
 odd_side_byte : (n : ℕ) → IsTrue (is_odd_side n) → n < 2 ^ 8
 odd_side_byte n is = grind (arith, nat_tests)
@@ -97,7 +112,8 @@ convolution c is =
     let parts = convolution_parts c.columns c.rows c.exponent (length c.coefficients) is.shape in
     more c.columns _ (odd_side_byte c.columns parts.across)
     (more c.rows _ (odd_side_byte c.rows parts.down)
-    (more c.exponent _ (omega (arith, leb-true c.exponent 31 parts.power)) (samples S16 c.coefficients is.each)))
+    (more c.exponent _ (omega (arith, leb-true c.exponent 31 parts.power))
+    (samples S16 c.coefficients is.each)))
 
 lut : (l : LutValue) → IsLut l → AreBytes (lut_bytes l)
 lut l is = more _ _ (format_byte l.format) (samples l.format l.entries is.sampled)
@@ -121,7 +137,9 @@ node n is =
     (joined _ _ (border n.border is.border)
     (more _ _ (policy_byte n.policy)
     (more n.amount _ is.amount
-    (joined _ _ (reference n.in1 is.in1) (joined _ _ (operand n.in2 is.in2) (joined _ _ (operand n.out1 is.out1) (operand n.out2 is.out2)))))))
+    (joined _ _ (reference n.in1 is.in1)
+    (joined _ _ (operand n.in2 is.in2)
+    (joined _ _ (operand n.out1 is.out1) (operand n.out2 is.out2)))))))
 
 -- ---- bodies
 
@@ -153,7 +171,8 @@ body (RemoveNode graph n) is = joined _ _ (number w32 graph) (number w32 n)
 body (VerifyGraph graph) is = number w32 graph
 body (ProcessGraph graph) is = number w32 graph
 body (Immediate n) is = node n is
-body (CreateDelay exemplar slots) is = joined _ _ (reference exemplar is.0) (more slots [] (slots_byte slots is.1) none)
+body (CreateDelay exemplar slots) is =
+    joined _ _ (reference exemplar is.0) (more slots [] (slots_byte slots is.1) none)
 body (AgeDelay name) is = number w32 name
 body (RegisterAutoAging graph delay) is = joined _ _ (number w32 graph) (number w32 delay)
 

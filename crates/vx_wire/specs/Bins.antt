@@ -12,16 +12,22 @@ is_up_to_256 n = nat_le 1 n && nat_le n 256
 
 -- reads a number of bins or a `range` from the front of a body: a u16 from 1 to 256
 abbrev pub take_up_to_256 : List ℕ → FieldResult ℕ
-take_up_to_256 body = and_then (take_short body) (λ n rest. allowed_or_fault InvalidValue (if is_up_to_256 n then Some n else None) rest)
+take_up_to_256 body =
+    and_then (take_short body)
+    (λ n rest. allowed_or_fault InvalidValue (if is_up_to_256 n then Some n else None) rest)
 
 -- reads an `offset` from the front of a body: a u16 from 0 to 255
 abbrev pub take_offset : List ℕ → FieldResult ℕ
-take_offset body = and_then (take_short body) (λ n rest. allowed_or_fault InvalidValue (if nat_lt n 256 then Some n else None) rest)
+take_offset body =
+    and_then (take_short body)
+    (λ n rest. allowed_or_fault InvalidValue (if nat_lt n 256 then Some n else None) rest)
 
 -- reads a distribution's bins from the front of a body: their number, the `offset`, the `range`
 abbrev pub take_bins : List ℕ → FieldResult BinsValue
 take_bins body =
-    and_then (take_up_to_256 body) (λ bins rest. and_then (take_offset rest) (λ offset rest. and_then (take_up_to_256 rest) (λ range rest.
+    and_then (take_up_to_256 body)
+    (λ bins rest. and_then (take_offset rest)
+    (λ offset rest. and_then (take_up_to_256 rest) (λ range rest.
     Ok (record { bins = bins; offset = offset; range = range }, rest))))
 
 -- the bytes of a distribution's bins: their number, the `offset`, the `range`

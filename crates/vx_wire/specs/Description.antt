@@ -8,12 +8,16 @@ use Rattle.vx_wire.specs.Format.{format_number, take_format}
 
 -- reads a width or a height from the front of a body: a u16 from 1 to 8192
 abbrev pub take_side : List ℕ → FieldResult ℕ
-take_side body = and_then (take_short body) (λ n rest. allowed_or_fault InvalidDimension (if is_side n then Some n else None) rest)
+take_side body =
+    and_then (take_short body)
+    (λ n rest. allowed_or_fault InvalidDimension (if is_side n then Some n else None) rest)
 
 -- reads an image's description from the front of a body: the format, the width, the height
 abbrev pub take_description : List ℕ → FieldResult Description
 take_description body =
-    and_then (take_format body) (λ format rest. and_then (take_side rest) (λ width rest. and_then (take_side rest) (λ height rest.
+    and_then (take_format body)
+    (λ format rest. and_then (take_side rest)
+    (λ width rest. and_then (take_side rest) (λ height rest.
     Ok (record { width = width; height = height; format = format }, rest))))
 
 -- the bytes of an image's description: the format, the width, the height

@@ -14,5 +14,6 @@ pixel_bytes place = to_be_bytes w16 place.0 ++ to_be_bytes w16 place.1
 -- the first pixel with each
 abbrev pub extremes_bytes : Extremes → List ℕ
 extremes_bytes e =
-    encoded_sample S16 e.min ++ (encoded_sample S16 e.max ++ (to_be_bytes w32 e.min_count ++ (to_be_bytes w32 e.max_count
+    encoded_sample S16 e.min
+    ++ (encoded_sample S16 e.max ++ (to_be_bytes w32 e.min_count ++ (to_be_bytes w32 e.max_count
     ++ (pixel_bytes e.min_at ++ pixel_bytes e.max_at))))

@@ -19,7 +19,8 @@ format_numbered n = with_number format_number (U8 ∷ S16 ∷ U32 ∷ []) n
 
 -- reads a format from the front of a body: a byte from 1 to 3
 abbrev pub take_format : List ℕ → FieldResult Format
-take_format body = and_then (take_byte body) (λ n rest. allowed_or_fault InvalidFormat (format_numbered n) rest)
+take_format body =
+    and_then (take_byte body) (λ n rest. allowed_or_fault InvalidFormat (format_numbered n) rest)
 
 -- the number of a format; 0 if the format is open
 abbrev pub open_format_number : Option Format → ℕ
@@ -28,12 +29,15 @@ open_format_number (Some format) = format_number format
 
 -- the format with this number; 0 means that the format is open
 abbrev pub open_format_numbered : ℕ → Option (Option Format)
-open_format_numbered n = with_number open_format_number (None ∷ Some U8 ∷ Some S16 ∷ Some U32 ∷ []) n
+open_format_numbered n =
+    with_number open_format_number (None ∷ Some U8 ∷ Some S16 ∷ Some U32 ∷ []) n
 
 -- reads a format, which may be open, from the front of a body: a byte from 1 to 3, or 0 for an open
 -- format
 abbrev pub take_open_format : List ℕ → FieldResult (Option Format)
-take_open_format body = and_then (take_byte body) (λ n rest. allowed_or_fault InvalidFormat (open_format_numbered n) rest)
+take_open_format body =
+    and_then (take_byte body)
+    (λ n rest. allowed_or_fault InvalidFormat (open_format_numbered n) rest)
 
 -- the format with this number, if lookup tables and thresholds can have the format
 abbrev pub input_format_numbered : ℕ → Option Format
@@ -42,4 +46,6 @@ input_format_numbered n = with_number format_number (U8 ∷ S16 ∷ []) n
 -- reads the format of a lookup table or threshold from the front of a body: a byte, 1 for U8 or 2
 -- for S16
 abbrev pub take_input_format : List ℕ → FieldResult Format
-take_input_format body = and_then (take_byte body) (λ n rest. allowed_or_fault InvalidFormat (input_format_numbered n) rest)
+take_input_format body =
+    and_then (take_byte body)
+    (λ n rest. allowed_or_fault InvalidFormat (input_format_numbered n) rest)

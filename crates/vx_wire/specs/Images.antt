@@ -26,12 +26,15 @@ write_image_in body = two_fields take_reference take_picture WriteImage body
 -- The request WriteImage that writes a picture to this image. The picture has the description `d`,
 -- and `bytes` encodes the picture's samples.
 abbrev pub write_image_of : Reference → Description → List ℕ → Request
-write_image_of image d bytes = WriteImage image (record { description = d; samples = decoded_samples d.format (sample_count d) bytes })
+write_image_of image d bytes =
+    WriteImage image
+    (record { description = d; samples = decoded_samples d.format (sample_count d) bytes })
 
 -- The request WriteImagePgm that a body encodes: a reference to an image, then a text. The text is
 -- all remaining bytes, possibly none.
 abbrev pub write_image_pgm_in : List ℕ → Result Request BodyFault
-write_image_pgm_in body = and_then (take_reference body) (λ image text. Ok (WriteImagePgm image text))
+write_image_pgm_in body =
+    and_then (take_reference body) (λ image text. Ok (WriteImagePgm image text))
 
 -- the request ReadImage that a body encodes: a reference to an image
 abbrev pub read_image_in : List ℕ → Result Request BodyFault

@@ -11,7 +11,8 @@ use Rattle.vx_wire.specs.Samples.{encoded_samples, take_samples}
 -- entry for the least sample value
 abbrev pub take_lut : List ℕ → FieldResult LutValue
 take_lut body =
-    and_then (take_input_format body) (λ format rest. and_then (take_samples format (range_size format) rest) (λ entries rest.
+    and_then (take_input_format body)
+    (λ format rest. and_then (take_samples format (range_size format) rest) (λ entries rest.
     Ok (record { format = format; entries = entries }, rest)))
 
 -- the bytes of a lookup table: the format, then the entries, beginning with the entry for the least

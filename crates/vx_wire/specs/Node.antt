@@ -17,7 +17,9 @@ use Rattle.vx_wire.specs.Operand.{operand_bytes, take_first_input, take_operands
 
 -- reads a function from the front of a body: a byte, the function's number
 abbrev pub take_function : List ℕ → FieldResult Function
-take_function body = and_then (take_byte body) (λ n rest. allowed_or_fault InvalidParameters (function_numbered n) rest)
+take_function body =
+    and_then (take_byte body)
+    (λ n rest. allowed_or_fault InvalidParameters (function_numbered n) rest)
 
 -- ---- the border: its mode, and the constant, which is 0 unless the mode is CONSTANT
 
@@ -39,7 +41,9 @@ border_bytes border = border_mode border ∷ border_constant border ∷ []
 
 -- the border with this mode and this constant
 abbrev pub border_with : ℕ → ℕ → Option Border
-border_with mode constant = find (λ b. (mode == border_mode b) && (constant == border_constant b)) (Undefined ∷ Constant constant ∷ Replicate ∷ [])
+border_with mode constant =
+    find (λ b. (mode == border_mode b) && (constant == border_constant b))
+    (Undefined ∷ Constant constant ∷ Replicate ∷ [])
 
 -- reads a border from the front of a body: the mode, then the constant
 abbrev pub take_border : List ℕ → FieldResult Border
@@ -60,13 +64,17 @@ policies p = if p.policy then Wrap ∷ Saturate ∷ [] else Wrap ∷ []
 
 -- reads a node's policy from the front of a body: a byte, 0 if the function has no policy
 abbrev pub take_policy : Parameters → List ℕ → FieldResult Policy
-take_policy p body = and_then (take_byte body) (λ n rest. allowed_or_fault InvalidParameters (with_number policy_number (policies p) n) rest)
+take_policy p body =
+    and_then (take_byte body)
+    (λ n rest. allowed_or_fault InvalidParameters (with_number policy_number (policies p) n) rest)
 
 -- An amount and the bytes after it, if the amount is allowed; else the amount's fault. Amounts up
 -- to the function's greatest amount are allowed, or only 0 if the function has no amount.
 abbrev pub amount_allowed : Option ℕ → ℕ → List ℕ → FieldResult ℕ
-amount_allowed None n rest = allowed_or_fault InvalidParameters (if n == 0 then Some n else None) rest
-amount_allowed (Some greatest) n rest = allowed_or_fault InvalidValue (if nat_le n greatest then Some n else None) rest
+amount_allowed None n rest =
+    allowed_or_fault InvalidParameters (if n == 0 then Some n else None) rest
+amount_allowed (Some greatest) n rest =
+    allowed_or_fault InvalidValue (if nat_le n greatest then Some n else None) rest
 
 -- reads a node's amount from the front of a body: a byte, 0 if the function has no amount
 abbrev pub take_amount : Parameters → List ℕ → FieldResult ℕ
@@ -78,12 +86,28 @@ take_amount p body = and_then (take_byte body) (λ n rest. amount_allowed p.grea
 abbrev pub take_node : List ℕ → FieldResult Node
 take_node body =
     and_then (take_function body) (λ function rest. and_then (take_border rest) (λ border rest.
-    and_then (take_policy (parameters function) rest) (λ policy rest. and_then (take_amount (parameters function) rest) (λ amount rest.
-    and_then (take_first_input rest) (λ in1 rest. and_then (take_operands (parameters function) rest) (λ others rest.
-    Ok (record { function = function; border = border; policy = policy; amount = amount; in1 = in1; in2 = others.0; out1 = others.1; out2 = others.2 }, rest)))))))
+    and_then (take_policy (parameters function) rest)
+    (λ policy rest. and_then (take_amount (parameters function) rest) (λ amount rest.
+    and_then (take_first_input rest)
+    (λ in1 rest. and_then (take_operands (parameters function) rest) (λ others rest.
+    Ok (
+      record {
+        function = function;
+        border = border;
+        policy = policy;
+        amount = amount;
+        in1 = in1;
+        in2 = others.0;
+        out1 = others.1;
+        out2 = others.2;
+      },
+      rest,
+    )))))))
 
 -- the bytes of a node: function, border, policy, amount, in1, in2, out1, out2
 abbrev pub node_bytes : Node → List ℕ
 node_bytes n =
     function_number n.function ∷ (border_bytes n.border ++ policy_number n.policy ∷ n.amount
-    ∷ (reference_bytes n.in1 ++ (operand_bytes n.in2 ++ (operand_bytes n.out1 ++ operand_bytes n.out2))))
+    ∷
+    (reference_bytes n.in1
+    ++ (operand_bytes n.in2 ++ (operand_bytes n.out1 ++ operand_bytes n.out2))))

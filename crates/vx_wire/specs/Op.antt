@@ -39,8 +39,29 @@ op_number RegisterAutoAging = 27
 -- all ops, in the order of their numbers
 abbrev pub ops : List Op
 ops =
-    OpenContext ∷ ReleaseContext ∷ CreateImage ∷ QueryImage ∷ WriteImage ∷ WriteImagePgm ∷ ReadImage ∷ ReadImagePgm ∷ SetValid ∷ Release ∷ CreateLut ∷ CreateThreshold
-    ∷ CreateConvolution ∷ CreateDistribution ∷ ReadDistribution ∷ CreateMinMax ∷ ReadMinMax ∷ CreateGraph ∷ CreateVirtualImage ∷ AddNode ∷ RemoveNode ∷ VerifyGraph ∷ ProcessGraph
+    OpenContext
+    ∷ ReleaseContext
+    ∷ CreateImage
+    ∷ QueryImage
+    ∷ WriteImage
+    ∷ WriteImagePgm
+    ∷ ReadImage
+    ∷ ReadImagePgm
+    ∷ SetValid
+    ∷ Release
+    ∷ CreateLut
+    ∷ CreateThreshold
+    ∷ CreateConvolution
+    ∷ CreateDistribution
+    ∷ ReadDistribution
+    ∷ CreateMinMax
+    ∷ ReadMinMax
+    ∷ CreateGraph
+    ∷ CreateVirtualImage
+    ∷ AddNode
+    ∷ RemoveNode
+    ∷ VerifyGraph
+    ∷ ProcessGraph
     ∷ Immediate ∷ CreateDelay ∷ AgeDelay ∷ RegisterAutoAging ∷ []
 
 -- the op with this number

@@ -18,7 +18,9 @@ operand Free cell = if is_nothing cell then Some None else Some (Some cell)
 
 -- reads an operand from the front of a body: a reference that agrees with the operand's presence
 abbrev pub take_operand : Presence → List ℕ → FieldResult (Option Reference)
-take_operand presence body = and_then (take_reference body) (λ cell rest. allowed_or_fault InvalidParameters (operand presence cell) rest)
+take_operand presence body =
+    and_then (take_reference body)
+    (λ cell rest. allowed_or_fault InvalidParameters (operand presence cell) rest)
 
 -- the bytes of an operand: its reference, or name 0 without a slot if the operand is absent
 abbrev pub operand_bytes : Option Reference → List ℕ
@@ -50,10 +52,16 @@ second_output p out1 = if p.output_pair then (if is_none out1 then Required else
 -- absent
 abbrev pub take_first_input : List ℕ → FieldResult Reference
 take_first_input body =
-    and_then (take_reference body) (λ cell rest. allowed_or_fault InvalidParameters (if is_nothing cell then None else Some cell) rest)
+    and_then (take_reference body)
+    (λ cell rest. allowed_or_fault InvalidParameters
+    (if is_nothing cell then None else Some cell) rest)
 
 -- reads the second input and the outputs from the front of a body: in2, out1, out2
-abbrev pub take_operands : Parameters → List ℕ → FieldResult (Option Reference × Option Reference × Option Reference)
+abbrev pub take_operands : Parameters
+    → List ℕ
+    → FieldResult (Option Reference × Option Reference × Option Reference)
 take_operands p body =
-    and_then (take_operand (second_input p) body) (λ in2 rest. and_then (take_operand (first_output p) rest) (λ out1 rest.
-    and_then (take_operand (second_output p out1) rest) (λ out2 rest. Ok ((in2, out1, out2), rest))))
+    and_then (take_operand (second_input p) body)
+    (λ in2 rest. and_then (take_operand (first_output p) rest) (λ out1 rest.
+    and_then (take_operand (second_output p out1) rest)
+    (λ out2 rest. Ok ((in2, out1, out2), rest))))

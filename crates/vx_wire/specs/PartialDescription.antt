@@ -19,14 +19,20 @@ open_side_numbered n = if n == 0 then Some None else if is_side n then Some (Som
 -- reads a width or height, which may be open, from the front of a body: a u16 from 1 to 8192, or 0
 -- for open
 abbrev pub take_open_side : List ℕ → FieldResult (Option ℕ)
-take_open_side body = and_then (take_short body) (λ n rest. allowed_or_fault InvalidDimension (open_side_numbered n) rest)
+take_open_side body =
+    and_then (take_short body)
+    (λ n rest. allowed_or_fault InvalidDimension (open_side_numbered n) rest)
 
 -- reads a partial description from the front of a body: the format, the width, the height
 abbrev pub take_partial_desc : List ℕ → FieldResult PartialDescription
 take_partial_desc body =
-    and_then (take_open_format body) (λ format rest. and_then (take_open_side rest) (λ width rest. and_then (take_open_side rest) (λ height rest.
+    and_then (take_open_format body)
+    (λ format rest. and_then (take_open_side rest)
+    (λ width rest. and_then (take_open_side rest) (λ height rest.
     Ok (record { width = width; height = height; format = format }, rest))))
 
 -- the bytes of a partial description: the format, the width, the height
 abbrev pub partial_desc_bytes : PartialDescription → List ℕ
-partial_desc_bytes o = open_format_number o.format ∷ (to_be_bytes w16 (open_side_number o.width) ++ to_be_bytes w16 (open_side_number o.height))
+partial_desc_bytes o =
+    open_format_number o.format
+    ∷ (to_be_bytes w16 (open_side_number o.width) ++ to_be_bytes w16 (open_side_number o.height))

@@ -15,4 +15,5 @@ take_rectangle body =
 
 -- the bytes of a rectangle: x0, y0, x1, y1, each a u16
 abbrev pub rectangle_bytes : Rectangle → List ℕ
-rectangle_bytes r = to_be_bytes w16 r.x0 ++ (to_be_bytes w16 r.y0 ++ (to_be_bytes w16 r.x1 ++ to_be_bytes w16 r.y1))
+rectangle_bytes r =
+    to_be_bytes w16 r.x0 ++ (to_be_bytes w16 r.y0 ++ (to_be_bytes w16 r.x1 ++ to_be_bytes w16 r.y1))

@@ -25,7 +25,9 @@ encoded_sample U32 z = to_be_bytes w32 (unsigned_abs z)
 -- `count` consecutive samples of a format, decoded from bytes
 abbrev pub decoded_samples : Format → ℕ → List ℕ → List ℤ
 decoded_samples format zero bytes = []
-decoded_samples format (suc count) bytes = decoded_sample format (take (sample_bytes format) bytes) ∷ decoded_samples format count (drop (sample_bytes format) bytes)
+decoded_samples format (suc count) bytes =
+    decoded_sample format (take (sample_bytes format) bytes)
+    ∷ decoded_samples format count (drop (sample_bytes format) bytes)
 
 -- the bytes of samples, one after the other
 abbrev pub encoded_samples : Format → List ℤ → List ℕ
@@ -33,14 +35,17 @@ encoded_samples format samples = flat_map (encoded_sample format) samples
 
 -- reads `count` samples of a format from the front of a body, as one field
 abbrev pub take_samples : Format → ℕ → List ℕ → FieldResult (List ℤ)
-take_samples format count body = and_then (take_bytes (count * sample_bytes format) body) (λ bytes rest. Ok (decoded_samples format count bytes, rest))
+take_samples format count body =
+    and_then (take_bytes (count * sample_bytes format) body)
+    (λ bytes rest. Ok (decoded_samples format count bytes, rest))
 
 -- ---- pictures: the description, and then the samples row by row from the top
 
 -- reads a picture from the front of a body: the description, then the samples
 abbrev pub take_picture : List ℕ → FieldResult PictureValue
 take_picture body =
-    and_then (take_description body) (λ d rest. and_then (take_samples d.format (sample_count d) rest) (λ samples rest.
+    and_then (take_description body)
+    (λ d rest. and_then (take_samples d.format (sample_count d) rest) (λ samples rest.
     Ok (record { description = d; samples = samples }, rest)))
 
 -- the bytes of a picture: the description, then the samples

@@ -28,7 +28,8 @@ range_numbered n = with_number range_number (false ∷ true ∷ []) n
 
 -- reads a threshold's kind from the front of a body: a byte, 0 for BINARY or 1 for RANGE
 abbrev pub take_is_range : List ℕ → FieldResult Bool
-take_is_range body = and_then (take_byte body) (λ n rest. allowed_or_fault InvalidParameters (range_numbered n) rest)
+take_is_range body =
+    and_then (take_byte body) (λ n rest. allowed_or_fault InvalidParameters (range_numbered n) rest)
 
 -- reads a limit from the front of a body: an S16 sample, whatever the threshold's format
 abbrev pub take_signed : List ℕ → FieldResult ℤ
@@ -36,18 +37,24 @@ take_signed body = and_then (take_bytes 2 body) (λ bytes rest. Ok (decoded_samp
 
 -- reads a limit from the front of a body, and checks that it is a sample of the threshold's format
 abbrev pub take_limit : Format → List ℕ → FieldResult ℤ
-take_limit format body = and_then (take_signed body) (λ z rest. allowed_or_fault InvalidValue (if is_sample format z then Some z else None) rest)
+take_limit format body =
+    and_then (take_signed body)
+    (λ z rest. allowed_or_fault InvalidValue (if is_sample format z then Some z else None) rest)
 
 -- reads the upper limit from the front of a body, and checks that it is not below the lower limit
 abbrev pub take_upper : Format → ℤ → List ℕ → FieldResult ℤ
-take_upper format lower body = and_then (take_limit format body) (λ z rest. allowed_or_fault InvalidValue (if int_le lower z then Some z else None) rest)
+take_upper format lower body =
+    and_then (take_limit format body)
+    (λ z rest. allowed_or_fault InvalidValue (if int_le lower z then Some z else None) rest)
 
 -- reads the limits of a threshold from the front of a body: one for BINARY, the lower and the upper
 -- for RANGE
 abbrev pub take_limits : Bool → Format → List ℕ → FieldResult ThresholdKind
 take_limits false format body = and_then (take_limit format body) (λ t rest. Ok (Binary t, rest))
 take_limits true format body =
-    and_then (take_limit format body) (λ lower rest. and_then (take_upper format lower rest) (λ upper rest. Ok (Range lower upper, rest)))
+    and_then (take_limit format body)
+    (λ lower rest. and_then (take_upper format lower rest)
+    (λ upper rest. Ok (Range lower upper, rest)))
 
 -- reads a threshold from the front of a body: the kind, the format, the limits, the true value, the
 -- false value
@@ -56,7 +63,11 @@ take_threshold body =
     and_then (take_is_range body) (λ range rest. and_then (take_input_format rest) (λ format rest.
     and_then (take_limits range format rest) (λ kind rest.
     and_then (take_byte rest) (λ true_value rest. and_then (take_byte rest) (λ false_value rest.
-    Ok (record { format = format; kind = kind; true_value = true_value; false_value = false_value }, rest))))))
+    Ok (
+      record
+          { format = format; kind = kind; true_value = true_value; false_value = false_value },
+      rest,
+    ))))))
 
 -- the bytes of a threshold's limits, as S16 samples: one for BINARY, the lower and the upper for
 -- RANGE
@@ -66,4 +77,7 @@ limit_bytes (Range lower upper) = encoded_sample S16 lower ++ encoded_sample S16
 
 -- the bytes of a threshold: the kind, the format, the limits, the true value, the false value
 abbrev pub threshold_bytes : ThresholdValue → List ℕ
-threshold_bytes t = range_number (is_range t.kind) ∷ format_number t.format ∷ (limit_bytes t.kind ++ t.true_value ∷ t.false_value ∷ [])
+threshold_bytes t =
+    range_number (is_range t.kind)
+    ∷ format_number t.format
+    ∷ (limit_bytes t.kind ++ t.true_value ∷ t.false_value ∷ [])

@@ -7,7 +7,10 @@ use Rattle.image_core.specs.declared.image_mut.ImageMut.{ImageMut}
 use Rattle.image_core.specs.Target.{Writes}
 
 -- if an output is given, the image `value` is written to it
-abbrev pub WritesGiven : ImageValue → Option (MutBor ImageMut) → Unit {0} ⊎ ((MutBor ImageMut × Unit {0}) ⊎ ⊥) → Type 0
+abbrev pub WritesGiven : ImageValue
+    → Option (MutBor ImageMut)
+    → Unit {0} ⊎ ((MutBor ImageMut × Unit {0}) ⊎ ⊥)
+    → Type 0
 WritesGiven value (Some old) (inr (inl new)) = Writes value old.now new.0.now
 WritesGiven value (Some old) _ = ⊥
 WritesGiven value None _ = Unit {0}

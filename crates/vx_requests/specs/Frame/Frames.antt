@@ -44,7 +44,8 @@ reply_head len client op code = to_be_bytes w32 len ++ (to_be_bytes w16 client +
 -- the bytes of a reply frame: the number of bytes that follow, then the client, the op, the code
 -- and the body
 abbrev pub reply_bytes : ReplyFrame → List ℕ
-reply_bytes r = to_be_bytes w32 (length r.body + 4) ++ (to_be_bytes w16 r.client ++ r.op ∷ r.code ∷ r.body)
+reply_bytes r =
+    to_be_bytes w32 (length r.body + 4) ++ (to_be_bytes w16 r.client ++ r.op ∷ r.code ∷ r.body)
 
 -- the bytes of request frames, one after the other
 abbrev pub frames_bytes : List Frame → List ℕ
@@ -95,7 +96,11 @@ pub record Splits (stream : List ℕ) (frames : List Frame) (rest : List ℕ) : 
 
 -- the frame in which a client sends a request
 abbrev pub request_frame : ℕ → Request → Frame
-request_frame client request = record { client = client; op = op_number (op_of request); body = body_of request }
+request_frame client request = record {
+  client = client;
+  op = op_number (op_of request);
+  body = body_of request;
+}
 
 -- whether a request fits a frame: every request does, unless it has a text that is too long
 abbrev pub fits_a_frame : Request → Bool

@@ -31,15 +31,21 @@ BreaksOff ReaderWouldNotEnd rest left = IsBegun rest
 
 -- fewer than `len` bytes of a frame were read, because of this fault
 abbrev pub ReadsPart : Option (List ℕ) → Option (List ℕ) → ℕ → StreamFault → Type 0
-ReadsPart old new len e = (part : List ℕ) × Consumes old new part × (length part < len) × BreaksIn e new
+ReadsPart old new len e =
+    (part : List ℕ) × Consumes old new part × (length part < len) × BreaksIn e new
 
 -- `len` bytes were read
 abbrev pub ReadsSome : Option (List ℕ) → Option (List ℕ) → ℕ → Type 0
-ReadsSome old new len = (bytes : List ℕ) × Consumes old new bytes × (length bytes ≡ len) × All (λ b. b < 2 ^ 8) bytes
+ReadsSome old new len =
+    (bytes : List ℕ) × Consumes old new bytes × (length bytes ≡ len) × All (λ b. b < 2 ^ 8) bytes
 
 -- the bytes of these samples were read
 abbrev pub ReadsSamples : Option (List ℕ) → Option (List ℕ) → Format → List ℤ → Type 0
-ReadsSamples old new format samples = (bytes : List ℕ) × Consumes old new bytes × (length bytes ≡ length samples * sample_bytes format) × All (λ b. b < 2 ^ 8) bytes
+ReadsSamples old new format samples =
+    (bytes : List ℕ)
+    × Consumes old new bytes
+    × (length bytes ≡ length samples * sample_bytes format)
+    × All (λ b. b < 2 ^ 8) bytes
     × (samples ≡ decoded_samples format (length samples) bytes)
 
 -- the length of the next frame was read, the stream had ended, or reading stopped with a fault
@@ -56,15 +62,21 @@ pub record CanRead {S : Type 0} (reads failures : S → ℕ) (r : Reader S) : Ty
   pub failures_fit : failures r.source.now < 2 ^ 62
 
 -- each read of the source lowered the budget by one, and each failure was counted
-pub record KeepsCount {S T : Type 0} (reads failures : S → ℕ) (old new : Reader S) (result : Result T StreamFault) : Type 0 where
+pub record KeepsCount {S T : Type 0} (reads failures : S → ℕ) (old new : Reader S)
+    (result : Result T StreamFault) : Type 0 where
   pub source : new.source.ghost_name ≡ old.source.ghost_name
-  pub counted : CountsReads (reads old.source.now) (reads new.source.now) old.budget new.budget result
+  pub counted :
+      CountsReads (reads old.source.now) (reads new.source.now) old.budget new.budget result
   pub failed : failures new.source.now ≡ failures old.source.now + read_failures result
 
 -- the samples were read, in this format; or reading stopped before all bytes of the samples were
 -- read. There was at most one read for each byte
-pub record ReadsOver {S : Type 0} (left : S → Option (List ℕ)) (reads failures : S → ℕ) (old new : Reader S) (format : Format) (samples : List ℤ) (result : Result ⊤ StreamFault) : Type 0 where
+pub record ReadsOver {S : Type 0} (left : S → Option (List ℕ)) (reads failures : S → ℕ)
+    (old new : Reader S) (format : Format) (samples : List ℤ) (result : Result ⊤ StreamFault) : Type
+    0 where
   pub ok : OnOk result (ReadsSamples (left old.source.now) (left new.source.now) format samples)
-  pub err : IfErr result (ReadsPart (left old.source.now) (left new.source.now) (length samples * sample_bytes format))
+  pub err :
+      IfErr result
+      (ReadsPart (left old.source.now) (left new.source.now) (length samples * sample_bytes format))
   pub counted : KeepsCount reads failures old new result
   pub sparing : reads new.source.now ≤ reads old.source.now + length samples * sample_bytes format

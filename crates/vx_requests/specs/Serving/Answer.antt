@@ -12,7 +12,8 @@ use Rattle.vx_wire.specs.Faults.{parse_fault, fault_code}
 -- the reply and the client's new state, given the result of parsing a body; a body that encodes no
 -- request is refused, whether or not the client has a context
 abbrev pub answer_spelled : LimitsValue → State → Result Request BodyFault → Said × State
-answer_spelled limits state (Ok request) = (said_of (answer_to limits state request).0, (answer_to limits state request).1)
+answer_spelled limits state (Ok request) =
+    (said_of (answer_to limits state request).0, (answer_to limits state request).1)
 answer_spelled limits state (Err fault) = (refusal (fault_code (parse_fault fault)), state)
 
 -- the reply to a client's frame of this op and body, and the client's new state

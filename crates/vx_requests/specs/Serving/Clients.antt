@@ -12,7 +12,12 @@ states_of world client = state_of client world
 
 -- the frame of a reply
 abbrev pub spelled_frame : ℕ → ℕ → Said → ReplyFrame
-spelled_frame client op said = record { client = client; op = op; code = said.code; body = said.body }
+spelled_frame client op said = record {
+  client = client;
+  op = op;
+  code = said.code;
+  body = said.body;
+}
 
 -- the reply frame to a request frame: the request's client and op, and this code and body
 abbrev pub reply_to : Frame → Said → ReplyFrame
@@ -44,7 +49,9 @@ sent_to server number marked = filter (λ m. server m.frame.client == number) ma
 abbrev pub kept_replies : ℕ → List ReceivedFrame → List ReplyFrame → List ReplyFrame
 kept_replies client [] replies = []
 kept_replies client (m ∷ marked) [] = []
-kept_replies client (m ∷ marked) (r ∷ replies) = cond (is_kept_of client m) (r ∷ kept_replies client marked replies) (kept_replies client marked replies)
+kept_replies client (m ∷ marked) (r ∷ replies) =
+    cond (is_kept_of client m) (r ∷ kept_replies client marked replies)
+    (kept_replies client marked replies)
 
 -- the reply to a lost frame: NO_MEMORY
 abbrev pub no_memory : Frame → ReplyFrame
@@ -64,16 +71,20 @@ module _ {S : Type 0} (answer : S → ℕ → List ℕ → Said × S) where
   -- the replies to these frames of one client that has the server to itself
   abbrev pub alone : S → List Frame → List ReplyFrame
   alone state [] = []
-  alone state (f ∷ frames) = reply_to f (answer_frame state f).0 ∷ alone (answer_frame state f).1 frames
+  alone state (f ∷ frames) =
+      reply_to f (answer_frame state f).0 ∷ alone (answer_frame state f).1 frames
 
   -- the reply to a frame, given the clients' states; the reply to a lost frame is NO_MEMORY
   abbrev pub reply_in : (ℕ → S) → ReceivedFrame → ReplyFrame
-  reply_in states m = cond m.lost (no_memory m.frame) (reply_to m.frame (answer_frame (states m.frame.client) m.frame).0)
+  reply_in states m =
+      cond m.lost (no_memory m.frame)
+      (reply_to m.frame (answer_frame (states m.frame.client) m.frame).0)
 
   -- a client's state after a frame; the state changes only if the frame is the client's and was
   -- kept
   abbrev pub state_then : (ℕ → S) → ReceivedFrame → ℕ → S
-  state_then states m client = cond (is_kept_of client m) (answer_frame (states client) m.frame).1 (states client)
+  state_then states m client =
+      cond (is_kept_of client m) (answer_frame (states client) m.frame).1 (states client)
 
   -- each client's state after its own kept frames
   abbrev pub states_after : (ℕ → S) → List ReceivedFrame → ℕ → S
@@ -83,7 +94,8 @@ module _ {S : Type 0} (answer : S → ℕ → List ℕ → Said × S) where
   -- that all earlier frames leave
   abbrev pub served_after : (ℕ → S) → List ReceivedFrame → List ReceivedFrame → List ReplyFrame
   served_after start before [] = []
-  served_after start before (m ∷ marked) = reply_in (states_after start before) m ∷ served_after start (before ++ m ∷ []) marked
+  served_after start before (m ∷ marked) =
+      reply_in (states_after start before) m ∷ served_after start (before ++ m ∷ []) marked
 
   -- the replies to frames, one for each frame, in order; `start` has the state in which each client
   -- starts

@@ -9,19 +9,28 @@ use Rattle.vx_requests.specs.Frame.Reading.{BreaksOff}
 
 -- all replies except the last were written, and a prefix of the last
 abbrev pub AppendsMost : Option (List ℕ) → Option (List ℕ) → List ReplyFrame → Type 0
-AppendsMost old new replies = (earlier : List ReplyFrame) × (last : ReplyFrame) × (front : List ℕ) × (back : List ℕ)
-    × (replies ≡ earlier ++ last ∷ []) × (reply_bytes last ≡ front ++ back) × Appends old new (joined_replies earlier ++ front)
+AppendsMost old new replies =
+    (earlier : List ReplyFrame) × (last : ReplyFrame) × (front : List ℕ) × (back : List ℕ)
+    × (replies ≡ earlier ++ last ∷ [])
+    × (reply_bytes last ≡ front ++ back)
+    × Appends old new (joined_replies earlier ++ front)
 
 -- `serve` ended with this fault; `rest` has the bytes read after the last whole frame, and `left`
 -- has the bytes that remain in the source
-abbrev pub EndsBy : StreamFault → (rest : List ℕ) (left taken_old taken_new : Option (List ℕ)) (replies : List ReplyFrame) → Type 0
+abbrev pub EndsBy : StreamFault
+    → (rest : List ℕ) (left taken_old taken_new : Option (List ℕ)) (replies : List ReplyFrame)
+    → Type 0
 EndsBy WriteFailed rest left old new replies = (rest ≡ []) × AppendsMost old new replies
-EndsBy e rest left old new replies = BreaksOff e rest left × Appends old new (joined_replies replies)
+EndsBy e rest left old new replies =
+    BreaksOff e rest left × Appends old new (joined_replies replies)
 
 -- `serve` ended at the end of the stream, with each reply written and counted; or it ended with a
 -- fault
-abbrev pub Ends : Result Summary StreamFault → (rest : List ℕ) (left taken_old taken_new : Option (List ℕ)) (replies : List ReplyFrame) → Type 0
-Ends (Ok s) rest left old new replies = (rest ≡ []) × IsAtEnd left × Appends old new (joined_replies replies)
+abbrev pub Ends : Result Summary StreamFault
+    → (rest : List ℕ) (left taken_old taken_new : Option (List ℕ)) (replies : List ReplyFrame)
+    → Type 0
+Ends (Ok s) rest left old new replies =
+    (rest ≡ []) × IsAtEnd left × Appends old new (joined_replies replies)
     × (s.requests ≡ length replies) × (s.refused ≡ count_by (λ r. not (r.code == 0)) replies)
 Ends (Err e) rest left old new replies = EndsBy e rest left old new replies
 

@@ -6,7 +6,8 @@ use Rattle.vx_requests.specs.Frame.Frames.{Frame, ReplyFrame, IsFrame, frame_byt
 use Rattle.vx_requests.specs.Serving.Turn.{IsReply}
 
 -- the bytes `read` are one frame, and the bytes `written` are its reply
-pub record ServesOneFrame (limits : LimitsValue) (read written : List ℕ) (old new : ℕ → State) : Type 0 where
+pub record ServesOneFrame (limits : LimitsValue) (read written : List ℕ) (old new : ℕ → State) :
+    Type 0 where
   pub frame : Frame
   pub reply : ReplyFrame
   pub is_frame : IsFrame frame

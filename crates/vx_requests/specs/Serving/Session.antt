@@ -14,7 +14,9 @@ use Rattle.vx_requests.specs.Serving.Ends.{Ends}
 -- The bytes read are whole frames and a rest. A frame was lost only if `MayBeLost` allows it. The
 -- bytes written are the replies to the frames; after `WriteFailed`, the last reply may be
 -- incomplete. Each client's state is the one that its own kept frames leave.
-pub record Session (limits : LimitsValue) (left_old left_new taken_old taken_new : Option (List ℕ)) (old new : ℕ → State) (result : Result Summary StreamFault) : Type 0 where
+pub record Session (limits : LimitsValue)
+    (left_old left_new taken_old taken_new : Option (List ℕ)) (old new : ℕ → State)
+    (result : Result Summary StreamFault) : Type 0 where
   pub marked : List ReceivedFrame
   pub rest : List ℕ
   pub frames : All IsFrame (frames_of marked)

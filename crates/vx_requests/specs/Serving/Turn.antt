@@ -20,10 +20,12 @@ use Rattle.vx_wire.specs.Replies.{Said, said_of}
 
 -- the reply to a frame, and the clients' states after the frame; the frame was lost only if
 -- `MayBeLost` allows it
-pub record IsReply (limits : LimitsValue) (f : Frame) (old new : ℕ → State) (reply : ReplyFrame) : Type 0 where
+pub record IsReply (limits : LimitsValue) (f : Frame) (old new : ℕ → State) (reply : ReplyFrame)
+    : Type 0 where
   pub lost : Bool
   pub may : lost ≡ true → MayBeLost f
-  pub states : (client : ℕ) → new client ≡ state_then (answer limits) old (record { frame = f; lost = lost }) client
+  pub states : (client : ℕ)
+      → new client ≡ state_then (answer limits) old (record { frame = f; lost = lost }) client
   pub said : reply ≡ reply_in (answer limits) old (record { frame = f; lost = lost })
 
 -- each client's state is as before
@@ -38,39 +40,70 @@ said_in limits state (Text image) = said_of (answer_to limits state (ReadImagePg
 
 -- the frame of a reply, given the clients' states
 abbrev pub reply_frame : LimitsValue → (ℕ → State) → Answered → ReplyFrame
-reply_frame limits states a = spelled_frame a.client a.op (said_in limits (states a.client) a.content)
+reply_frame limits states a =
+    spelled_frame a.client a.op (said_in limits (states a.client) a.content)
 
 module _ (limits : LimitsValue) (left_old left_new : Option (List ℕ)) (old new : ℕ → State) where
   -- after a frame's client and op: a body of `len` bytes was read and answered, or fewer than `len`
   -- bytes were read
   abbrev pub AnswersBody : (client op len : ℕ) → Result ReplyContent StreamFault → Type 0
-  AnswersBody client op len (Ok content) = (body : List ℕ) × Consumes left_old left_new body × (length body ≡ len) × All (λ b. b < 2 ^ 8) body
-      × IsReply limits (frame_of client op body) old new (reply_frame limits new (record { client = client; op = op; content = content }))
+  AnswersBody client op len (Ok content) =
+      (body : List ℕ)
+      × Consumes left_old left_new body
+      × (length body ≡ len)
+      × All (λ b. b < 2 ^ 8) body
+      × IsReply limits (frame_of client op body) old new
+      (reply_frame limits new (record { client = client; op = op; content = content }))
   AnswersBody client op len (Err e) = ReadsPart left_old left_new len e × SameStates old new
 
   -- after a frame's length: a payload of `len` bytes was read and answered, or fewer than `len`
   -- bytes were read
   abbrev pub AnswersPayload : ℕ → Result Answered StreamFault → Type 0
-  AnswersPayload len (Ok a) = (f : Frame) × IsFrame f × (length f.body + 3 ≡ len) × Consumes left_old left_new (payload f) × IsReply limits f old new (reply_frame limits new a)
+  AnswersPayload len (Ok a) =
+      (f : Frame)
+      × IsFrame f
+      × (length f.body + 3 ≡ len)
+      × Consumes left_old left_new (payload f)
+      × IsReply limits f old new (reply_frame limits new a)
   AnswersPayload len (Err e) = ReadsPart left_old left_new len e × SameStates old new
 
 -- the reply frame was written; or a write or the flush failed, and the sink took a prefix of the
 -- frame
-abbrev pub WritesReply : Option (List ℕ) → Option (List ℕ) → ReplyFrame → Result ℕ StreamFault → Type 0
+abbrev pub WritesReply : Option (List ℕ)
+    → Option (List ℕ)
+    → ReplyFrame
+    → Result ℕ StreamFault
+    → Type 0
 WritesReply old new r (Ok code) = Appends old new (reply_bytes r) × (code ≡ r.code)
 WritesReply old new r (Err e) = (e ≡ WriteFailed) × AppendsFront old new (reply_bytes r)
 
-module _ (limits : LimitsValue) (left_old left_new taken_old taken_new : Option (List ℕ)) (old new : ℕ → State) where
+module _ (limits : LimitsValue) (left_old left_new taken_old taken_new : Option (List ℕ))
+    (old new : ℕ → State) where
   -- a whole frame was read, and writing its reply had this result
   abbrev pub ServesFrame : Result ℕ StreamFault → Type 0
-  ServesFrame result = (f : Frame) × (reply : ReplyFrame) × IsFrame f × Consumes left_old left_new (frame_bytes f) × IsReply limits f old new reply × WritesReply taken_old taken_new reply result
+  ServesFrame result =
+      (f : Frame)
+      × (reply : ReplyFrame)
+      × IsFrame f
+      × Consumes left_old left_new (frame_bytes f)
+      × IsReply limits f old new reply
+      × WritesReply taken_old taken_new reply result
 
   -- less than a frame was read, and nothing was written
   abbrev pub ServesNothing : StreamFault → Type 0
-  ServesNothing e = (rest : List ℕ) × Consumes left_old left_new rest × BreaksOff e rest left_new × SameStates old new × Appends taken_old taken_new []
+  ServesNothing e =
+      (rest : List ℕ)
+      × Consumes left_old left_new rest
+      × BreaksOff e rest left_new
+      × SameStates old new
+      × Appends taken_old taken_new []
 
   -- one turn: the stream had ended, a frame was served, or there was a fault
   abbrev pub Turn : Result (Option ℕ) StreamFault → Type 0
-  Turn (Ok None) = Consumes left_old left_new [] × IsAtEnd left_new × SameStates old new × Appends taken_old taken_new []
+  Turn (Ok None) =
+      Consumes left_old left_new []
+      × IsAtEnd left_new
+      × SameStates old new
+      × Appends taken_old taken_new []
   Turn (Ok (Some code)) = ServesFrame (Ok code)
   Turn (Err e) = ServesNothing e ⊎ ServesFrame (Err e)

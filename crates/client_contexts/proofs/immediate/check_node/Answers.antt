@@ -10,6 +10,9 @@ returns-in-None-clause-ok c =
       node = c.requires;
       kinds =
           all_of_kind c.args.table.now.objects c.args.node.now c.in-Ok.ensures.found
-          (ap (λ o. list_any is_virtual (all_operands o)) (sym operands) ∙ sym c.has_virtual.ensures ∙ c.if-has_virtual.false);
-      verdict = ap (verdict_on c.args.node.now) (sym operands) ∙ sym c.verdict_on.ensures ∙ c.in-None.is;
+          (ap (λ o. list_any is_virtual (all_operands o)) (sym operands)
+          ∙ sym c.has_virtual.ensures
+          ∙ c.if-has_virtual.false);
+      verdict =
+          ap (verdict_on c.args.node.now) (sym operands) ∙ sym c.verdict_on.ensures ∙ c.in-None.is;
     }

@@ -4,16 +4,33 @@ use Rattle.connections.specs.History.{Event, History, NeverCloses}
 use Rattle.connections.proofs.HistoryLemmas.{IsAfter, GoesOn, goes_on}
 use Rattle.connections.proofs.laws.each_as_if_alone.Goals as goal
 
-opened_is : (before opened : ConnectionsValue) (connection : ℕ) → Connects connection before opened → IsAfter before.limits connection [] opened
-opened_is before opened connection o = record { limits_are = o.others.limits; opened = o.opened; states = o.no_contexts }
+opened_is : (before opened : ConnectionsValue) (connection : ℕ)
+    → Connects connection before opened
+    → IsAfter before.limits connection [] opened
+opened_is before opened connection o = record {
+  limits_are = o.others.limits;
+  opened = o.opened;
+  states = o.no_contexts;
+}
 
-on : (before opened after : ConnectionsValue) (connection : ℕ) (events : List Event) → Connects connection before opened → History opened events after → NeverCloses connection events
+on : (before opened after : ConnectionsValue) (connection : ℕ) (events : List Event)
+    → Connects connection before opened
+    → History opened events after
+    → NeverCloses connection events
     → GoesOn before.limits connection [] events after
-on before opened after connection events o history never = goes_on before.limits connection [] events opened after (opened_is before opened connection o) history never
+on before opened after connection events o history never =
+    goes_on before.limits connection [] events opened after
+    (opened_is before opened connection o) history never
 
 pub returns : goal.returns
 returns c = record {
-  replies = λ before opened after connection events o history never. (on before opened after connection events o history never).replies;
-  states = λ before opened after connection events o history never. (on before opened after connection events o history never).states;
-  lost = λ before opened after connection events o history never. (on before opened after connection events o history never).lost;
+  replies =
+      λ before opened after connection events o history never.
+      (on before opened after connection events o history never).replies;
+  states =
+      λ before opened after connection events o history never.
+      (on before opened after connection events o history never).states;
+  lost =
+      λ before opened after connection events o history never.
+      (on before opened after connection events o history never).lost;
 }

@@ -12,5 +12,7 @@ invariant-loop-at l =
       can : CanPut t.objects (drop l.at l.cells) (drop l.at l.planes);
       count : length l.planes ≡ length l.fn.planes;
       next : t ≡ with_objects start t.objects;
-      written : with_written t.objects (plane_objects (drop l.at l.cells) (drop l.at l.planes)) ≡ with_written start.objects (plane_objects l.cells l.fn.planes);
+      written :
+          with_written t.objects (plane_objects (drop l.at l.cells) (drop l.at l.planes))
+          ≡ with_written start.objects (plane_objects l.cells l.fn.planes);
     }

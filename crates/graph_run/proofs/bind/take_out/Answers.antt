@@ -16,15 +16,40 @@ loop-cell-preserved c =
     let inv = c.loop-cell.invariant in
     let e = c.in-Some.ensures.cases.0 in
     let can : CanTake t.objects (cell ∷ others) = rw e at inv.can in
-    let left : after.objects ≡ _ = ap (λ (x : Context). x.objects) c.take_image-plane.ensures.left in
-    let pushed : c.push_reserved.new.self.items ≡ planes ++ image_plane (image_held t.objects cell) ∷ [] = c.push_reserved.ensures.items ∙ ap (λ (p : PlaneValue). planes ++ p ∷ []) c.take_image-plane.ensures.plane in
+    let left : after.objects ≡ _ =
+    ap (λ (x : Context). x.objects) c.take_image-plane.ensures.left in
+    let pushed :
+    c.push_reserved.new.self.items ≡ planes ++ image_plane (image_held t.objects cell) ∷ [] =
+    c.push_reserved.ensures.items
+    ∙ ap (λ (p : PlaneValue). planes ++ p ∷ []) c.take_image-plane.ensures.plane in
     let before : planes ++ image_planes t.objects (cell ∷ others) ≡ _ = rw e at inv.planes in
-    let written : with_written t.objects (bare_images t.objects (cell ∷ others)) ≡ _ = rw e at inv.written in
+    let written : with_written t.objects (bare_images t.objects (cell ∷ others)) ≡ _ =
+    rw e at inv.written in
     record {
-      can = subst (λ (o : List NamedObject). CanTake o others) (sym left) (taken_can t.objects cell others can);
-      room = omega (arith, ap length pushed, length_push planes (image_plane (image_held t.objects cell)), ap length e, inv.room, c.push_reserved.ensures.capacity);
+      can =
+          subst (λ (o : List NamedObject). CanTake o others) (sym left)
+          (taken_can t.objects cell others can);
+      room =
+          omega (
+            arith,
+            ap length pushed,
+            length_push planes
+                (image_plane (image_held t.objects cell)),
+            ap length e,
+            inv.room,
+            c.push_reserved.ensures.capacity,
+          );
       capacity = c.push_reserved.ensures.capacity ∙ inv.capacity;
-      planes = grind (arith, pushed, left, append_assoc planes (image_plane (image_held t.objects cell) ∷ []) (image_planes after.objects others), taken_planes t.objects cell others can, before);
+      planes =
+          grind (
+            arith,
+            pushed,
+            left,
+            append_assoc planes
+                (image_plane (image_held t.objects cell) ∷ []) (image_planes after.objects others),
+            taken_planes t.objects cell others can,
+            before,
+          );
       next = next_context c.args.table.now t after _ inv.next c.take_image-plane.ensures.left;
       written = grind (arith, left, taken_written t.objects cell others can, written);
     }

@@ -12,9 +12,13 @@ invariant-loop-cell l =
       can : CanTake t.objects l.rest;
       room : length l.planes.items + length l.rest ≤ vec_capacity l.planes;
       capacity : vec_capacity l.planes ≡ vec_capacity l.fn.planes;
-      planes : l.planes.items ++ image_planes t.objects l.rest ≡ l.fn.planes.items ++ image_planes start.objects l.cells;
+      planes :
+          l.planes.items ++ image_planes t.objects l.rest
+          ≡ l.fn.planes.items ++ image_planes start.objects l.cells;
       next : t ≡ with_objects start t.objects;
-      written : with_written t.objects (bare_images t.objects l.rest) ≡ with_written start.objects (bare_images start.objects l.cells);
+      written :
+          with_written t.objects (bare_images t.objects l.rest)
+          ≡ with_written start.objects (bare_images start.objects l.cells);
     }
 
 abbrev pub decreases-loop-cell : goal.decreases-loop-cell

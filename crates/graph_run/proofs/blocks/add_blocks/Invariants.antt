@@ -10,6 +10,9 @@ invariant-loop-k l =
       room : length l.blocks.items + (length l.capacities - l.k) ≤ vec_capacity l.blocks;
       capacities : map block_size l.blocks.items ≡ take l.k l.capacities;
       lent_sizes : map lent_size l.blocks.items ≡ take l.k l.capacities;
-      lends : (f : Format) → lent_of l.pool f ≡ lent_of l.fn.pool f + blocks_of_format l.blocks.items f;
-      adds : (f : Format) → blocks_of l.pool f + capacity_count (drop l.k l.capacities) f ≤ blocks_of l.fn.pool f + capacity_count l.capacities f;
+      lends : (f : Format)
+          → lent_of l.pool f ≡ lent_of l.fn.pool f + blocks_of_format l.blocks.items f;
+      adds : (f : Format)
+          → blocks_of l.pool f + capacity_count (drop l.k l.capacities) f ≤ blocks_of l.fn.pool
+          f + capacity_count l.capacities f;
     }

@@ -9,6 +9,9 @@ invariant-loop-k l =
     let p = band_plan l.size l.tasks (plan_view l.plan) in
     record {
       room : length l.capacities.items + (l.count - l._k) ≤ vec_capacity l.capacities;
-      capacities : l.capacities.items ≡ l.fn.capacities.items ++ map (λ j. (l.format, p.slot_samples l.format j)) (range_with_len 0 l._k);
+      capacities :
+          l.capacities.items
+          ≡ l.fn.capacities.items
+          ++ map (λ j. (l.format, p.slot_samples l.format j)) (range_with_len 0 l._k);
       count : length l.capacities.items ≡ slot_index (plan_view l.plan) l.format 0 + l._k;
     }

@@ -7,7 +7,9 @@ use Rattle.graph_run.proofs.blocks.give_back.Given as goal
 abbrev pub invariant-loop-block : goal.invariant-loop-block
 invariant-loop-block l =
     record {
-      gives : (format : Format) → lent_of l.pool format + blocks_of_format l.fn.blocks.items format ≡ lent_of l.fn.pool format + blocks_of_format l.blocks.items format;
+      gives : (format : Format)
+          → lent_of l.pool format + blocks_of_format l.fn.blocks.items format
+          ≡ lent_of l.fn.pool format + blocks_of_format l.blocks.items format;
       blocks : (format : Format) → blocks_of l.pool format ≡ blocks_of l.fn.pool format;
     }
 

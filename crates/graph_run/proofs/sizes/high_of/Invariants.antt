@@ -7,5 +7,7 @@ invariant-loop-cell l =
     record {
       some : 0 < l.high;
       virtuals : All (λ (o : VirtualOutput). o.desc.height ≤ l.high) l.images;
-      clients : All (λ (c : Reference). (image_held l.table.objects c).height ≤ l.high) (take l.cell-index l.clients);
+      clients :
+          All (λ (c : Reference). (image_held l.table.objects c).height ≤ l.high)
+          (take l.cell-index l.clients);
     }

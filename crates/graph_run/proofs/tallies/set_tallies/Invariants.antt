@@ -11,5 +11,7 @@ invariant-loop-at l =
     record {
       fit : AreTalliesFor t.objects (drop l.at l.cells) (drop l.at l.tallies);
       next : t ≡ with_objects start t.objects;
-      written : with_written t.objects (tally_objects (drop l.at l.cells) (drop l.at l.tallies)) ≡ with_written start.objects (tally_objects l.cells l.tallies);
+      written :
+          with_written t.objects (tally_objects (drop l.at l.cells) (drop l.at l.tallies))
+          ≡ with_written start.objects (tally_objects l.cells l.tallies);
     }

@@ -12,7 +12,15 @@ add-requires-clause-can c =
     let can = c.requires.can in
     let fits = c.requires.fits in
     let low : c.args.band.start < 2 ^ 16 = omega arith in
-    let image : c.image.result ≡ plane_image (plane planes r.input) = c.image.ensures ∙ ap plane_image (plane_read planes r.input c.index-planes-reduction.result c.requires.input c.index-planes-reduction.is) in
-    let same = get_or_default c.args.tallies.now r.tally (tally.Extremes no_extremes) c.index-tallies-reduction.result can.tally in
+    let image : c.image.result ≡ plane_image (plane planes r.input) =
+    c.image.ensures
+    ∙ ap plane_image
+    (plane_read planes r.input c.index-planes-reduction.result c.requires.input
+    c.index-planes-reduction.is)
+    in
+    let same =
+    get_or_default c.args.tallies.now r.tally (tally.Extremes no_extremes)
+    c.index-tallies-reduction.result can.tally in
     rw (image, ← same)
-    (can_add c.args.band.start c.with_halo-rows.result (plane_image (plane planes r.input)) (tally_at c.args.tallies.now r.tally) low c.requires.reads.image can.format can.bounded)
+    (can_add c.args.band.start c.with_halo-rows.result (plane_image (plane planes r.input))
+    (tally_at c.args.tallies.now r.tally) low c.requires.reads.image can.format can.bounded)

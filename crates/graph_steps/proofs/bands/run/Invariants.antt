@@ -7,7 +7,10 @@ abbrev pub invariant-loop-first : goal.invariant-loop-first
 invariant-loop-first g l = record {
   within : l.first ≤ l.high;
   begun : (l.first ≡ 0) ⊎ (min l.size l.high ≤ l.first);
-  between : (slots : ℕ) (program : IsProgram (g.T.Tables.tables l.tables) l.high l.size slots l.tasks l.fn.planes) → Between program l.first l.planes l.fn.tallies l.tallies;
+  between :
+      (slots : ℕ)
+      (program : IsProgram (g.T.Tables.tables l.tables) l.high l.size slots l.tasks l.fn.planes)
+      → Between program l.first l.planes l.fn.tallies l.tallies;
 }
 
 abbrev pub decreases-loop-first : goal.decreases-loop-first

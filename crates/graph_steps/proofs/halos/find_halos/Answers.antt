@@ -9,9 +9,11 @@ use Rattle.graph_steps.proofs.halos.find_halos.Goals as goal
 pub find_task_halo-requires : goal.find_task_halo-requires
 find_task_halo-requires c =
     let inv = c.loop-k.invariant in
-    let below : length c.loop-k.tasks - 1 - c.loop-k.k < length c.loop-k.tasks = omega (arith, c.loop-k-test.true, inv.count) in
+    let below : length c.loop-k.tasks - 1 - c.loop-k.k < length c.loop-k.tasks =
+    omega (arith, c.loop-k-test.true, inv.count) in
     subst (λ n. NamesBelow n c.index-tasks-at.result) (sym inv.len)
-    (subst (NamesBelow (length c.args.needs.now)) (sym c.index-tasks-at.is) (inv.names (length c.loop-k.tasks - 1 - c.loop-k.k) c.index-tasks-at.result below))
+    (subst (NamesBelow (length c.args.needs.now)) (sym c.index-tasks-at.is)
+    (inv.names (length c.loop-k.tasks - 1 - c.loop-k.k) c.index-tasks-at.result below))
 
 pub loop-k-preserved : goal.loop-k-preserved
 loop-k-preserved c =
@@ -23,16 +25,24 @@ loop-k-preserved c =
     let below : k < length tasks = omega (arith, c.loop-k-test.true, inv.count) in
     let place = length tasks - 1 - k in
     let long : length (set tasks place new) ≡ length tasks = length-set tasks place new in
-    let e : drop (length (set tasks place new) - (k + 1)) (set tasks place new) ≡ new ∷ drop (length tasks - k) tasks =
+    let e :
+    drop (length (set tasks place new) - (k + 1)) (set tasks place new)
+    ≡ new ∷ drop (length tasks - k) tasks =
     ap (λ n. drop (n - (k + 1)) (set tasks place new)) long ∙ from_one_before tasks k new below in
     let more = f.more (drop (length tasks - k) tasks) inv.enough inv.cover in
     let was = inv.names place c.index-tasks-at.result (omega (arith, below)) in
     record {
       enough = subst (AreEnough c.args.high) (sym e) more.0;
-      cover = subst (λ (l : List Task). Cover c.args.high l c.find_task_halo.new.needs) (sym e) more.1;
+      cover =
+          subst (λ (l : List Task). Cover c.args.high l c.find_task_halo.new.needs) (sym e) more.1;
       names = All-set (NamesBelow (length c.args.needs.now)) tasks place new
-          (names_same (length c.args.needs.now) c.index-tasks-at.result new (sym f.same) (subst (NamesBelow (length c.args.needs.now)) (sym c.index-tasks-at.is) was)) inv.names;
-      same = map-set_same without_halo tasks place new c.index-tasks-at.result (f.same ∙ ap without_halo c.index-tasks-at.is) ∙ inv.same;
+          (names_same (length c.args.needs.now) c.index-tasks-at.result new (sym f.same)
+          (subst (NamesBelow (length c.args.needs.now)) (sym c.index-tasks-at.is) was))
+          inv.names;
+      same =
+          map-set_same without_halo tasks place new c.index-tasks-at.result
+          (f.same ∙ ap without_halo c.index-tasks-at.is)
+          ∙ inv.same;
       len = f.len ∙ inv.len;
       count = long ∙ inv.count;
     }

@@ -8,7 +8,8 @@ raise-requires c = c.requires c.args.step.now.first (inl refl)
 
 pub raise-requires-in-Plane : goal.raise-requires-in-Plane
 raise-requires-in-Plane c =
-    let long : length c.raise.new.needs ≡ length c.args.needs.now = ap length c.raise.ensures ∙ length-set c.args.needs.now c.args.step.now.first _ in
+    let long : length c.raise.new.needs ≡ length c.args.needs.now =
+    ap length c.raise.ensures ∙ length-set c.args.needs.now c.args.step.now.first _ in
     let below = c.requires c.in-Plane.second (inr c.in-Plane.is) in
     omega arith
 
@@ -19,9 +20,16 @@ returns-in-Plane c =
     let m = c.min-rows.ensures in
     let a = c.saturating_add.ensures in
     let enough : min c.args.high (s.halo + s.radius) ≤ c.min-rows.result = omega arith in
-    let r = raised_two s c.min-rows.result c.in-Plane.second c.args.needs.now c.raise.new.needs c.raise-in-Plane.new.needs
-    (c.requires s.first (inl refl)) (c.requires c.in-Plane.second (inr c.in-Plane.is)) c.in-Plane.is c.raise.ensures c.raise-in-Plane.ensures in
-    record { grows = r.grows; enough = λ k reads. (let e = r.enough k reads in omega arith); len = r.len }
+    let r =
+    raised_two s c.min-rows.result c.in-Plane.second c.args.needs.now c.raise.new.needs
+    c.raise-in-Plane.new.needs
+    (c.requires s.first (inl refl)) (c.requires c.in-Plane.second (inr c.in-Plane.is))
+    c.in-Plane.is c.raise.ensures c.raise-in-Plane.ensures in
+    record {
+      grows = r.grows;
+      enough = λ k reads. (let e = r.enough k reads in omega arith);
+      len = r.len;
+    }
 
 pub returns-in_default : goal.returns-in_default
 returns-in_default c =
@@ -30,5 +38,11 @@ returns-in_default c =
     let m = c.min-rows.ensures in
     let a = c.saturating_add.ensures in
     let enough : min c.args.high (s.halo + s.radius) ≤ c.min-rows.result = omega arith in
-    let r = raised_one s c.min-rows.result c.args.needs.now c.raise.new.needs (c.requires s.first (inl refl)) (λ k e. c.in_default.not-Plane k e) c.raise.ensures in
-    record { grows = r.grows; enough = λ k reads. (let e = r.enough k reads in omega arith); len = r.len }
+    let r =
+    raised_one s c.min-rows.result c.args.needs.now c.raise.new.needs
+    (c.requires s.first (inl refl)) (λ k e. c.in_default.not-Plane k e) c.raise.ensures in
+    record {
+      grows = r.grows;
+      enough = λ k reads. (let e = r.enough k reads in omega arith);
+      len = r.len;
+    }

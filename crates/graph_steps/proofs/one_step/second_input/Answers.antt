@@ -12,12 +12,19 @@ offset_bounds-planes-at g c = let below = (c.requires c.in-Plane.at c.in-Plane.i
 pub image-requires : goal.image-requires
 image-requires g c =
     let reads = c.requires c.in-Plane.at c.in-Plane.is in
-    subst IsReadable (sym (plane_read c.args.planes.now c.in-Plane.at c.index-planes-at.result reads.0 c.index-planes-at.is)) reads.1
+    subst IsReadable
+    (sym
+    (plane_read c.args.planes.now c.in-Plane.at c.index-planes-at.result reads.0
+    c.index-planes-at.is))
+    reads.1
 
 pub returns-in-Plane : goal.returns-in-Plane
 returns-in-Plane g c =
-    plane_lent c.args.planes.now (g.T.Tables.tables c.args.tables.now) c.args.source c.in-Plane.at _ _ c.in-Plane.is (c.requires c.in-Plane.at c.in-Plane.is).0 c.index-planes-at.is c.image.ensures
+    plane_lent c.args.planes.now (g.T.Tables.tables c.args.tables.now) c.args.source
+    c.in-Plane.at _ _ c.in-Plane.is (c.requires c.in-Plane.at c.in-Plane.is).0
+    c.index-planes-at.is c.image.ensures
 
 pub returns-in-Table : goal.returns-in-Table
 returns-in-Table g c =
-    table_lent (g.T.Tables.tables c.args.tables.now) (read_images c.args.planes.now) c.args.source c.in-Table.at _ c.in-Table.is c.table.ensures
+    table_lent (g.T.Tables.tables c.args.tables.now) (read_images c.args.planes.now)
+    c.args.source c.in-Table.at _ c.in-Table.is c.table.ensures

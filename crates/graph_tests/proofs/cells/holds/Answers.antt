@@ -15,7 +15,8 @@ put-requires-clause-there c =
     let q = c.new-cell.result in
     let t = c.args.table.now in
     let there : HoldsImage t.objects q = search rules in
-    subst (λ (k : Context). HoldsImage k.objects q) (sym c.take-samples.ensures.left) (image_after t.objects q there _)
+    subst (λ (k : Context). HoldsImage k.objects q) (sym c.take-samples.ensures.left)
+    (image_after t.objects q there _)
 
 pub put-requires-clause-format : goal.put-requires-clause-format
 put-requires-clause-format c =
@@ -33,6 +34,9 @@ put-requires-clause-size c =
     let t = c.args.table.now in
     let there : HoldsImage t.objects q = search rules in
     let same =
-    ap (λ (k : Context). sample_count (description_of (image_held k.objects q))) c.take-samples.ensures.left
-    ∙ ap (λ (o : ObjectValue). sample_count (description_of (image_value o))) (object_after t.objects q there _) in
-    subst (λ (n : ℕ). IsAllOrNone n (length (values c.take-samples.result.1))) (sym same) c.take-samples.ensures.size
+    ap (λ (k : Context). sample_count (description_of (image_held k.objects q)))
+    c.take-samples.ensures.left
+    ∙ ap (λ (o : ObjectValue). sample_count (description_of (image_value o)))
+    (object_after t.objects q there _) in
+    subst (λ (n : ℕ). IsAllOrNone n (length (values c.take-samples.result.1))) (sym same)
+    c.take-samples.ensures.size

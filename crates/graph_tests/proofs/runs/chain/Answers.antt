@@ -13,11 +13,19 @@ returns c =
     let a = c.args.input in
     let b = c.args.output in
     let d = c.args.declared in
-    let images : c.hold-2.new.table ≡ with_new (with_new new_context (ImageObject a)) (ImageObject b) =
-    step (λ k. with_new k (ImageObject b)) _ _ _ c.in_ok-hold-2.ensures (step (λ k. with_new k (ImageObject a)) _ _ _ c.in_ok-hold.ensures c.new-table.ensures) in
-    let graph : c.hold-3.new.table ≡ with_new (with_new (with_new new_context (ImageObject a)) (ImageObject b)) (GraphObject new_graph) =
-    c.in_ok-hold-3.ensures ∙ ap (λ (o : GraphValue). with_new c.hold-2.new.table (GraphObject o)) c.new.ensures.value ∙ ap (λ (k : Context). with_new k (GraphObject new_graph)) images in
-    let virtual : c.hold_through-5.new.table ≡ record { next = 9; objects = linked_by new_graph a b d } =
+    let images :
+    c.hold-2.new.table ≡ with_new (with_new new_context (ImageObject a)) (ImageObject b) =
+    step (λ k. with_new k (ImageObject b)) _ _ _ c.in_ok-hold-2.ensures
+    (step (λ k. with_new k (ImageObject a)) _ _ _ c.in_ok-hold.ensures c.new-table.ensures) in
+    let graph :
+    c.hold-3.new.table
+    ≡ with_new (with_new (with_new new_context (ImageObject a)) (ImageObject b))
+    (GraphObject new_graph) =
+    c.in_ok-hold-3.ensures
+    ∙ ap (λ (o : GraphValue). with_new c.hold-2.new.table (GraphObject o)) c.new.ensures.value
+    ∙ ap (λ (k : Context). with_new k (GraphObject new_graph)) images in
+    let virtual :
+    c.hold_through-5.new.table ≡ record { next = 9; objects = linked_by new_graph a b d } =
     step (λ k. with_new k (chain_image d)) _ _ _ c.in_ok-hold_through-5.ensures
     (step (λ k. with_new k (chain_image d)) _ _ _ c.in_ok-hold_through-4.ensures
     (step (λ k. with_new k (chain_image d)) _ _ _ c.in_ok-hold_through-3.ensures
@@ -35,7 +43,9 @@ returns c =
       b,
       d,
       record {
-        objects = subst (λ (o : List NamedObject). All (λ n. IsObject n.object) o) (sym is) (chain_objects a b d c.requires.input c.requires.output c.prove_sides.ensures);
+        objects =
+            subst (λ (o : List NamedObject). All (λ n. IsObject n.object) o) (sym is)
+            (chain_objects a b d c.requires.input c.requires.output c.prove_sides.ensures);
         lasting = ap (map lasting_named) is;
       },
     )

@@ -20,7 +20,8 @@ verify_in-requires c =
     let (a, b, d, lasts) = c.requires in
     let objects = c.args.table.now.objects in
     subst (λ (ns : List Node). All (λ n. IsTrue (is_image (operand_held objects n.in1))) ns)
-    (sym (ap nodes_of c.graph.ensures ∙ nodes_under objects a b d lasts)) (first_images objects a b d lasts)
+    (sym (ap nodes_of c.graph.ensures ∙ nodes_under objects a b d lasts))
+    (first_images objects a b d lasts)
 
 pub run-requires : goal.run-requires
 run-requires c =
@@ -28,14 +29,16 @@ run-requires c =
     let objects = c.args.table.now.objects in
     let v = c.in_ok-verified.verified in
     let nodes = nodes_of c.graph.result.now in
-    let same : nodes ≡ chain_nodes = ap nodes_of c.graph.ensures ∙ nodes_under objects a b d lasts in
+    let same : nodes ≡ chain_nodes =
+    ap nodes_of c.graph.ensures ∙ nodes_under objects a b d lasts in
     record {
       objects = lasts.objects;
       names = names_increase objects a b d lasts;
       ready = (
         chain_nodes,
         ready objects chain_nodes nodes_are (all_find objects a b d lasts) v 10
-            (subst (λ (ns : List Node). IsVerified (operand_held objects) ns v) same c.in_ok-verified.ensures.verified)
+            (subst (λ (ns : List Node). IsVerified (operand_held objects) ns v) same
+            c.in_ok-verified.ensures.verified)
             (ap (verdict 10 (operand_held objects)) (sym same) ∙ c.in_ok-verified.ensures.ok),
       );
       plan = c.in_ok-plan.ensures.plan;

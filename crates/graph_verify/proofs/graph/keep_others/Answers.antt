@@ -5,4 +5,7 @@ use Rattle.graph_verify.proofs.graph.keep_others.Goals as goal
 
 pub returns : goal.returns
 returns c =
-    filter_from_retain_by _ (λ p. p.0.now ≡ c.args.number) (λ (n : Numbered). not (n.number == c.args.number)) (λ p x b q is called. (search (rules, is), search (rules, is))) _ _ _ refl c.retain.ensures.filtered
+    filter_from_retain_by _ (λ p. p.0.now ≡ c.args.number)
+    (λ (n : Numbered). not (n.number == c.args.number))
+    (λ p x b q is called. (search (rules, is), search (rules, is))) _ _ _ refl
+    c.retain.ensures.filtered

@@ -6,5 +6,7 @@ use Rattle.graph_verify.proofs.linked.has_unwritten_input.Goals as goal
 pub returns : goal.returns
 returns c is operands =
     let nodes = c.args.nodes.now in
-    any_from_yields_List (λ l. reads_unwritten_virtual (linked_nodes nodes) l || has_virtual_sum l) _ _ _ c.any.ensures.ran (YieldsList-from_slice nodes cc) (λ x b q k. search (rules, tests))
+    any_from_yields_List
+    (λ l. reads_unwritten_virtual (linked_nodes nodes) l || has_virtual_sum l) _ _ _
+    c.any.ensures.ran (YieldsList-from_slice nodes cc) (λ x b q k. search (rules, tests))
     ∙ unwritten_input-linked is (linked_nodes nodes) nodes operands

@@ -4,4 +4,7 @@ use Rattle.graph_verify.proofs.verified.first_fault.Given as goal
 
 abbrev pub invariant-loop-linked : goal.invariant-loop-linked
 invariant-loop-linked l =
-    (is : Reference → Operand) → All (λ k. known_operands l.known k ≡ operands_of is k.node) l.nodes → first_fault is (linked_nodes (drop l.linked-index l.nodes)) ≡ first_fault is (linked_nodes l.nodes)
+    (is : Reference → Operand)
+    → All (λ k. known_operands l.known k ≡ operands_of is k.node) l.nodes
+    → first_fault is (linked_nodes (drop l.linked-index l.nodes))
+    ≡ first_fault is (linked_nodes l.nodes)

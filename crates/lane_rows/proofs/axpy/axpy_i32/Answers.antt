@@ -13,4 +13,5 @@ returns c =
     ∙ c.update_row.ensures
     ∙ ap (λ k. zip2 (f k) row (map (λ z. z) c.args.sums.now)) (to_z-of_z w16 c.args.k c.ranges.k)
     ∙ ap (zip2 (f c.args.k) row) (map-id c.args.sums.now)
-    ∙ none_wraps c.args.k c.args.row.now c.args.sums.now c.ranges.k (Each1-from_get_or (Fits w8) c.args.row.now 0 (λ i _. c.type_inv.row i)) c.requires.limit
+    ∙ none_wraps c.args.k c.args.row.now c.args.sums.now c.ranges.k
+    (Each1-from_get_or (Fits w8) c.args.row.now 0 (λ i _. c.type_inv.row i)) c.requires.limit

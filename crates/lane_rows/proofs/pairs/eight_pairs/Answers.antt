@@ -8,4 +8,6 @@ pub overflow_cast-result-2 : goal.overflow_cast-result-2
 overflow_cast-result-2 c = casts_fit c.args.table.now c.args.at evens c.requires.table_fits
 
 pub returns : goal.returns
-returns c a b is = eight_sums c.args.row.now c.args.table.now c.args.index c.args.at a b c.requires.room c.requires.table_room c.requires.fit c.requires.table_fits is
+returns c a b is =
+    eight_sums c.args.row.now c.args.table.now c.args.index c.args.at a b c.requires.room
+    c.requires.table_room c.requires.fit c.requires.table_fits is

@@ -6,5 +6,12 @@ use Rattle.lane_rows.proofs.scales.scaled_lanes.Goals as goal
 
 pub returns : goal.returns
 returns c =
-    let value = scaled_are c.args.exponent (of_z w32 c.from.result) c.args.numbers (ap (of_z w32) c.from.ensures) c.requires.exponent c.requires.len c.requires.fits in
-    record { value = value; result_fits = subst (Each1 (FitsSigned w32)) (sym value) (quotients_fit c.args.exponent c.args.numbers c.requires.fits) }
+    let value =
+    scaled_are c.args.exponent (of_z w32 c.from.result) c.args.numbers
+    (ap (of_z w32) c.from.ensures) c.requires.exponent c.requires.len c.requires.fits in
+    record {
+      value = value;
+      result_fits =
+          subst (Each1 (FitsSigned w32)) (sym value)
+          (quotients_fit c.args.exponent c.args.numbers c.requires.fits);
+    }

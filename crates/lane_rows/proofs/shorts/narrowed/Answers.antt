@@ -14,8 +14,13 @@ returns-clause-value c =
     elim c.match-policy.branch [
       | in-Wrap w ↦ rw (w.result-is, w.in-Wrap.is) (wrapped_are ns c.requires.len c.requires.fits)
       | in-Saturate w ↦
-          rw (w.result-is, w.in-Saturate.is) (bits_back w16 w.clamped.result _ (w.clamped.ensures ∙ ap (map (narrow S16 Saturate)) (of_bits w32 ns c.requires.fits)) (narrow_fits Saturate ns c.requires.fits))
+          rw (w.result-is, w.in-Saturate.is)
+          (bits_back w16 w.clamped.result _
+          (w.clamped.ensures ∙ ap (map (narrow S16 Saturate)) (of_bits w32 ns c.requires.fits))
+          (narrow_fits Saturate ns c.requires.fits))
     ]
 
 pub returns-clause-result_fits : goal.returns-clause-result_fits
-returns-clause-result_fits c = subst (Each1 (FitsSigned w16)) (sym (returns-clause-value c)) (narrow_fits c.args.policy c.args.numbers c.requires.fits)
+returns-clause-result_fits c =
+    subst (Each1 (FitsSigned w16)) (sym (returns-clause-value c))
+    (narrow_fits c.args.policy c.args.numbers c.requires.fits)

@@ -9,13 +9,24 @@ loop-k-preserved c =
     let three = c.count_one-in-loop-k-2.ensures in
     let four = c.count_one-in-loop-k-3.ensures in
     record {
-      counted = λ v. omega (arith, c.loop-k.invariant.counted v, one v, two v, three v, four v, four_more v c.args.row.now c.loop-k.k (omega (arith, c.loop-k-test.true)));
+      counted =
+          λ v. omega (
+            arith,
+            c.loop-k.invariant.counted v,
+            one v,
+            two v,
+            three v,
+            four v,
+            four_more v
+                c.args.row.now c.loop-k.k (omega (arith, c.loop-k-test.true)),
+          );
       room = λ v. grind (arith, c.loop-k.invariant.room v, one v, two v, three v, four v);
     }
 
 pub loop-i-preserved : goal.loop-i-preserved
 loop-i-preserved c = record {
-  counted = λ v. grind (arith, tallies, c.loop-i.invariant.counted v, c.count_one-in-loop-i.ensures v);
+  counted =
+      λ v. grind (arith, tallies, c.loop-i.invariant.counted v, c.count_one-in-loop-i.ensures v);
   room = λ v. grind (arith, c.loop-i.invariant.room v, c.count_one-in-loop-i.ensures v);
 }
 

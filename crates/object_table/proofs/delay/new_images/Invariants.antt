@@ -7,7 +7,8 @@ invariant-loop-desc l = record {
   capacity : l.count ≤ vec_capacity l.images;
   within : length l.images.items ≤ l.count;
   new : l.images.items ≡ new_delay l.desc (length l.images.items);
-  lends : (format : Format) → lent_of l.pool format ≡ lent_of l.fn.pool format + delay_blocks l.images.items format;
+  lends : (format : Format)
+      → lent_of l.pool format ≡ lent_of l.fn.pool format + delay_blocks l.images.items format;
 }
 
 abbrev pub decreases-loop-desc : goal.decreases-loop-desc

@@ -12,15 +12,28 @@ returns-then-bytes-samples c = record {
 
 pub returns-then-from-maxval : goal.returns-then-from-maxval
 returns-then-from-maxval c =
-    let above : nat_le c.greatest_byte.result c.args.maxval ≡ false = lt-leb c.greatest_byte.result c.args.maxval (omega arith) in
-    let told : all_up_to c.args.maxval c.args.bytes.now ≡ false = cc (c.greatest_byte.ensures c.args.maxval) in
-    record { ok = tt; err = ap (samples_up_to c.args.maxval) (bytes-many _ c.args.bytes.now (omega arith)) ∙ rw told refl }
+    let above : nat_le c.greatest_byte.result c.args.maxval ≡ false =
+    lt-leb c.greatest_byte.result c.args.maxval (omega arith) in
+    let told : all_up_to c.args.maxval c.args.bytes.now ≡ false =
+    cc (c.greatest_byte.ensures c.args.maxval) in
+    record {
+      ok = tt;
+      err =
+          ap (samples_up_to c.args.maxval) (bytes-many _ c.args.bytes.now (omega arith))
+          ∙ rw told refl;
+    }
 
 pub returns-then-maxval-ge255 : goal.returns-then-maxval-ge255
-returns-then-maxval-ge255 c = bytes_read c.args.maxval _ c.args.bytes.now _ _ (omega arith) c.copy_from_slice.ensures.after (bytes_low c.args.maxval c.args.bytes.now (omega arith) c.type_inv.bytes)
+returns-then-maxval-ge255 c =
+    bytes_read c.args.maxval _ c.args.bytes.now _ _ (omega arith)
+    c.copy_from_slice.ensures.after
+    (bytes_low c.args.maxval c.args.bytes.now (omega arith) c.type_inv.bytes)
 
 pub returns : goal.returns
 returns c =
-    let below : nat_le c.greatest_byte.result c.args.maxval ≡ true = le-leb c.greatest_byte.result c.args.maxval (omega arith) in
-    let told : all_up_to c.args.maxval c.args.bytes.now ≡ true = cc (c.greatest_byte.ensures c.args.maxval) in
-    bytes_read c.args.maxval _ c.args.bytes.now _ _ (omega arith) c.copy_from_slice.ensures.after told
+    let below : nat_le c.greatest_byte.result c.args.maxval ≡ true =
+    le-leb c.greatest_byte.result c.args.maxval (omega arith) in
+    let told : all_up_to c.args.maxval c.args.bytes.now ≡ true =
+    cc (c.greatest_byte.ensures c.args.maxval) in
+    bytes_read c.args.maxval _ c.args.bytes.now _ _ (omega arith)
+    c.copy_from_slice.ensures.after told

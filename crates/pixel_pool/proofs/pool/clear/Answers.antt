@@ -4,7 +4,10 @@ use Rattle.vx_base.proofs.ZeroLaws.{map-replicate}
 use Rattle.pixel_pool.proofs.pool.clear.Goals as goal
 
 -- numbers that are all 0, as many as there were, are samples that are all 0
-zeros_for : (count : ℕ) (old new : List ℕ) → count ≡ length old → new ≡ replicate count 0 → map pos new ≡ replicate (length (map pos old)) (pos 0)
+zeros_for : (count : ℕ) (old new : List ℕ)
+    → count ≡ length old
+    → new ≡ replicate count 0
+    → map pos new ≡ replicate (length (map pos old)) (pos 0)
 zeros_for count old new size filled =
     ap (map pos) filled
     ∙ map-replicate pos count 0
@@ -16,4 +19,5 @@ returns-in-U8-clause-zero c =
 
 pub returns-in-U32-clause-zero : goal.returns-in-U32-clause-zero
 returns-in-U32-clause-zero c =
-    rw c.in-U32.is (zeros_for _ _ _ c.in-U32.samples.ok.0 (c.fill-in-U32.ensures.items (λ y same. same)))
+    rw c.in-U32.is
+    (zeros_for _ _ _ c.in-U32.samples.ok.0 (c.fill-in-U32.ensures.items (λ y same. same)))

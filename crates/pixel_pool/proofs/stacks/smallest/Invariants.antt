@@ -8,5 +8,9 @@ abbrev pub invariant-loop-class : goal.invariant-loop-class
 invariant-loop-class l =
     record {
       capacity : l.capacity ≡ class_size l.class;
-      none : (other : ℕ) → other < l.class → HasFree (lengths l.stacks) other → l.count ≤ class_size other → ⊥;
+      none : (other : ℕ)
+          → other < l.class
+          → HasFree (lengths l.stacks) other
+          → l.count ≤ class_size other
+          → ⊥;
     }

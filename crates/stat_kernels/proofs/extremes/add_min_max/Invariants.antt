@@ -4,4 +4,6 @@ use Rattle.stat_kernels.proofs.MergeLaws.{MergesAs}
 use Rattle.stat_kernels.proofs.extremes.add_min_max.Given as goal
 
 abbrev pub invariant-loop-k : goal.invariant-loop-k
-invariant-loop-k l = MergesAs (pixel_at l.image) l.down (rectangle_pixels (band_of (rows_at l.rows.start l.k) l.image.valid)) l.found
+invariant-loop-k l =
+    MergesAs (pixel_at l.image) l.down
+    (rectangle_pixels (band_of (rows_at l.rows.start l.k) l.image.valid)) l.found

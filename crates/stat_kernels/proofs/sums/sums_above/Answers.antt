@@ -7,4 +7,6 @@ use Rattle.stat_kernels.proofs.sums.sums_above.Goals as goal
 
 pub returns-in-None-clause-sums : goal.returns-in-None-clause-sums
 returns-in-None-clause-sums c x =
-    ap (λ l. get_or l x 0) (take-replicate c.args.width GREATEST_SIDE 0 c.requires.room) ∙ zero_at c.args.width x ∙ ap (λ o. row_sums (option_copied o) x) (sym c.in-None.is)
+    ap (λ l. get_or l x 0) (take-replicate c.args.width GREATEST_SIDE 0 c.requires.room)
+    ∙ zero_at c.args.width x
+    ∙ ap (λ o. row_sums (option_copied o) x) (sym c.in-None.is)

@@ -33,4 +33,6 @@ pub returns-in_err-code-clause-session : goal.returns-in_err-code-clause-session
 returns-in_err-code-clause-session g c =
     let p = err_from_is_err_and c.from_residual.result c.from_residual.ensures.1 in
     let turn = rw c.frames.invariant.limits at c.in_err-code.ensures.turn in
-    rw (p.1, p.2) (left_there _ _ _ _ _ _ _ _ _ (search rules) (broke_off _ _ _ _ _ _ _ _ _ _ _ _ _ c.frames.invariant.progress turn))
+    rw (p.1, p.2)
+    (left_there _ _ _ _ _ _ _ _ _ (search rules)
+    (broke_off _ _ _ _ _ _ _ _ _ _ _ _ _ c.frames.invariant.progress turn))

@@ -7,5 +7,8 @@ returns c = record {
   among = median_is_among;
   fewer = λ a b c d e f g h i. (median_is_middle a b c d e f g h i).fewer;
   more = λ a b c d e f g h i. (median_is_middle a b c d e f g h i).more;
-  one = λ a b c d e f g h i v low high. sym (median_is (a ∷ b ∷ c ∷ d ∷ e ∷ f ∷ g ∷ h ∷ i ∷ []) v refl (record { fewer = low; more = high }));
+  one =
+      λ a b c d e f g h i v low high. sym
+      (median_is (a ∷ b ∷ c ∷ d ∷ e ∷ f ∷ g ∷ h ∷ i ∷ []) v refl
+      (record { fewer = low; more = high }));
 }

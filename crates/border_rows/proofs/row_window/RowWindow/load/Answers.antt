@@ -9,9 +9,19 @@ returns-clause-samples c =
     let inside = c.self.inside in
     let out = c.load_row.new.out in
     let items = inside.samples.items in
-    let P : RowWindowValue → Type 0 = λ v. map pos (take inside.samples.len (out ++ drop (length out) items)) ≡ run 0 (v.width + 2 * v.radius) (λ i. sample_or_border image c.args.border (pos i -ℤ pos v.radius) c.args.y) in
+    let P : RowWindowValue → Type 0 =
+    λ v. map pos (take inside.samples.len (out ++ drop (length out) items))
+    ≡ run 0 (v.width + 2 * v.radius)
+    (λ i. sample_or_border image c.args.border (pos i -ℤ pos v.radius) c.args.y) in
     subst P c.self.view_is
-    (ap (map pos) (take_at out (drop (length out) items) inside.samples.len (c.load_row.auto.out ∙ c.as_mut_slice-samples.ensures.len))
+    (ap (map pos)
+    (take_at out (drop (length out) items) inside.samples.len
+    (c.load_row.auto.out ∙ c.as_mut_slice-samples.ensures.len))
     ∙ c.load_row.ensures
-    ∙ ap (λ z. run 0 (length c.as_mut_slice-samples.result.now) (λ i. sample_or_border image c.args.border (pos i -ℤ pos inside.radius) z)) (to_z-of_z w32 c.args.y c.ranges.y)
-    ∙ ap (λ n. run 0 n (λ i. sample_or_border image c.args.border (pos i -ℤ pos inside.radius) c.args.y)) (ap length c.as_mut_slice-samples.ensures.value ∙ c.self.invariant))
+    ∙ ap
+    (λ z. run 0 (length c.as_mut_slice-samples.result.now)
+    (λ i. sample_or_border image c.args.border (pos i -ℤ pos inside.radius) z))
+    (to_z-of_z w32 c.args.y c.ranges.y)
+    ∙ ap
+    (λ n. run 0 n (λ i. sample_or_border image c.args.border (pos i -ℤ pos inside.radius) c.args.y))
+    (ap length c.as_mut_slice-samples.ensures.value ∙ c.self.invariant))

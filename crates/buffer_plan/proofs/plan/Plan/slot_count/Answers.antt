@@ -5,6 +5,8 @@ use Rattle.buffer_plan.proofs.plan.Plan.slot_count.Goals as goal
 
 pub returns-clause-least : goal.returns-clause-least
 returns-clause-least c steps images plan slot valid slots has =
-    let count : c.len.result ≡ (plan_view c.args.self.now).slot_count c.args.format = grind (arith, common_steps) in
-    let most = least steps images (plan_view c.args.self.now) c.args.format plan slot valid slots has in
+    let count : c.len.result ≡ (plan_view c.args.self.now).slot_count c.args.format =
+    grind (arith, common_steps) in
+    let most =
+    least steps images (plan_view c.args.self.now) c.args.format plan slot valid slots has in
     omega arith

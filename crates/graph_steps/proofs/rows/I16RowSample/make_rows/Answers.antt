@@ -4,6 +4,9 @@ use Rattle.graph_steps.proofs.rows.I16RowSample.make_rows.Goals as goal
 
 pub returns-clause-samples : goal.returns-clause-samples
 returns-clause-samples c =
-    let made = rows_made c.args.kernel.now c.args.desc c.args.valid _ (map (λ z. z) c.args.samples.now) c.of_rows-output.result _ _ c.requires.can
-    c.of_rows-output.ensures.value c.set_valid.ensures.value (c.set_valid.ensures.slices.rows ∙ c.of_rows-output.ensures.rows) c.run.ensures in
+    let made =
+    rows_made c.args.kernel.now c.args.desc c.args.valid _ (map (λ z. z) c.args.samples.now)
+    c.of_rows-output.result _ _ c.requires.can
+    c.of_rows-output.ensures.value c.set_valid.ensures.value
+    (c.set_valid.ensures.slices.rows ∙ c.of_rows-output.ensures.rows) c.run.ensures in
     map-id _ ∙ search (rules, made.0 ∙ c.requires.format, made.1)

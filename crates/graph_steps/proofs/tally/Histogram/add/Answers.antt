@@ -11,7 +11,10 @@ returns c =
     let told = c.self.told in
     let from = c.from.ensures in
     let short : c.from.result ≤ length i.counts = omega arith in
-    let long : length c.add_histogram.new.counts ≡ i.bins.bins = c.add_histogram.auto.counts ∙ length-take-le c.from.result i.counts short ∙ n in
+    let long : length c.add_histogram.new.counts ≡ i.bins.bins =
+    c.add_histogram.auto.counts ∙ length-take-le c.from.result i.counts short ∙ n in
     ap (λ l. let d : DistributionValue = record { bins = i.bins; counts = l } in d)
-    (take_at c.add_histogram.new.counts _ i.bins.bins long ∙ c.add_histogram.ensures ∙ ap (λ k. bin_sums (take k i.counts) more) n)
+    (take_at c.add_histogram.new.counts _ i.bins.bins long
+    ∙ c.add_histogram.ensures
+    ∙ ap (λ k. bin_sums (take k i.counts) more) n)
     ∙ ap (with_rows_counted c.args.rows c.args.image.now) c.self.view_is

@@ -17,7 +17,13 @@ returns c =
     let two = length-map sums (λ z. z) ∙ c.requires.sums_len in
     stored (λ z. z) (zip2 f (map pos row) (map (λ z. z) sums)) sums _
     (map-id _
-    ∙ ap (λ l. map (to_z w32) ((after bits).all 16 l c.sixteen.result)) (take_all 16 row (omega (arith, c.requires.row_len)))
-    ∙ sixteen_added s.k bits row c.sixteen.result (ap (of_z w32) (c.from.ensures ∙ to_z-of_z w16 s.k s.fits)) s.fits c.requires.row_len (ap length c.sixteen.ensures.value ∙ c.requires.sums_len) (Each1-from_get_or (Fits w8) row 0 (λ i _. c.type_inv.row i)) c.sixteen.ensures.fits
+    ∙ ap (λ l. map (to_z w32) ((after bits).all 16 l c.sixteen.result))
+    (take_all 16 row (omega (arith, c.requires.row_len)))
+    ∙ sixteen_added s.k bits row c.sixteen.result
+    (ap (of_z w32) (c.from.ensures ∙ to_z-of_z w16 s.k s.fits)) s.fits c.requires.row_len
+    (ap length c.sixteen.ensures.value ∙ c.requires.sums_len)
+    (Each1-from_get_or (Fits w8) row 0 (λ i _. c.type_inv.row i)) c.sixteen.ensures.fits
     ∙ ap (zip2 f (map pos row)) (c.sixteen.ensures.value ∙ sym (map-id sums)))
-    (length-zip2 f (map pos row) (map (λ z. z) sums) (one ∙ sym two) ∙ one ∙ sym c.requires.sums_len)
+    (length-zip2 f (map pos row) (map (λ z. z) sums) (one ∙ sym two)
+    ∙ one
+    ∙ sym c.requires.sums_len)

@@ -7,4 +7,7 @@ use Rattle.lane_rows.proofs.gradients.GradientXOfNineI16.lanes.Goals as goal
 pub returns : goal.returns
 returns c =
     let nine = c.args.nine.now in
-    map-id _ ∙ c.write_changes.ensures ∙ run-same _ _ c.args.index 32 (λ k _ _. x_is_x (three_of nine.above k) (three_of nine.here k) (three_of nine.below k))
+    map-id _
+    ∙ c.write_changes.ensures
+    ∙ run-same _ _ c.args.index 32
+    (λ k _ _. x_is_x (three_of nine.above k) (three_of nine.here k) (three_of nine.below k))

@@ -4,4 +4,5 @@ use Rattle.lane_rows.proofs.matrix_rows.MatrixRows.sum_block.Goals as goal
 
 pub returns : goal.returns
 returns c =
-    block_stored (matrix_sum c.args.self.now) c.args.index _ _ (matrix_sum_fits c.args.self.now) c.sum_rows.ensures.even c.sum_rows.ensures.odd
+    block_stored (matrix_sum c.args.self.now) c.args.index _ _ (matrix_sum_fits c.args.self.now)
+    c.sum_rows.ensures.even c.sum_rows.ensures.odd

@@ -5,7 +5,9 @@ use Rattle.lane_rows.proofs.products.ProductArithmetic.shorts.Goals as goal
 
 pub returns-clause-value : goal.returns-clause-value
 returns-clause-value g c =
-    let law = products_narrowed (g.P.Overflow.policy c.args.self.now.overflow) c.args.self.now.amount c.args.a c.args.b c.requires.a_len c.requires.b_len in
+    let law =
+    products_narrowed (g.P.Overflow.policy c.args.self.now.overflow) c.args.self.now.amount
+    c.args.a c.args.b c.requires.a_len c.requires.b_len in
     cc (
       of_bits w16 c.args.a c.requires.a_fits,
       of_bits w16 c.args.b c.requires.b_fits,

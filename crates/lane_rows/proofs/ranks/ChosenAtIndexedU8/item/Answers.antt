@@ -7,4 +7,5 @@ returns g c =
     let op = g.C.Choice.choice in
     ap pos c.chosen.ensures
     ∙ ap (λ (items : ℕ × ℕ × ℕ). pos (op (op items.0 items.1) items.2)) c.items.ensures
-    ∙ chosen_number op g.C.Choice.of_numbers g.met.C.Choice.same c.args.self.now.rows.now c.args.index
+    ∙ chosen_number op g.C.Choice.of_numbers g.met.C.Choice.same c.args.self.now.rows.now
+    c.args.index

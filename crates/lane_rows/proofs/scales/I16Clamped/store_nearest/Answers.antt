@@ -10,5 +10,7 @@ returns c =
     let ns = c.args.numbers in
     let f = narrow S16 Saturate in
     stored (λ z. z) (map f ns) c.args.out.now _
-    (map-id _ ∙ bits_back w16 c.clamped.result (map f ns) (c.clamped.ensures ∙ ap (map f) (of_bits w32 ns c.requires.fits)) (narrow_fits Saturate ns c.requires.fits))
+    (map-id _ ∙ bits_back w16 c.clamped.result (map f ns)
+    (c.clamped.ensures ∙ ap (map f) (of_bits w32 ns c.requires.fits))
+    (narrow_fits Saturate ns c.requires.fits))
     (length-map ns f ∙ c.requires.len ∙ sym c.requires.out_len)

@@ -10,5 +10,6 @@ overflow_cast-out c = each_byte c.args.numbers c.requires.len c.requires.fits
 
 pub returns : goal.returns
 returns c =
-    stored pos (map (clamp U8) c.args.numbers) c.args.out.now _ (bytes_are c.args.numbers c.requires.len c.requires.fits)
+    stored pos (map (clamp U8) c.args.numbers) c.args.out.now _
+    (bytes_are c.args.numbers c.requires.len c.requires.fits)
     (length-map c.args.numbers (clamp U8) ∙ c.requires.len ∙ sym c.requires.out_len)

@@ -3,5 +3,7 @@ use Rattle.lane_rows.proofs.threes.SumOfThreeOfThreeI16.of_three_lanes.Goals as 
 
 pub returns : goal.returns
 returns c =
-    let made = sums_made c.args.a c.args.b c.args.c c.requires.len.0 c.requires.len.1 c.requires.len.2 c.requires.limit.0 c.requires.limit.1 c.requires.limit.2 in
+    let made =
+    sums_made c.args.a c.args.b c.args.c c.requires.len.0 c.requires.len.1 c.requires.len.2
+    c.requires.limit.0 c.requires.limit.1 c.requires.limit.2 in
     record { value = made.0; most = made.1 }

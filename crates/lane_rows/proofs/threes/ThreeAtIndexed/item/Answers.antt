@@ -10,6 +10,8 @@ item-requires g c =
     let value = g.A.Item.value in
     let i = c.args.index in (
       item_taken takes value rows.first.now i _ c.requires.inside rows.limit.0,
-      item_taken takes value rows.second.now i _ (omega (arith, c.requires.inside, rows.second_len)) rows.limit.1,
-      item_taken takes value rows.third.now i _ (omega (arith, c.requires.inside, rows.third_len)) rows.limit.2,
+      item_taken takes value rows.second.now i _
+          (omega (arith, c.requires.inside, rows.second_len)) rows.limit.1,
+      item_taken takes value rows.third.now i _
+          (omega (arith, c.requires.inside, rows.third_len)) rows.limit.2,
     )

@@ -7,4 +7,10 @@ pub returns-clause-bytes : goal.returns-clause-bytes
 returns-clause-bytes c =
     let images = c.self.inside.images.items in
     let turn = vec_len c.self.inside.images - 1 in
-    omega (arith, ap (sum_by image_bytes) c.rotate_right.ensures.items, sum_by-append image_bytes (drop turn images) (take turn images), sum_by-take-drop image_bytes images turn, ap (sum_by image_bytes) c.self.view_is)
+    omega (
+      arith,
+      ap (sum_by image_bytes) c.rotate_right.ensures.items,
+      sum_by-append image_bytes (drop turn images) (take turn images),
+      sum_by-take-drop image_bytes images turn,
+      ap (sum_by image_bytes) c.self.view_is,
+    )

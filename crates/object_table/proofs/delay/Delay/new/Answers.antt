@@ -8,4 +8,6 @@ returns-clause-delay c =
     let d = c.args.desc in
     let n = c.from-count.result in
     subst IsDelay (sym c.in_ok-images.ensures.value)
-    (new_delay_is d n c.prove_sides.ensures (omega (arith, c.from-count.ensures, c.get.ensures.limits.0)) (omega (arith, c.from-count.ensures, c.get.ensures.limits.1)))
+    (new_delay_is d n c.prove_sides.ensures
+    (omega (arith, c.from-count.ensures, c.get.ensures.limits.0))
+    (omega (arith, c.from-count.ensures, c.get.ensures.limits.1)))

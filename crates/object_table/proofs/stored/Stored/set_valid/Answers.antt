@@ -11,5 +11,6 @@ put-requires-clause-size c =
     let rows = c.whole-rows.result in
     let size =
     ap (λ (samples : List ℤ). length samples) c.clear_outside.ensures.value
-    ∙ length-band width rows.start rows.count (zero_outside c.args.valid (sample_from width rows.start (values c.lift-samples.result))) in
+    ∙ length-band width rows.start rows.count
+    (zero_outside c.args.valid (sample_from width rows.start (values c.lift-samples.result))) in
     inr (grind (arith, size))

@@ -6,5 +6,9 @@ use Rattle.object_table.proofs.table.Table.take_with_valid.Goals as goal
 
 pub invariant_of-self : goal.invariant_of-self
 invariant_of-self c =
-    let there = image_there _ _ _ c.self.view_is c.args.cell _ _ c.name.ensures.value c.slot-2.ensures.value _ (sym c.in-Some.ensures.value) c.requires in
-    IsTable-written _ _ _ _ _ c.take-desc.new.self _ c.self.invariant (sym c.in-Some.ensures.value) (c.get_mut.follows.holds _).0 (ap nodes_in c.take-desc.ensures.left ∙ no_nodes _ _ _ there) c.take-desc.ensures.bytes
+    let there =
+    image_there _ _ _ c.self.view_is c.args.cell _ _ c.name.ensures.value c.slot-2.ensures.value
+    _ (sym c.in-Some.ensures.value) c.requires in
+    IsTable-written _ _ _ _ _ c.take-desc.new.self _ c.self.invariant
+    (sym c.in-Some.ensures.value) (c.get_mut.follows.holds _).0
+    (ap nodes_in c.take-desc.ensures.left ∙ no_nodes _ _ _ there) c.take-desc.ensures.bytes

@@ -12,5 +12,8 @@ loop-i-preserved c none =
     let i = c.loop-i.i in
     let number = c.short_number-number.result.0 in
     let bytes = c.short_number-number.result.1 in
-    let told : FindsNumber c.args.maxval number bytes (drop i text) = subst (FindsNumber c.args.maxval number bytes) (sym (five text i (omega arith))) (c.short_number-number.ensures now (drop (i + 5) text)) in
-    one_told c.args.maxval c.loop-i.self.numbers c.loop-i.self.bytes text i number bytes (omega arith) (omega arith) told (c.loop-i.invariant before)
+    let told : FindsNumber c.args.maxval number bytes (drop i text) =
+    subst (FindsNumber c.args.maxval number bytes) (sym (five text i (omega arith)))
+    (c.short_number-number.ensures now (drop (i + 5) text)) in
+    one_told c.args.maxval c.loop-i.self.numbers c.loop-i.self.bytes text i number bytes
+    (omega arith) (omega arith) told (c.loop-i.invariant before)

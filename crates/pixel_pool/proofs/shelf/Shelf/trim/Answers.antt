@@ -11,9 +11,13 @@ loop-self-preserved g c =
     let exceeds : IsTrim mid → ⊥ = search rules in
     record {
       lent = omega arith;
-      fewer = λ class. omega (arith, c.loop-self.invariant.fewer class, c.drop_largest.ensures.fewer class);
+      fewer =
+          λ class. omega
+          (arith, c.loop-self.invariant.fewer class, c.drop_largest.ensures.fewer class);
       classes = rw (drops.dropped, length-set) c.loop-self.invariant.classes;
       largest = largest_first old mid _ drops c.loop-self.invariant.largest;
-      no_more = no_more old mid _ c.drop_largest.ensures.classes c.loop-self.invariant.classes drops c.loop-self.invariant.largest exceeds;
+      no_more =
+          no_more old mid _ c.drop_largest.ensures.classes c.loop-self.invariant.classes drops
+          c.loop-self.invariant.largest exceeds;
       kept = λ trim. absurd (exceeds (rw (c.loop-self.invariant.kept trim) trim));
     }

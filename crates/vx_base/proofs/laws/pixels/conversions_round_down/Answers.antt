@@ -5,7 +5,9 @@ use Rattle.vx_base.proofs.laws.pixels.conversions_round_down.Goals as goal
 -- a quotient below zero, and one more
 negative : (q m a : ℕ) → q * m ≤ a → negsuc a <ℤ ((negsuc q +ℤ pos 1) *ℤ pos m)
 negative zero m a h = omega (arith, ints)
-negative (suc q) m a h = let e : negsuc (suc q) +ℤ pos 1 ≡ negsuc q = omega (arith, ints) in rw e (omega (arith, ints, h))
+negative (suc q) m a h =
+    let e : negsuc (suc q) +ℤ pos 1 ≡ negsuc q = omega (arith, ints) in
+    rw e (omega (arith, ints, h))
 
 -- one more than the quotient is too much
 nearest : (a : ℤ) (m : ℕ) → 0 < m → a <ℤ ((int_div_euclid a (pos m) +ℤ pos 1) *ℤ pos m)

@@ -17,7 +17,11 @@ is_held_spec 𝓤 𝓛 𝓜 𝓡 wired =
     (λ κs. (mut_vals, tt)) (λ κs. (mut_Tells (named 0) κs.0 H, tt)) (λ κs qs bounds a _ are.
     let b = a.0.ref_ptr.0 in let o = a.0.ref_ptr.1 in let h = a.0.now in let vs = mut_vals a.0 in
     let y : W.Ghost = ((κs, qs, bounds, a, (vs, tt)), tt) in
-    qed 𝓛 (((‵ (flft κs.0 qs.0) ⊛ ‵ ftrue) ⊛ ‵ ((MutRef (named 0) κs.0 H).own_val a.0 vs) ⊛ ‵ ftrue) ∷ ‵ ftrue ∷ []) ∵
+    qed 𝓛
+    (((‵ (flft κs.0 qs.0) ⊛ ‵ ftrue) ⊛ ‵ ((MutRef (named 0) κs.0 H).own_val a.0 vs) ⊛ ‵ ftrue)
+    ∷ ‵ ftrue
+    ∷ [])
+    ∵
     split ! $ split ! $ move ! (2 ∷ []) $ split ! $ keep ! (0 ∷ 2 ∷ []) $
     enter ! _ _ _ _ _ $ alloc_all ! (λ l. pass_all ! refl ((tt, tt), tt) $
     fsplit3 ! $ move ! (1 ∷ 2 ∷ 3 ∷ []) $ opens ! tt H b o (λ us.
@@ -25,11 +29,16 @@ is_held_spec 𝓤 𝓛 𝓜 𝓡 wired =
     let Cell = λ (ws : List Val). ‵ (cell_at full_share H.mir ws b o) in
     rewrite ! 1 Cell (lowers.val_is h us is) refl $
     -- [what the handle owns; its cell; the open borrow, in three entries]
-    sets ! (of_opd ! (load ! (through ! refl (fld ! refl (stop !))) (look_in ! 1 (sub ! 1 refl (whole !))))) refl (tt, tt) $
+    sets !
+    (of_opd !
+    (load ! (through ! refl (fld ! refl (stop !))) (look_in ! 1 (sub ! 1 refl (whole !)))))
+    refl (tt, tt) $
     rewrite ! 1 Cell (sym (lowers.val_is h us is)) refl $
     move ! (1 ∷ []) $ closes ! tt H h us b o $
     -- [two parts of self; the token; self's first part]
     returns ! (look_at ! 0 refl) $ free_all ! refl $ move ! (3 ∷ []) $
-    suffices ! _ (ends_at 𝓛 f.ended stayed c y (vbool h.held) h.held (h, tt) (tt, tt)) $ says ! (refl, refl) $
-    group ! 3 $ nothing ! $ move ! (1 ∷ 0 ∷ []) $ join ! $ nothing ! $ move ! (2 ∷ 0 ∷ []) $ join ! $ frame ! $ frame ! $
+    suffices ! _ (ends_at 𝓛 f.ended stayed c y (vbool h.held) h.held (h, tt) (tt, tt)) $ says !
+    (refl, refl) $
+    group ! 3 $ nothing ! $ move ! (1 ∷ 0 ∷ []) $ join ! $ nothing ! $ move ! (2 ∷ 0 ∷ []) $
+    join ! $ frame ! $ frame ! $
     owned ! bool _ (bool_Makes 𝓛) h.held _ refl $ done !))))

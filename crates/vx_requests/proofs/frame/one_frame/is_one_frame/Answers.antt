@@ -5,7 +5,8 @@ use Rattle.vx_requests.proofs.WholeFrames.{makes_frame, frame_says}
 use Rattle.vx_requests.proofs.frame.one_frame.is_one_frame.Goals as goal
 
 bytes_of : (bytes : List ℕ) → ((k : ℕ) → get_or bytes k 0 < 256) → All (λ b. b < 256) bytes
-bytes_of bytes each = λ k d within. subst (λ b. b < 256) (sym (get_or_default bytes k d 0 within)) (each k)
+bytes_of bytes each =
+    λ k d within. subst (λ b. b < 256) (sym (get_or_default bytes k d 0 within)) (each k)
 
 pub returns-clause-frame : goal.returns-clause-frame
 returns-clause-frame c = λ whole.
@@ -13,8 +14,13 @@ returns-clause-frame c = λ whole.
     let back = c.args.back.now in
     let said = c.said_length-length.ensures in
     makes_frame front back
-    (All-append (λ b. b < 256) front back (bytes_of front (λ k. omega (arith, c.type_inv.front k))) (bytes_of back (λ k. omega (arith, c.type_inv.back k))))
-    c.if-front-lt4.false (omega (arith, said, c.if-length-lt-LEAST_LENGTH.false), omega (arith, said, c.if-length-gt-GREATEST_LENGTH.false)) (omega (arith, said, eqb-true _ _ whole))
+    (All-append (λ b. b < 256) front back
+    (bytes_of front (λ k. omega (arith, c.type_inv.front k)))
+    (bytes_of back (λ k. omega (arith, c.type_inv.back k))))
+    c.if-front-lt4.false (
+      omega (arith, said, c.if-length-lt-LEAST_LENGTH.false),
+      omega (arith, said, c.if-length-gt-GREATEST_LENGTH.false),
+    ) (omega (arith, said, eqb-true _ _ whole))
 
 pub returns-clause-other : goal.returns-clause-other
 returns-clause-other c = λ frame is e four.

@@ -5,11 +5,16 @@ use Rattle.vx_requests.proofs.frame.requests.write_create_lut.Goals as goal
 pub returns-in_err-write_all : goal.returns-in_err-write_all
 returns-in_err-write_all g c =
     let samples = c.entries-entries.ensures in
-    let joined = create_lut_frame c.args.client c.args.lut.now _ _ _ _ samples.value samples.format c.format.ensures c.len.ensures c.create_lut_head.ensures in
-    Writes-first _ _ _ _ _ _ _ _ c.from_residual.result c.from_residual.ensures.1 joined c.in_err-write_all.ensures
+    let joined =
+    create_lut_frame c.args.client c.args.lut.now _ _ _ _ samples.value samples.format
+    c.format.ensures c.len.ensures c.create_lut_head.ensures in
+    Writes-first _ _ _ _ _ _ _ _ c.from_residual.result c.from_residual.ensures.1 joined
+    c.in_err-write_all.ensures
 
 pub returns : goal.returns
 returns g c =
     let samples = c.entries-entries.ensures in
-    let joined = create_lut_frame c.args.client c.args.lut.now _ _ _ _ samples.value samples.format c.format.ensures c.len.ensures c.create_lut_head.ensures in
+    let joined =
+    create_lut_frame c.args.client c.args.lut.now _ _ _ _ samples.value samples.format
+    c.format.ensures c.len.ensures c.create_lut_head.ensures in
     Writes-then _ _ _ _ _ _ _ _ _ _ joined c.in_ok-write_all.ensures c.write_samples.ensures

@@ -9,7 +9,9 @@ pub returns-in_err-done-clause-err : goal.returns-in_err-done-clause-err
 returns-in_err-done-clause-err g c =
     let p = err_from_is_err_and c.from_residual.result c.from_residual.ensures.1 in
     let before = c.loop-done.invariant in
-    rw (p.1, p.2) (part_of_samples g.S.WideSample.value _ _ _ g.S.WideSample.format c.loop-done.done _ _ c.loop-done.samples _ before.within (search rules) before.samples c.in_err-done.ensures.err)
+    rw (p.1, p.2)
+    (part_of_samples g.S.WideSample.value _ _ _ g.S.WideSample.format c.loop-done.done _ _
+    c.loop-done.samples _ before.within (search rules) before.samples c.in_err-done.ensures.err)
 
 pub loop-done-preserved : goal.loop-done-preserved
 loop-done-preserved g c =
@@ -17,7 +19,17 @@ loop-done-preserved g c =
     let read = c.in_ok-done.ensures in
     record {
       within = search rules;
-      samples = reads_piece g.S.WideSample.value _ _ _ g.S.WideSample.format c.loop-done.done c.in_ok-done.field-0 c.loop-done.samples c.read_piece.new.samples before.within read.within before.samples read.ok;
+      samples =
+          reads_piece g.S.WideSample.value _ _ _ g.S.WideSample.format c.loop-done.done
+          c.in_ok-done.field-0 c.loop-done.samples c.read_piece.new.samples before.within
+          read.within before.samples read.ok;
       counted = KeepsCount-more _ _ _ _ _ _ _ 0 before.counted read.counted;
-      sparing = omega (arith, before.sparing, read.sparing, add-mul c.loop-done.done c.in_ok-done.field-0 (sample_bytes g.S.WideSample.format));
+      sparing =
+          omega (
+            arith,
+            before.sparing,
+            read.sparing,
+            add-mul c.loop-done.done c.in_ok-done.field-0
+                (sample_bytes g.S.WideSample.format),
+          );
     }

@@ -5,4 +5,5 @@ use Rattle.vx_requests.proofs.AnswerCodes.{answer-other}
 use Rattle.vx_requests.proofs.laws.streams.lost_shows.Goals as goal
 
 pub returns : goal.returns
-returns c = λ limits start marked. lost_shows_after (answer limits) (answer-other limits) start [] marked
+returns c =
+    λ limits start marked. lost_shows_after (answer limits) (answer-other limits) start [] marked

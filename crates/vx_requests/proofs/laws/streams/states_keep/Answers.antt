@@ -7,4 +7,5 @@ returns-clause-limits c = frames_keep
 
 pub returns-clause-images : goal.returns-clause-images
 returns-clause-images c = λ limits state frames cell are kept.
-    images_are limits (after (answer limits) state frames) cell (frames_keep limits state frames are kept)
+    images_are limits (after (answer limits) state frames) cell
+    (frames_keep limits state frames are kept)

@@ -10,4 +10,5 @@ returns-in_err-skip-clause-answered g c = λ limits states.
 
 pub returns-clause-answered : goal.returns-clause-answered
 returns-clause-answered g c = λ limits states.
-    lost_body limits _ _ states c.args.client c.args.op c.args.count c.requires.long c.in_ok-skip.ensures.ok
+    lost_body limits _ _ states c.args.client c.args.op c.args.count c.requires.long
+    c.in_ok-skip.ensures.ok

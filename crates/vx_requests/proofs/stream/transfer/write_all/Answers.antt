@@ -7,6 +7,15 @@ pub loop-rest-preserved : goal.loop-rest-preserved
 loop-rest-preserved g c =
     let (done, split, appended) = c.loop-rest.invariant.taken in
     record {
-      taken = writes_more _ _ _ _ done c.loop-rest.rest.now c.in-Ok.count split appended c.in-Ok.ensures.bytes;
-      failed = omega (arith, c.loop-rest.invariant.failed, c.in-Ok.ensures.failed, failed_writes-some Failed c.in-Ok.count c.loop-rest.rest.now c.in-Ok.count-test.1);
+      taken =
+          writes_more _ _ _ _ done c.loop-rest.rest.now c.in-Ok.count split appended
+          c.in-Ok.ensures.bytes;
+      failed =
+          omega (
+            arith,
+            c.loop-rest.invariant.failed,
+            c.in-Ok.ensures.failed,
+            failed_writes-some
+                Failed c.in-Ok.count c.loop-rest.rest.now c.in-Ok.count-test.1,
+          );
     }

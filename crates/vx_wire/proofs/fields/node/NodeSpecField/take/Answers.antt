@@ -14,5 +14,7 @@ of-requires c =
       out1 = c.in_ok-in2.out1;
       out2 = c.in_ok-in2.out2;
     } in
-    is_node-from_parameters n c.parameters-parameters.result c.parameters-parameters.ensures c.in_ok-policy.ensures.has c.in_ok-amount.ensures.has
-    c.in_ok-in1.ensures.has c.in_ok-in2.ensures.in2 c.in_ok-in2.ensures.out1 c.in_ok-in2.ensures.out2
+    is_node-from_parameters n c.parameters-parameters.result c.parameters-parameters.ensures
+    c.in_ok-policy.ensures.has c.in_ok-amount.ensures.has
+    c.in_ok-in1.ensures.has c.in_ok-in2.ensures.in2 c.in_ok-in2.ensures.out1
+    c.in_ok-in2.ensures.out2
