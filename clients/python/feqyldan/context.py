@@ -359,8 +359,7 @@ class Context(Uncopied):
         stretch, self._pipeline, self._stretch = self._stretch, None, None
         if stretch is not None and self._connection.fault is None:
             self._connection.wait()
-            if not stretch.is_told:
-                stretch.raise_first()
+            stretch.raise_untold()
 
     def _look_at_thread(self, words: str) -> None:
         if threading.get_ident() in self._barred:

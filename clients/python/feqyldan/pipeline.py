@@ -52,6 +52,11 @@ class Stretch:
             self.is_told = True
             raise error
 
+    def raise_untold(self) -> None:
+        """Raises the first refusal, if there is one, unless it was raised before."""
+        if not self.is_told:
+            self.raise_first()
+
     def raise_before(self, request: Request) -> None:
         """Raises the first refusal, if its request was sent before the given one. The reply to the
         given request has come."""
@@ -194,8 +199,7 @@ class Pipeline(Uncopied):
         self._context._connection.wait()
         stretch, self._stretch = self._stretch, Stretch()
         self._context._stretch = self._stretch
-        if not stretch.is_told:
-            stretch.raise_first()
+        stretch.raise_untold()
 
     def _take(self, request: Request) -> None:
         """Numbers a request that is sent within the pipeline, and notes it if it is refused."""
@@ -225,8 +229,7 @@ class Pipeline(Uncopied):
         self._context._pipeline = None
         if error is None:
             self._context._connection.wait()
-            if not self._stretch.is_told:
-                self._stretch.raise_first()
+            self._stretch.raise_untold()
 
     def _ask(self, words: str, make: Callable[[int], bytes],
              decode: Callable[[memoryview], Value],

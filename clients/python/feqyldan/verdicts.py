@@ -284,7 +284,7 @@ def _fault_of(member: Member, known: Dict[bytes, Cell],
     in1 = known[member.in1.reference]
     in2 = None if member.in2 is None else known[member.in2.reference]
     node = f"{str(member)[0].upper()}{str(member)[1:]}"
-    found = _found(member, known, members, of_format)
+    found = _found(member, known, members, _of_format)
     for parameter, output in member.operands[len(member.inputs):]:
         formats = in1.fmt, None if in2 is None else in2.fmt, known[output.reference].fmt
         if formats not in TAKEN[member.function]:
@@ -297,7 +297,7 @@ def _fault_of(member: Member, known: Dict[bytes, Cell],
     for parameter, other in member.operands[1:]:
         cell = known[other.reference]
         if cell.is_image and (cell.width, cell.height) != (in1.width, in1.height):
-            found = _found(member, known, members, of_size)
+            found = _found(member, known, members, _of_size)
             words = f"{node}, has images of different sizes.{found}"
             return Verdict(wire.INVALID_DIMENSION, Fault(words, (member.number,), parameter))
     return None
@@ -310,11 +310,11 @@ def _not_taken(function: str, formats: Formats) -> int:
         taken[: at + 1] == formats[: at + 1] for taken in TAKEN[function]))
 
 
-def of_format(cell: Cell) -> Any:
+def _of_format(cell: Cell) -> Any:
     return cell.fmt
 
 
-def of_size(cell: Cell) -> Any:
+def _of_size(cell: Cell) -> Any:
     return cell.width, cell.height
 
 
@@ -325,7 +325,7 @@ def _found(member: Member, known: Dict[bytes, Cell], members: Sequence[Member],
     writers = {cell.reference: other for other in members for cell in other.outputs}
     cells = {cell.reference: cell for cell in (*member.inputs, *member.outputs)
              if part(cell) != part(known[cell.reference])}
-    return "".join(_closing(cell, writers[cell.reference], known, part is of_format)
+    return "".join(_closing(cell, writers[cell.reference], known, part is _of_format)
                    for cell in cells.values())
 
 

@@ -4,7 +4,7 @@ import os
 import signal
 from typing import Iterable
 
-from .signals import TAKEN
+from .signals import TAKEN, held
 
 # The signals that Python ignores. A program that is started expects their defaults.
 IGNORED_BY_PYTHON = (signal.SIGPIPE, signal.SIGXFSZ)
@@ -14,15 +14,12 @@ def fork() -> int:
     """Forks, and returns the child's process; 0 in the child. A signal to the child has its default
     effect, and never reaches the loop of the parent, to whose socket Python's handlers would
     write."""
-    before = signal.pthread_sigmask(signal.SIG_BLOCK, TAKEN)
-    try:
+    with held():
         process = os.fork()
         if process == 0:
             signal.set_wakeup_fd(-1)
             for which in (*TAKEN, *IGNORED_BY_PYTHON):
                 signal.signal(which, signal.SIG_DFL)
-    finally:
-        signal.pthread_sigmask(signal.SIG_SETMASK, before)
     return process
 
 

@@ -12,7 +12,7 @@ TAKEN = (signal.SIGTERM, signal.SIGINT, signal.SIGHUP, signal.SIGCHLD)
 
 @contextlib.contextmanager
 def held() -> Iterator[None]:
-    """Lets signals wait within a `with` until Signals reads them."""
+    """Lets the signals wait within a `with`: until its end, or until Signals reads them."""
     before = signal.pthread_sigmask(signal.SIG_BLOCK, TAKEN)
     try:
         yield

@@ -42,8 +42,7 @@ class Run:
         self._input = next((name for name, described in contents["objects"].items()
                             if isinstance(described, dict) and described.get("input")), "")
         self.draft = bench.draft(context, contents)
-        self._described = {name: digest([told, state_in(bench.path, told)])
-                           for name, told in contents["objects"].items()}
+        self._described = described_in(bench.path, contents)
         self._keys = self._keys_on_picture()
         self.draft.fill_with(self._write_input)
         self.faults, self.waiting = self.draft.faults, self.draft.waiting
@@ -224,8 +223,13 @@ class RememberingRun(Run):
 
 def digest_of(bench: Bench, contents: Dict[str, Any]) -> str:
     """Returns a digest of a graph file's contents, with the states of the files that it names."""
-    return digest([bench.path, contents, [state_in(bench.path, described)
-                                          for described in contents["objects"].values()]])
+    return digest([bench.path, contents, described_in(bench.path, contents)])
+
+
+def described_in(graph: str, contents: Dict[str, Any]) -> Dict[str, str]:
+    """Returns a digest of each object of a graph file, with the state of the file that it names."""
+    return {name: digest([told, state_in(graph, told)])
+            for name, told in contents["objects"].items()}
 
 
 def shown(thing: Any, mark: str, read: Result[Any],
