@@ -3,7 +3,7 @@
 //! After a failure, `main` prints a message to standard error, and exits with the failure's status.
 #![tactic(auto)]
 
-use std::io::BufWriter;
+use std::io::{BufWriter, Print};
 use std::process::ExitCode;
 use std::{env, io};
 use vx_base::Code;
@@ -11,6 +11,18 @@ use vx_programs::{Ended, run};
 
 /// The size in bytes of the buffer for replies.
 const REPLY_BUFFER: usize = 65_536;
+
+/// The size in bytes of the stack that the program gets at its start. Requests take less.
+const STACK: usize = 196_608;
+
+/// Lets the system provide the stack. Later, images may have taken all address space that the
+/// program may have (`ulimit -v`), and the system would end it when a function needs more stack.
+#[inline(never)]
+fn provide_stack(rt: &HostRuntime) {
+    let room = [0u8; STACK];
+    // Writes nothing. The array has to be in memory, since the system gets its address.
+    let _ = rt.stdout().write_some(&room[..0]);
+}
 
 /// Returns the words of the command line without the program's name.
 fn words(rt: &HostRuntime) -> Result<Vec<String>, Ended> {
@@ -34,6 +46,7 @@ fn run_process(rt: &HostRuntime) -> Result<(), Ended> {
 }
 
 fn main(rt: HostRuntime) -> ExitCode {
+    provide_stack(&rt);
     match run_process(&rt) {
         Ok(()) => ExitCode::SUCCESS,
         Err(ended) => {

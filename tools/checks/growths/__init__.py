@@ -17,6 +17,7 @@ from checks.growths.kept import check_kept
 from checks.growths.refusing import (
     NEVER_LOST, NOT_STARTED, Refusing, check, op_of, refuse_each, refuse_in_apply)
 from checks.growths.session import first_objects, session
+from checks.growths.space import check_space
 from checks.sessions.images import pictures_in_long_bodies
 from checks.sessions.nodes import counts_and_tables, nodes_that_run
 from checks.sessions.statistics import histograms, places_of_extremes
@@ -80,10 +81,12 @@ def check_lost(program: str, library: str, counts: str) -> Iterator[str]:
 def main() -> None:
     check(len(sys.argv) == 2, "usage: tools/refused_growths PROGRAM")
     program = os.path.abspath(sys.argv[1])
+    space = check_space(program)
     with shim.built("growths/refuse_growth.c") as library, tempfile.TemporaryDirectory() as folder:
         counts = os.path.join(folder, "counts")
         said = [*check_lost(program, library, counts),
                 check_kept(Refusing([program, "serve"], library, counts))]
         applying = Refusing([program, "apply", "box", "--border=replicate"], library, counts)
         applied, without = refuse_in_apply(applying)
-    print(f"refused_growths: {'; '.join(said)}; {applied} of apply, which does without {without}")
+    print(f"refused_growths: {'; '.join(said)}; {applied} of apply, which does without {without}; "
+          f"{space}")

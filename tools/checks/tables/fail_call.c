@@ -36,7 +36,8 @@ ssize_t read(int file, void *bytes, size_t count) {
 ssize_t write(int file, const void *bytes, size_t count) {
   static long calls;
   call whole = (call)dlsym(RTLD_NEXT, "write");
-  if (file != STDOUT_FILENO)
+  /* The program provides its stack by a write of nothing, which doesn't count. */
+  if (file != STDOUT_FILENO || count == 0)
     return whole(file, (void *)bytes, count);
   calls += 1;
   if (fails("FAIL_WRITE", calls)) {
