@@ -19,7 +19,7 @@ from typing import (
 from . import wire
 from .connection import GREATEST_REQUEST, Body, Connection, Explain, Part, Request
 from .direct import DirectConnection
-from .errors import Closed, Fault, FeqyldanError, InvalidScope
+from .errors import Closed, Fault, FeqyldanError, InvalidScope, NestedCall
 from .files import picture_in
 from .forks import HELD
 from .functions import FUNCTIONS, Call, Functions, functions_for_names
@@ -97,7 +97,8 @@ class Context(Uncopied):
     """
 
     __slots__ = ("_server", "_connection", "_number", "_pipeline", "_stretch", "_alive", "_dead",
-                 "_unclaimed", "_releasing", "_used", "_barred", "_is_closed", "__weakref__")
+                 "_unclaimed", "_releasing", "_used", "_barred", "_is_closed", "_is_unsettled",
+                 "__weakref__")
 
     def __init__(self, server: Server, connection: Union[Connection, DirectConnection],
                  number: int) -> None:
@@ -119,6 +120,8 @@ class Context(Uncopied):
         # The threads that may not use the context: they run the iterators of its streams.
         self._barred: Set[int] = set()
         self._is_closed = False
+        # Whether an interruption may have come before the reply to a request for a change.
+        self._is_unsettled = False
         self._tell("open a context", wire.open_context)
 
     @property
@@ -416,11 +419,32 @@ class Context(Uncopied):
 
     def _tell(self, words: str, make: Callable[..., bytes], *arguments: Any,
               content: Optional[Part] = None,
-              explain: Optional[Explain] = None) -> None:
+              explain: Optional[Explain] = None,
+              on_answer: Optional[Callable[[memoryview], None]] = None) -> None:
         """Sends a request without a result; waits for its reply unless a pipeline is open."""
-        request = self._send(words, make, arguments, content, explain, waits=True)
+        request = self._send(words, make, arguments, content, explain, on_answer, waits=True)
         if self._pipeline is None or self._pipeline() is None:
             self._await_reply_to(request)
+
+    def _change(self, words: str, make: Callable[..., bytes], *arguments: Any,
+                note: Callable[[], None]) -> None:
+        """
+        Sends a request that changes what this package knows of the server, as _tell() does. When
+        the reply comes, also after an interruption, `note` is called unless it is a refusal. In a
+        pipeline it is called at once. It may be called twice.
+        """
+        self._is_unsettled = True
+        self._tell(words, make, *arguments, on_answer=after_success(note))
+        note()
+        self._is_unsettled = False
+
+    def _settle(self) -> None:
+        """Waits for the reply to an interrupted request for a change, if there is one. Within a
+        signal's handler, or if the server has ended, does nothing."""
+        if self._is_unsettled:
+            with contextlib.suppress(FeqyldanError):
+                self._connection.wait()
+                self._is_unsettled = False
 
     def _ask(self, words: str, make: Callable[..., bytes], decode: Callable[[memoryview], Value],
              body: Optional[Body] = None, into: Optional[memoryview] = None) -> Value:
@@ -468,11 +492,15 @@ class Context(Uncopied):
         """Sends a request that adds a node to a graph, waits for the reply, and returns the node's
         number. When the reply comes, also after an interruption, `added` is called with the
         number."""
-        request = self._send(f"add {call} to {graph}", wire.add_node,
-                             (graph.name, *call.fields(self._references_of(call))), waits=True,
-                             explain=lambda code: fault_of(call, code), on_answer=lambda reply: (
+        fields = call.fields(self._references_of(call))
+        self._is_unsettled = True
+        request = self._send(f"add {call} to {graph}", wire.add_node, (graph.name, *fields),
+                             waits=True, explain=lambda code: fault_of(call, code),
+                             on_answer=lambda reply: (
                                 added(wire.node_of(reply)) if reply[7] == wire.SUCCESS else None))
-        return int(wire.node_of(self._reply_to(request)))
+        number = int(wire.node_of(self._reply_to(request)))
+        self._is_unsettled = False
+        return number
 
     def _release(self, name: int, words: str) -> None:
         """Releases an object, unless the server is known to be gone. After an interruption it may
@@ -561,17 +589,30 @@ class Context(Uncopied):
     def close(self) -> None:
         """
         Ends the context with all of its objects. Does nothing if the context was closed before, or
-        if the server is known to be gone.
+        if the server is known to be gone. After an interruption it may be called again.
         """
-        if self._why_closed is None:
-            self._pipeline, is_released = None, False
+        self._settle()
+        if self._why_closed is not None:
+            return
+        self._pipeline = None
+        if self._connection.fault is None:
+            self._is_unsettled = True
             try:
-                if self._connection.fault is None:
-                    self._tell("release the context", wire.release_context)
-                    is_released = True
-            finally:
-                self._is_closed = True
-                self._server._give_back(self, is_released)
+                self._tell("release the context", wire.release_context,
+                           on_answer=after_success(partial(self._end, True)))
+            except NestedCall:
+                # Nothing was sent.
+                raise
+            except FeqyldanError:
+                self._end(False)
+                raise
+        self._end(False)
+
+    def _end(self, is_released: bool) -> None:
+        """Notes that the context has ended, and whether the server has released it. Only the first
+        call counts; after an interruption there may be another one."""
+        self._server._give_back(self, is_released)
+        self._is_closed = True
 
     def _close_within(self, thing: Any, error: Optional[BaseException]) -> None:
         """
@@ -614,6 +655,11 @@ class Context(Uncopied):
 
     def __repr__(self) -> str:
         return f"<context of client {self._number}{', closed' if self.closed else ''}>"
+
+
+def after_success(note: Callable[[], None]) -> Callable[[memoryview], None]:
+    """Returns a function of a reply that calls `note` unless the reply is a refusal."""
+    return lambda reply: note() if reply[7] == wire.SUCCESS else None
 
 
 @contextlib.contextmanager

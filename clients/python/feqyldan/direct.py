@@ -91,8 +91,10 @@ class DirectConnection:
         # The requests of streams without a reply, and whether the last one's frame is incomplete.
         self._line: Deque[Request] = deque()
         self._is_open = False
-        # An item for each frame in the line; None until there was one.
+        # An item for each frame in the line; None until there was one. And whether the thread had
+        # no memory for a reply.
         self._wanted: Optional[SimpleQueue[Any]] = None
+        self._lacks_memory = False
         self._bells: Set[Bell] = set()
         self._bells_lock = threading.Lock()
 
@@ -130,6 +132,8 @@ class DirectConnection:
         if request is not None and request.is_ahead:
             return self._await(request, limit, wake)
         with free(self._lock, WAITING):
+            if self._last is not None:
+                self._settle()
             self._serve_line()
         return True
 
@@ -244,6 +248,10 @@ class DirectConnection:
         try:
             with self._lock:
                 self._serve_line()
+        except MemoryError:
+            # Whoever waits serves the line, and gets this error.
+            self._lacks_memory = True
+            self._ring()
         except Exception as error:
             if self._fault is None:
                 LOG.warning("the thread of a server ends: %s", error)
@@ -268,7 +276,12 @@ class DirectConnection:
             self._wake_thread()
             while request.answer is None:
                 self._refuse_if_ended()
-                if not bell.await_ring(wake, None if until is None else until - time.monotonic()):
+                left = None if until is None else until - time.monotonic()
+                if self._lacks_memory:
+                    self._lacks_memory = False
+                    with free(self._lock, request.words):
+                        self._serve_line()
+                elif not bell.await_ring(wake, left):
                     return False
         finally:
             with self._bells_lock:

@@ -105,6 +105,7 @@ class Node(Uncopied):
     def remove(self) -> None:
         """Removes the node from its graph. Does nothing if the node was removed before, or the
         graph was closed."""
+        self._graph._context._settle()
         if self._is_there and not self._graph.closed:
             self._graph._remove(self)
 
@@ -143,6 +144,7 @@ class Graph(Named, Functions[Node]):
     @property
     def nodes(self) -> Tuple[Node, ...]:
         """The nodes, in the order in which they were added."""
+        self._context._settle()
         return tuple(Node(self, number, call) for number, call in self._calls.items())
 
     @property
@@ -255,6 +257,7 @@ class Graph(Named, Functions[Node]):
         Without `inputs` nodes may read only one image that no node writes.
         """
         from .graph_files import write_graph
+        self._context._settle()
         write_graph(self, path, inputs)
 
     def watch(self) -> Watch:
@@ -288,15 +291,17 @@ class Graph(Named, Functions[Node]):
             raise TypeError(f"register_auto_aging takes a delay, not {type(delay).__name__}")
         words = f"register {delay} for auto-aging with {self}"
         self._context._look_at(words, delay)
-        self._context._tell(words, wire.register_auto_aging, self.name, delay.name)
-        self._aging.add(delay.name)
+        self._context._change(words, wire.register_auto_aging, self.name, delay.name,
+                              note=lambda: self._aging.add(delay.name))
 
     def _remove(self, node: Node) -> None:
         """Removes a node, as Node.remove() does."""
-        words = f"remove {node}"
-        self._calls = {number: call for number, call in self._calls.items()
-                       if number != node.number}
-        self._context._tell(words, wire.remove_node, self.name, node.number)
+        def note() -> None:
+            self._calls = {number: call for number, call in self._calls.items()
+                           if number != node.number}
+
+        self._context._change(f"remove {node}", wire.remove_node, self.name, node.number,
+                              note=note)
 
     def close(self) -> None:
         """Releases the graph with its nodes and its virtual images."""

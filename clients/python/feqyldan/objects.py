@@ -9,7 +9,7 @@ from typing import (
 
 from . import wire
 from .connection import Body
-from .errors import InvalidDimension, UnexpectedReply
+from .errors import InvalidDimension, NestedCall, UnexpectedReply
 from .ranges import PARAMETER_RANGES
 from .samples import Format, numbers_of
 from .uncopied import Uncopied
@@ -111,7 +111,12 @@ class Named(Uncopied):
         if not self.closed:
             self._is_closed = True
             words, self._words = self._words, f"closed {self._words}"
-            self._context._release(self.name, words)
+            try:
+                self._context._release(self.name, words)
+            except NestedCall:
+                # Nothing was sent.
+                self._is_closed, self._words = False, words
+                raise
 
     def __enter__(self: Own) -> Own:
         return self
@@ -298,7 +303,8 @@ def description_of(reply: memoryview) -> Description:
     unknown."""
     fmt, width, height, valid = wire.description_of(reply)
     if fmt not in (0, *Format):
+        known = ", ".join(f"{each.value} ({each})" for each in Format)
         raise UnexpectedReply(f"the reply describes an image of the unknown format {fmt}; the "
-                              f"formats are {', '.join(f'{each:d} ({each})' for each in Format)}")
+                              f"formats are {known}")
     return Description(Format(fmt) if fmt else None, width or None, height or None,
                        Rectangle(*valid))

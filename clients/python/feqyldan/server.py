@@ -145,10 +145,9 @@ class Server(Forked, Uncopied):
                 self._free_numbers.append(number)
 
     def _give_back(self, context: Context, is_released: bool) -> None:
-        """Takes back the client number of a context that has ended. The number is free again if the
-        server has released the context."""
-        self._alive.pop(context.number, None)
-        if is_released:
+        """Takes back the client number of a context that has ended, unless that was done before.
+        The number is free again if the server has released the context."""
+        if self._alive.pop(context.number, None) is not None and is_released:
             self._free_numbers.append(context.number)
 
     def _leave(self, context: Context) -> None:
@@ -164,8 +163,9 @@ class Server(Forked, Uncopied):
     def close(self) -> None:
         """
         Ends the server and all its contexts: waits for all replies, closes the server's input, and
-        waits for the server to end. If it doesn't end, kills it. Raises ServerEnded if the server
-        doesn't end normally. Does nothing if the server was closed before.
+        waits for the server to end. If it doesn't end within 10 seconds, kills it. Raises
+        ServerEnded if the server doesn't end normally. Does nothing if the server was closed
+        before.
         """
         if self._ended_by is not None:
             return

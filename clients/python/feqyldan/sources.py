@@ -4,9 +4,11 @@ from __future__ import annotations
 
 import atexit
 import os
+import socket
 import sys
 import threading
 import time
+import weakref
 import zlib
 from collections import deque
 from contextlib import suppress
@@ -161,84 +163,118 @@ def print_of(pixels: Any) -> int:
     return zlib.crc32(pixels[:: max(1, len(pixels) // PRINTED)].tobytes())
 
 
-class Threaded(Source, Forked):
-    """Frames that a thread takes from an iterator, one ahead, so that results can be yielded while
-    the iterator waits for a camera. The thread must not use the contexts of the stream."""
+class Taking(Forked):
+    """
+    The taking of frames from an iterator in a thread, one ahead. It ends by close(), or when Python
+    frees the Threaded that it is for: an interruption at the start of a stream leaves nobody to
+    close it.
 
-    def __init__(self, frames: Iterable[Any], contexts: Sequence[Context]) -> None:
-        self._contexts = contexts
-        self._ready: Deque[Any] = deque()
-        self._prints = Prints()
+    The thread alone uses the writer, and the stream the reader. So no lock is needed, which an
+    interruption might leave locked.
+    """
+
+    def __init__(self, contexts: Sequence[Context]) -> None:
+        self.contexts = contexts
+        self.error: Optional[BaseException] = None
+        self.ready: Deque[Any] = deque()
+        self.prints = Prints()
         # An item for each frame that may be taken. A semaphore is written in Python, and an
         # interruption within it might leave it locked.
-        self._wanted: SimpleQueue[None] = SimpleQueue()
-        self._wanted.put(None)
-        self._lock = threading.Lock()
-        self._is_closed = self._is_over = False
-        taker = Taker(self._take_all, iter(frames), self.close)
-        self.descriptor, self._writer = os.pipe()
+        self.wanted: SimpleQueue[Any] = SimpleQueue()
+        self.wanted.put(None)
+        self.is_closed = self.is_over = False
+        self.reader, self.writer = socket.socketpair()
         HELD.add(self)
-        taker.start()
+
+    def start_for(self, owner: Threaded, frames: Iterator[Any]) -> None:
+        # The callback, which wakes the thread, is in C: no interruption is lost in it.
+        self.owner = weakref.ref(owner, self.wanted.put)
+        try:
+            Taker(self.take_all, frames, self.close).start()
+        except RuntimeError as error:
+            # What an interruption within start() may become.
+            if isinstance(error.__context__, KeyboardInterrupt):
+                raise error.__context__ from None
+            raise
 
     def _lose(self) -> None:
-        # The thread, which may hold the lock, isn't here.
-        self._lock, self._is_closed = threading.Lock(), True
+        # The thread isn't here.
+        self.is_closed = True
         self.error = Closed(f"run the stream: {FORKED}")
 
-    def _take_all(self, frames: Iterator[Any]) -> None:
+    def take_all(self, frames: Iterator[Any]) -> None:
         thread = threading.get_ident()
-        for context in self._contexts:
+        for context in self.contexts:
             context._barred.add(thread)
         try:
-            self._take_each(frames)
+            self.take_each(frames)
         finally:
             # Another thread may get the same thread number.
-            for context in self._contexts:
+            for context in self.contexts:
                 context._barred.discard(thread)
+            self.writer.close()
 
-    def _take_each(self, frames: Iterator[Any]) -> None:
+    def take_each(self, frames: Iterator[Any]) -> None:
         try:
             for frame in frames:
-                self._prints.take(frame)
-                self._ready.append(frame)
-                self._tell()
-                self._wanted.get()
-                if self._is_closed:
+                self.prints.take(frame)
+                self.ready.append(frame)
+                self.tell()
+                self.wanted.get()
+                if self.owner() is None:
+                    self.close()
+                if self.is_closed:
                     return
         except BaseException as error:
             self.error = error
-        self._is_over = True
-        self._tell()
+        self.is_over = True
+        self.tell()
 
-    def _tell(self) -> None:
-        with self._lock:
-            if not self._is_closed:
-                os.write(self._writer, b"\0")
+    def tell(self) -> None:
+        # Fails once the reader is closed.
+        with suppress(OSError):
+            self.writer.send(b"\0", socket.MSG_NOSIGNAL)
+
+    def close(self) -> None:
+        self.is_closed = True
+        self.reader.close()
+        self.wanted.put(None)
+
+
+class Threaded(Source):
+    """Frames that a thread takes from an iterator, so that results can be yielded while the
+    iterator waits for a camera. The thread must not use the contexts of the stream."""
+
+    def __init__(self, frames: Iterable[Any], contexts: Sequence[Context]) -> None:
+        taken = iter(frames)
+        self._taking = Taking(contexts)
+        self.descriptor = self._taking.reader.fileno()
+        self._taking.start_for(self, taken)
+
+    @property
+    def error(self) -> Optional[BaseException]:  # type: ignore[override]
+        return self._taking.error
 
     @property
     def has_frame(self) -> bool:
-        return bool(self._ready) and not self._is_closed
+        return bool(self._taking.ready) and not self._taking.is_closed
 
     @property
     def has_ended(self) -> bool:
-        return self._is_closed or self._is_over and not self._ready
+        taking = self._taking
+        return taking.is_closed or taking.is_over and not taking.ready
 
     def take(self) -> Any:
         os.read(self.descriptor, 1)
-        frame = self._ready.popleft()
-        self._wanted.put(None)
+        frame = self._taking.ready.popleft()
+        self._taking.wanted.put(None)
         return frame
 
     def let_go(self, frame: Any) -> None:
-        self._prints.let_go(frame)
+        self._taking.prints.let_go(frame)
 
     def close(self) -> None:
-        with self._lock:
-            if not self._is_closed:
-                self._is_closed = True
-                os.close(self.descriptor)
-                os.close(self._writer)
-        self._wanted.put(None)
+        self._taking.close()
 
 
 def source_of(frames: Iterable[Any], contexts: Sequence[Context]) -> Source:

@@ -18,7 +18,7 @@ from unittest import mock
 
 from program import CORE, HERE, PROGRAM, needs_program, vx
 from feqyldan import core, program, samples, wire
-from feqyldan.connection import Body, Request
+from feqyldan.connection import Body, Buffers, Request
 from feqyldan.core import Core
 from feqyldan.direct import DirectConnection
 from test_interruptions import Everywhere, Loop, interrupting
@@ -560,6 +560,18 @@ class TestStreams(CoreTest):
             graph = context.graph()
             graph.not_(part, out)
             yield vx.Station(graph, part, out)
+
+    def test_replies_without_memory(self):
+        """The stream raises MemoryError, as other calls do, and the context goes on."""
+        station, = self.stations(1)
+        pictures = [bytes([shade]) * 640 * 480 for shade in range(5)]
+        with mock.patch.object(Buffers, "take", side_effect=MemoryError):
+            self.assertRaises(MemoryError, list,
+                              station.graph.stream(pictures, station.camera, station.out))
+            self.assertRaises(MemoryError, station.out.read)
+        got = [(frame[0], out[0, 0])
+               for frame, out in station.graph.stream(pictures, station.camera, station.out)]
+        self.assertEqual(got, [(shade, 255 - shade) for shade in range(5)])
 
     def test_the_order_of_several_servers(self):
         stations = list(self.stations(3))

@@ -23,6 +23,7 @@ from program import SERVED, ProgramTest, answering, needs_program, of_a_process,
 from feqyldan import pages, samples, wire
 from feqyldan.connection import Body, Connection, Request
 from feqyldan.pipes import enlarge
+from feqyldan.sources import Taker
 from test_processes import ProcessTest
 
 OPENED = wire.reply_frame(0, wire.OPEN_CONTEXT)
@@ -367,7 +368,129 @@ class TestEachLine(unittest.TestCase):
         self.assertGreater(number, 100)
 
 
+class TestChanges(ProgramTest):
+    """After an interruption before each line in turn, the package and the server agree."""
+
+    FILES = ("connection.py", "context.py", "direct.py", "graphs.py", "server.py")
+
+    def interruptions(self, call_of):
+        """Calls what `call_of` returns, interrupted before each line in turn, and yields after each
+        interruption, and in the end without one."""
+        number, is_interrupted = 0, True
+        while is_interrupted:
+            number += 1
+            is_interrupted = Everywhere(number, self.FILES).interrupts(call_of())
+            yield
+        self.assertGreater(number, 30)
+
+    def agree(self, graph, out):
+        """Fails unless the server runs the nodes of a graph: none, or one that inverts 1."""
+        nodes = graph.nodes
+        out.fill(0)
+        graph.process()
+        self.assertEqual(out.read()[0, 0], 254 * len(nodes))
+
+    def test_adding_a_node(self):
+        part, out = self.context.image_from([[1]]), self.context.image(vx.U8, 1, 1)
+        graphs = []
+
+        def call():
+            graphs.append(self.context.graph())
+            return lambda: graphs[-1].not_(part, out)
+
+        for _ in self.interruptions(call):
+            self.agree(graphs.pop(), out)
+
+    def test_removing_a_node(self):
+        part, out = self.context.image_from([[1]]), self.context.image(vx.U8, 1, 1)
+        nodes = []
+
+        def call():
+            nodes.append(self.context.graph().not_(part, out))
+            return nodes[-1].remove
+
+        for _ in self.interruptions(call):
+            node = nodes.pop()
+            self.agree(node.graph, out)
+            node.remove()
+            self.assertEqual(node.graph.nodes, ())
+            self.agree(node.graph, out)
+
+    def test_closing_a_context(self):
+        """It can be closed again, and the server has released it."""
+        contexts = []
+
+        def call():
+            contexts.append(self.server.context())
+            contexts[-1].image(vx.U8, 8, 8)
+            return contexts[-1].close
+
+        for _ in self.interruptions(call):
+            context = contexts.pop()
+            context.close()
+            self.assertTrue(context.closed)
+            # Refused if the server still has a context with this number.
+            type(context)(self.server, self.server._connection, context.number).close()
+
+    def test_a_handler_that_changes_something(self):
+        """What interrupts a call of the server is refused, changes nothing, and can be done
+        later."""
+        part, out = self.context.image_from([[1]]), self.context.image(vx.U8, 1, 1)
+        node, delay = self.context.graph().not_(part, out), self.context.delay(part, 2)
+        image, other = self.context.image(vx.U8, 8, 8), self.server.context()
+        changes = node.remove, image.close, other.close, delay.close
+        objects, is_nested, way = self.context.usage().objects, [], type(self.server._connection)
+        name = "_wait" if way is Connection else "_serve"
+        kept = getattr(way, name)
+
+        def within_a_call(*arguments):
+            for change in changes if not is_nested else ():
+                self.assertRaises(vx.NestedCall, change)
+            is_nested.append(True)
+            return kept(*arguments)
+
+        with mock.patch.object(way, name, within_a_call):
+            part.read()
+        self.assertTrue(is_nested)
+        self.assertEqual([one.number for one in node.graph.nodes], [node.number])
+        self.assertFalse(image.closed or delay.closed or other.closed)
+        self.assertEqual((image.read().shape, self.context.usage().objects), ((8, 8), objects))
+        for change in changes:
+            change()
+        self.agree(node.graph, out)
+        self.assertTrue(image.closed and delay.closed and other.closed)
+        self.assertEqual(self.context.usage().objects, objects - 2)
+
+
 class TestStreams(ProgramTest):
+    def test_each_line_of_the_start(self):
+        """The iterator ends, and its thread too."""
+        loop, number, is_interrupted = Loop(self.context, 4, 4, False), 0, True
+        while is_interrupted:
+            number += 1
+            begun, ended = [], []
+
+            def frames(begun=begun, ended=ended):
+                begun.append(True)
+                try:
+                    yield from loop.pictures
+                finally:
+                    ended.append(True)
+
+            def start(frames=frames):
+                for _ in loop.graph.stream(frames(), loop.part, loop.out):
+                    pass
+
+            files = "streams.py", "sources.py"
+            is_interrupted = Everywhere(number, files).interrupts(start)
+            for thread in threading.enumerate():
+                if isinstance(thread, Taker):
+                    thread.join(10)
+                    self.assertFalse(thread.is_alive(), number)
+            self.assertEqual(ended, begun, number)
+            loop.one(loop.pictures[0])
+        self.assertGreater(number, 50)
+
     def interrupted(self, number):
         """Returns whether a stream was interrupted at the n-th line or return of its code or the
         locks that it uses. The stream ends, and another one goes on."""

@@ -193,7 +193,7 @@ class TestRefusedFrames(StationTest):
                                           "sent already: frames 2 and 3"),
                 ([done[0], skipped, done[2]], done, "sent already: frame 3"),
                 ([full, skipped, done[2]], [full, skipped, done[2]],
-                 "The graph ran for frame 1 only. The machine had no memory")):
+                 "The graph ran for frame 1 only. The machine, or the limit of")):
             # It answers when all three frames were sent.
             replies = OPENED, *made, *8 * [b""], b"".join((*done, *second, *third))
             with vx.Server(answering(*replies, end="source.read()")) as server:
@@ -550,11 +550,10 @@ import os
 from feqyldan.sources import Threaded
 
 source = Threaded(iter([[[1]]]), [])
-with source._lock:
-    child = os.fork()
-    if child == 0:
-        source.close()
-        os._exit(0)
+child = os.fork()
+if child == 0:
+    source.close()
+    os._exit(0)
 print(os.waitpid(child, 0)[1])
 source.close()
 """
@@ -584,7 +583,7 @@ with vx.Server() as server, server.context() as context:
 
 
 class TestForks(ProcessTest):
-    def test_while_the_thread_of_an_iterator_holds_a_lock(self):
+    def test_while_the_thread_of_an_iterator_runs(self):
         said = self.start(FORKED).communicate(timeout=PATIENCE)[0]
         self.assertEqual(said, "0\n")
 
