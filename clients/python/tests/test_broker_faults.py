@@ -253,6 +253,12 @@ class Memory(BrokerTest):
         self.assertLessEqual(broker.state()["bytes_held"], 5_000_000)
         self.assertEqual(self.connect(broker).ask(plain(50)), success(50))
 
+    def test_a_reply_larger_than_all_that_may_be_held(self) -> None:
+        broker = self.begin("--total-held", "5000000")
+        self.connect(broker).send(plain(MANY_BYTES, struct.pack(">I", 6_000_000)))
+        self.assertTrue(broker.says("its frames and replies need 6000008 bytes, the most of "
+                                    "6000008 in all, and no more are held (--total-held)"))
+
     def test_replies_that_nobody_takes_end_no_other_connection(self) -> None:
         broker = self.begin("--total-held", "5000000", tells_state=True)
         deaf = [self.connect(broker) for _ in range(4)]

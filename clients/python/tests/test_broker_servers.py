@@ -13,6 +13,7 @@ import subprocess
 import sys
 import tempfile
 import unittest
+from collections import deque
 from typing import IO, Any, Dict, Union
 from unittest import mock
 
@@ -25,6 +26,7 @@ from feqyldan.service import machine
 from feqyldan.service.options import part_of_memory
 from feqyldan.broker.command_line import servers_unless_told
 from feqyldan.broker.memory import MEMORY_PART
+from feqyldan.broker.server import ARRIVAL_TURNS, Server
 from plain_server import HOLD, MANY_BYTES, REFUSE, WHO_ASKED
 
 # What a line says of this program's connections.
@@ -42,6 +44,16 @@ class Servers(BrokerTest):
             self.assertEqual(program.ask(plain(1)), success(1))
         opened = [[client for client, op in program.who_asked() if op == 1] for program in programs]
         self.assertEqual(opened, [[k % 4, k % 4 + 4] for k in range(8)])
+
+    def test_a_new_connection_waits_for_some_turns(self) -> None:
+        """Whether these are short or long."""
+        server = Server(mock.Mock(), mock.Mock(), deque(), lambda: None)
+        for seconds in (1e-5, 1.0):
+            for _ in range(50):
+                server.end(mock.Mock(connection=mock.Mock(used=0.0), seconds=seconds, count=1), 0.0)
+            arrived = mock.Mock()
+            server.add(arrived)
+            self.assertAlmostEqual(arrived.used / seconds, ARRIVAL_TURNS, places=1)
 
     def test_unless_told_there_are_as_many_as_processors_and_at_most_eight(self) -> None:
         every = os.sched_getaffinity(0)

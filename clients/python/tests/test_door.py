@@ -233,6 +233,7 @@ class Ends(DoorTest):
         deaf.send(wire.open_context(CLIENT) + wire.create_image(CLIENT, wire.U8, 4096, 4096)
                   + wire.read_image(CLIENT, 1))
         self.assertTrue(self.has_nothing(door))
+        self.assertTrue(door.says("ended: its program took no reply for 1 s (--patience)"))
 
     @needs_program
     def test_who_sends_nothing_is_ended_where_that_is_told(self) -> None:
@@ -241,6 +242,8 @@ class Ends(DoorTest):
         self.assertEqual(wire.code_of(idle.ask(wire.open_context(CLIENT))), wire.SUCCESS)
         half.send(wire.open_context(CLIENT)[:5])
         self.assertTrue(idle.has_ended() and half.has_ended())
+        self.assertTrue(door.says("ended: its program sent no request for 1 s (--idle), or took no "
+                                  "reply for 30 s (--patience)"))
 
     def test_what_was_sent_is_answered_when_the_door_is_told_to_end(self) -> None:
         for which in (signal.SIGTERM, signal.SIGINT):

@@ -166,12 +166,14 @@ class Broker(Front):
             self.settle(connection)
 
     def end_greatest(self, why: str, growing: Optional[Connection] = None, more: int = 0) -> None:
-        """Ends the connection that holds the most bytes, if `growing` held `more` bytes."""
-        greatest = max(self.open, key=lambda one: one.bytes_held + more * (one is growing),
-                       default=None)
+        """Ends the connection that would hold the most bytes, if `growing` held `more` bytes."""
+        def held(one: Connection) -> int:
+            return one.bytes_held + more * (one is growing)
+
+        greatest = max(self.open, key=held, default=None)
         if greatest is not None:
-            self.end(greatest, f"{greatest.bytes_held} bytes of its frames or replies wait, the "
-                               f"most of {self.total.bytes} in all, and {why}")
+            self.end(greatest, f"its frames and replies need {held(greatest)} bytes, the most of "
+                               f"{self.total.bytes + more} in all, and {why}")
 
     def receive(self, connection: Connection) -> None:
         if connection.incoming.receive(connection.sock):

@@ -24,9 +24,9 @@ CODE = 7
 # The length of the buffer for replies, in bytes: enough except for those that have samples. Python
 # keeps memory for objects of this size.
 SHORT_REPLY = 256
-# The seconds of a server's time that a new connection counts as having used. So the connections in
-# line get their turn, however many connections come and go.
-ARRIVAL_SECONDS = 0.01
+# A new connection counts as having used the time of ARRIVAL_TURNS average turns, among about the
+# last AVERAGED. So the connections in line get their turn, however many connections come and go.
+ARRIVAL_TURNS, AVERAGED = 4, 8
 # A connection's turn is put off if its last turn took LONG_TURN seconds or more, and a connection
 # that had used less was just answered. It is put off by a part of that last turn, at most
 # MOST_PUT_OFF seconds. So a program that sends one request after another waits for one long turn,
@@ -134,6 +134,8 @@ class Server:
         self.turn: Optional[Turn] = None
         self.begun: "SimpleQueue[Turn]" = SimpleQueue()
         self.requests = 0
+        # The average seconds of the last turns.
+        self.average = 0.0
         # The connection of the last turn, and when that turn ended.
         self.last: Optional[Connection] = None
         self.turned_at = 0.0
@@ -143,7 +145,8 @@ class Server:
 
     def add(self, connection: Connection) -> None:
         """Adds a connection that has sent no request yet."""
-        connection.server, connection.used = self, self.line.now + ARRIVAL_SECONDS
+        connection.server = self
+        connection.used = self.line.now + ARRIVAL_TURNS * self.average
         self.members.add(connection)
 
     def puts_off(self, now: float) -> bool:
@@ -171,6 +174,7 @@ class Server:
         self.turn = connection.turn = None
         connection.used += turn.seconds
         connection.took = turn.seconds
+        self.average += (turn.seconds - self.average) / AVERAGED
         self.last, self.turned_at, connection.served_at = connection, now, now
         self.requests += turn.count
 

@@ -11,9 +11,11 @@ from ..service.metrics import ACCEPTED, MEMORY, metric, metrics_of, metrics_of_s
 MEANINGS = {
     2: "its arguments are refused", 3: "its connection's frames have a fault, or ended within one",
     5: "there was no memory to start with"}
-# The exit statuses of servers whose connection ended: by its end between two frames, or while the
+# The exit status of a server whose connection failed: its program was late, or left while the
 # server wrote a reply.
-USUAL = (0, 4)
+LATE = 4
+# The exit statuses of servers whose connection ended between two frames, or failed.
+USUAL = (0, LATE)
 # The same after the connection ended: then the door kills the server, perhaps within a frame.
 USUAL_ENDS = (*USUAL, 3, -signal.SIGKILL)
 

@@ -13,7 +13,7 @@ from ..service.front import Front
 from ..service.lines import Unusable
 from ..service.listener import Listener
 from ..service.signals import Signals
-from .counts import USUAL, USUAL_ENDS, Counts, as_metrics, meaning_of
+from .counts import LATE, USUAL, USUAL_ENDS, Counts, as_metrics, meaning_of
 from .program import NICE, Failures, Plan, Program, Trial, set_nice
 from .server import Server
 from .waiting import Waiting
@@ -203,11 +203,14 @@ class Door(Front):
             self.admission.turn_away(server.sock, server.owner,
                                      f"no server could be started: {reason}")
             return
+        is_late = status == LATE and not server.has_left and not has_ended(server.sock)
         self.descriptors.close(server.sock)
         self.counts.ended += 1
         if status not in (USUAL_ENDS if server.has_left else USUAL):
             self.counts.failed += 1
             self.lines.say(f"{server} {meaning_of(status)}")
+        elif is_late:
+            self.lines.say(f"{server} ended: its program {self.plan.lateness}")
 
     def kill(self, server: Server, why: str) -> None:
         self.lines.say(f"{server} is killed: {why}")

@@ -44,6 +44,14 @@ class Plan(NamedTuple):
     patience: float
     idle: Optional[float]
 
+    @property
+    def lateness(self) -> str:
+        """What a program did whose connection was ended for its lateness."""
+        took_nothing = f"took no reply for {self.patience:g} s (--patience)"
+        if self.idle is None:
+            return took_nothing
+        return f"sent no request for {self.idle:g} s (--idle), or {took_nothing}"
+
 
 def chosen(command: List[str]) -> List[str]:
     """Returns the command with the path of its program. A package's starter script is replaced by
