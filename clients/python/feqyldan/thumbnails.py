@@ -74,6 +74,11 @@ def reduced(picture: Any, step: int, keeps_marks: bool = False) -> Picture:
     return mean
 
 
+def word_for(keeps_marks: bool) -> str:
+    """Returns which sample of a square reduced() takes."""
+    return "greatest" if keeps_marks else "first" if numpy_module() is None else "mean"
+
+
 def _of_squares(picture: Any, step: int, keeps_marks: bool) -> Picture:
     height, width = picture.shape
     flat = picture.cast("B").cast(picture.format)

@@ -454,7 +454,8 @@ class TestPage(PageTest):
     def test_rename(self):
         page = self.start(SCRATCHES)
         page.choose("over")
-        for wish, name in (("bright", "bright"), ("camera", "bright"), ("a/b", "bright")):
+        for wish, name in (("bright", "bright"), ("camera", "bright"), ("a/b", "bright"),
+                           ("toString", "toString"), ("bright", "bright")):
             page.find("#p-name").send_keys(CONTROL, "a", CONTROL, wish, TAB)
             page.idle()
             self.assertEqual(page.contents["nodes"][1]["output"], name)
@@ -544,9 +545,10 @@ class TestPage(PageTest):
         page.filled()
         notes = ("return [...document.querySelectorAll('#panel p:not([hidden])')]"
                  ".map(one => one.textContent).filter(words => words.startsWith('Of the part'))")
-        # Both histograms, of the threshold's input and of its output, are of squares.
-        words = f"Of the part that is shown, a value for each {step} × {step} samples."
-        self.assertEqual(page.run(notes), [words, words])
+        # Both histograms, of the threshold's input and of its output, a mask, are of squares.
+        self.assertEqual(page.run(notes), [
+            f"Of the part that is shown, the {taken} of each {step} × {step} samples."
+            for taken in ("mean", "greatest")])
         page.choose("camera")
         page.click("#one")
         page.until("return studio.result.fulls.get('camera').step === 1")

@@ -168,7 +168,7 @@ class TestWeb(unittest.TestCase):
         self.refuses(413, Content_Length=str(10**9))
         self.refuses(411, Content_Length=None, Transfer_Encoding="chunked")
         self.refuses(411, Content_Length="-1")
-        for body in ("{", "[]", "1", ""):
+        for body in ("{", "[]", "1", "", "[" * 100_000):
             self.refuses(400, body=body)
 
     def test_errors_of_calls(self):

@@ -10,6 +10,7 @@ from ..errors import ServerEnded
 from ..functions import FUNCTIONS, OPERANDS, Functions, parameters_of
 from ..graph_files import FIELDS, GraphFileError
 from ..ranges import PARAMETER_RANGES, SIDES_OF_CONVOLUTIONS
+from ..thumbnails import word_for
 from ..verdicts import OPENED, TAKEN, formats_in_words
 from .bench import Bench, Outcome, fault_for_run
 from .document import Document
@@ -169,4 +170,4 @@ def is_marked(one: Shown, mark: Any) -> bool:
 def full(packed: Packed, one: Shown, want: Dict[str, Any], is_mask: bool) -> Dict[str, Any]:
     """Adds a part of an image to a reply, and describes it."""
     place, content = part_of(one.samples, want, is_mask)
-    return {"place": place, "part": packed.add(content)}
+    return {"place": place, "part": packed.add(content), "taken": word_for(is_mask)}

@@ -141,6 +141,8 @@ class Handler(BaseHTTPRequestHandler):
             told = json.loads(self.rfile.read(int(length)))
         except ValueError:
             raise Refusal(400, "this isn't JSON") from None
+        except RecursionError:
+            raise Refusal(400, "its lists and objects are nested too deeply") from None
         if not isinstance(told, dict):
             raise Refusal(400, "a call is a JSON object")
         return told

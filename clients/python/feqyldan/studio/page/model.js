@@ -99,12 +99,15 @@ export class Model {
     return found
   }
 
-  // A name that no object has yet.
+  // Every object of JavaScript has properties such as toString, which are no names here.
+  has (name) { return Object.hasOwn(this.objects, name) }
+
+  // A name that no object has yet. `__proto__` can't be assigned as one.
   fresh (wish) {
     const stem = wish.replace(/_$/, '')
     for (let k = 1; ; k++) {
       const name = k === 1 ? stem : `${stem}${k}`
-      if (!(name in this.objects)) return name
+      if (!this.has(name) && name !== '__proto__') return name
     }
   }
 
@@ -144,7 +147,7 @@ export class Model {
   // Returns whether the name can be given to the object.
   rename (old, wish) {
     const name = wish.trim()
-    if (!name || name === old || name in this.objects || /\/|\[(0|-\d+)\]$/.test(name)) return false
+    if (!name || name === old || this.has(name) || /\/|\[(0|-\d+)\]$/.test(name)) return false
     this.contents.objects = Object.fromEntries(
       Object.entries(this.objects).map(([key, told]) => [key === old ? name : key, told]))
     for (const node of this.nodes) {

@@ -190,9 +190,9 @@ export class Panel {
 }
 
 // Says what a histogram is of, if that isn't the whole image.
-function setNote (note, { isWhole, step }) {
+function setNote (note, { isWhole, step, taken }) {
   note.hidden = isWhole
-  note.textContent = `Of the part that is shown${step === 1 ? '' : `, a value for each ${step} × ${step} samples`}.`
+  note.textContent = `Of the part that is shown${step === 1 ? '' : `, the ${taken} of each ${step} × ${step} samples`}.`
 }
 
 function factsOfImage ({ fmt, width, height, valid, histogram }) {

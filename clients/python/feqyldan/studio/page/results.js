@@ -39,12 +39,13 @@ export class Results {
 
 export const bytesOf = part => new Uint8Array(part.buffer, part.at, part.size)
 
-// The samples of an image, or of a part: one for each square of `step` samples from x0, y0 on.
+// The samples of an image, or of a part: one for each square of `step` samples from x0, y0 on,
+// the mean, the greatest or the first as `taken` says.
 export class Full {
   constructor (one, parts) {
-    const [x0, y0, columns, rows, step] = one.full.place
+    const { place: [x0, y0, columns, rows, step], taken } = one.full
     const { fmt, width, height, valid, mark } = one
-    Object.assign(this, { fmt, width, height, valid, mark, x0, y0, columns, rows, step })
+    Object.assign(this, { fmt, width, height, valid, mark, x0, y0, columns, rows, step, taken })
     this.samples = samplesOf(parts[one.full.part], fmt)
     this.isWhole = step === 1 && columns === width && rows === height
     this.bounds = bounds(this)
