@@ -678,8 +678,8 @@ class Connection:
     def _time_out(self) -> None:
         waiting = next((request for request in self._line if request.answer is None), None)
         words = waiting.words if waiting else "the server's end"
-        self._fault = TimedOut(f"{words}: no answer in {self._timeout:g} seconds, so the "
-                               "connection was closed: allow more by timeout=")
+        self._fault = TimedOut(f"{words}: no answer in {self._timeout:g} seconds, so the server "
+                               "was given up: allow more by timeout=")
         LOG.warning("timed out: %s", self._fault)
         self._give_up()
         raise self._fault

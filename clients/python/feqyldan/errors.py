@@ -119,8 +119,8 @@ class Refused(FeqyldanError):
 
 class NoMemory(Refused):
     code = wire.NO_MEMORY
-    advice = ("The machine had no memory for it, and nothing has changed: close something, or try "
-              "again.")
+    advice = ("The machine, or the limit of its operator, had no memory for it, and nothing has "
+              "changed: close something, or try again.")
 
 
 class InvalidParameters(Refused):

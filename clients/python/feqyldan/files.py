@@ -74,6 +74,9 @@ def _decoded(content: bytes) -> Any:
             raise WrongPicture(f"this is a {kind} file without its end: it is cut off after "
                                f"{len(content):,} bytes; copy it again")
     _look_at_sides(content)
+    if cv2 is None and is_wide_in_colours(content):
+        raise WrongPicture("this is a PNG file of 16 bits in colours or with alpha, which PIL "
+                           "reads as 8 bits: install OpenCV, or convert the file to grey")
     if content.startswith(SUN_RASTER):
         # OpenCV returns zeros for one without a map of colours.
         cv2 = None
@@ -95,6 +98,11 @@ def _look_at_sides(content: bytes) -> None:
     if content.startswith(PNG) and max(width, height) > GREATEST_SIDE:
         raise WrongPicture(f"it has {width:,} by {height:,} pixels, and an image has at most "
                            f"{GREATEST_SIDE:,} columns and rows")
+
+
+def is_wide_in_colours(content: bytes) -> bool:
+    """Returns whether a file is a PNG of 16 bits in colours or with alpha."""
+    return content.startswith(PNG) and content[24:25] == b"\x10" and content[25:26] != b"\0"
 
 
 def is_whole_png(content: bytes) -> bool:
@@ -152,8 +160,8 @@ def _by_pil(pil: Any, content: bytes) -> Any:
     except Exception:
         # PIL raises errors of many classes for a file that is truncated or damaged.
         return None
-    is_wide = pixels.dtype.kind == "i" and pixels.min() >= 0 and pixels.max() <= 65535
-    # PIL holds unsigned samples of 16 bits in 32.
+    # PIL holds the unsigned samples of a PNG file of 16 bits in 32.
+    is_wide = pixels.dtype.kind == "i" and content.startswith(PNG)
     return pixels.astype(numpy.uint16) if is_wide else pixels
 
 

@@ -13,6 +13,7 @@ from typing import Any, Dict, Iterable, Iterator, List, Optional, Sequence, Text
 
 from . import wire
 from .graph_files import GraphFile, files_in
+from .graphs import kept_by
 from .images import AnyImage
 from .objects import Distribution, MinMax
 from .pictures import write_npy, write_png
@@ -33,6 +34,7 @@ class Report:
         self._least: Optional[int] = told.regions
         self._images = {name: thing for name, thing in station.outputs.items()
                         if isinstance(thing, AnyImage)}
+        self._kept = kept_by(station.graph)
         self._look_at_files(told, paths, others)
         if self._folder is not None:
             os.makedirs(self._folder, exist_ok=True)
@@ -60,23 +62,27 @@ class Report:
                 raise ValueError(f"{told.graph}: the name {json.dumps(name)} {fault}, and --out "
                                  "names files by images: rename the image")
         numbers = None if told.csv in (None, STANDARD_OUTPUT) else identity(told.csv)
-        writers: Dict[str, str] = {}
-        for path, file in self._files_of(paths):
+        writers: Dict[str, Tuple[int, str]] = {}
+        for number, path, file in self._files_of(paths):
             if identity(file) == numbers:
                 raise ValueError(f"--csv {told.csv} would be overwritten by the image of {path}: "
                                  "name another file")
             if identity(file) in read:
                 raise ValueError(f"--out {self._folder}: the image of {path} would overwrite "
                                  f"{read[identity(file)]}, which is read: name another folder")
-            other = writers.setdefault(file, path)
+            first, other = writers.setdefault(file, (number, path))
             if identity(other) != identity(path):
                 raise ValueError(f"--out {self._folder}: the images of {other} and of {path} would "
                                  f"both be {file}: run them one after the other, each with its own "
                                  "folder")
+            if first != number and self._kept:
+                raise ValueError(f"--out {self._folder}: {path} is named twice, and its images may "
+                                 f"differ, since the graph keeps {self._kept}: copy the picture to "
+                                 "another name")
 
-    def _files_of(self, paths: Sequence[str]) -> Iterator[Tuple[str, str]]:
-        """Yields each picture's path with each file that may be written for that picture."""
-        return ((path, stem + ending) for path in paths
+    def _files_of(self, paths: Sequence[str]) -> Iterator[Tuple[int, str, str]]:
+        """Yields each picture's number and path with each file that may be written for it."""
+        return ((number, path, stem + ending) for number, path in enumerate(paths)
                 for name, stem in self._stems_of(path).items()
                 for ending in ENDINGS[self._images[name].fmt])
 

@@ -255,6 +255,9 @@ def status(path: Path, *, timeout: float = 10.0) -> Dict[str, Any]:
         except BlockingIOError:
             raise TimeoutError(errno.ETIMEDOUT, f"not accepted in {timeout:g} seconds",
                                path) from None
+        except socket.timeout:
+            # Before Python 3.10 this isn't a TimeoutError.
+            raise TimeoutError(errno.ETIMEDOUT, "the state hasn't come in time", path) from None
         except OSError as error:
             raise with_path(error, path) from None
     try:
@@ -266,13 +269,13 @@ def status(path: Path, *, timeout: float = 10.0) -> Dict[str, Any]:
 
 
 def state_of(stream: socket.socket, until: float) -> bytes:
-    """Returns the bytes that come until the other end closes the stream. Raises TimeoutError if it
-    doesn't in time, and UnexpectedReply if they are too many for a state."""
+    """Returns the bytes that come until the other end closes the stream. Raises socket.timeout if
+    it doesn't in time, and UnexpectedReply if they are too many for a state."""
     said = bytearray()
     while len(said) <= STATE_BYTES:
         left = until - time.monotonic()
         if left <= 0:
-            raise TimeoutError(errno.ETIMEDOUT, "the state hasn't come in time")
+            raise socket.timeout
         stream.settimeout(left)
         data = stream.recv(65536)
         if not data:

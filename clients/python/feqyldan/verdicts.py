@@ -284,20 +284,23 @@ def _fault_of(member: Member, known: Dict[bytes, Cell],
     in1 = known[member.in1.reference]
     in2 = None if member.in2 is None else known[member.in2.reference]
     node = f"{str(member)[0].upper()}{str(member)[1:]}"
-    found = _found(member, known, members, _of_format)
+    everything = [*member.inputs, *member.outputs]
     for parameter, output in member.operands[len(member.inputs):]:
         formats = in1.fmt, None if in2 is None else in2.fmt, known[output.reference].fmt
         if formats not in TAKEN[member.function]:
+            at = _not_taken(member.function, formats)
+            found = _found(member.inputs[: at + 1] if at < 2 else everything, known, members,
+                           _of_format)
             takes = (f"{member.function} takes {formats_in_words(member.function)}"
                      f"{parameter_for(member.function, *formats[:2])}"
                      f"{'' if found else narrowing_for(member.function, in1.fmt)}")
-            operand = (*member.parameters[:2], parameter)[_not_taken(member.function, formats)]
+            operand = (*member.parameters[:2], parameter)[at]
             return Verdict(wire.INVALID_FORMAT, Fault(f"{node}: {takes}.{found}", (member.number,),
                                                       operand))
     for parameter, other in member.operands[1:]:
         cell = known[other.reference]
         if cell.is_image and (cell.width, cell.height) != (in1.width, in1.height):
-            found = _found(member, known, members, _of_size)
+            found = _found(everything, known, members, _of_size)
             words = f"{node}, has images of different sizes.{found}"
             return Verdict(wire.INVALID_DIMENSION, Fault(words, (member.number,), parameter))
     return None
@@ -318,15 +321,14 @@ def _of_size(cell: Cell) -> Any:
     return cell.width, cell.height
 
 
-def _found(member: Member, known: Dict[bytes, Cell], members: Sequence[Member],
+def _found(cells: Sequence[Cell], known: Dict[bytes, Cell], members: Sequence[Member],
            part: Callable[[Cell], Any]) -> str:
-    """Returns in words how a part of the descriptions of a node's virtual images was resolved, and
-    why: the format or the size."""
+    """Returns in words how a part of the descriptions of virtual images among the cells was
+    resolved, and why: the format or the size."""
     writers = {cell.reference: other for other in members for cell in other.outputs}
-    cells = {cell.reference: cell for cell in (*member.inputs, *member.outputs)
-             if part(cell) != part(known[cell.reference])}
+    opened = {cell.reference: cell for cell in cells if part(cell) != part(known[cell.reference])}
     return "".join(_closing(cell, writers[cell.reference], known, part is _of_format)
-                   for cell in cells.values())
+                   for cell in opened.values())
 
 
 def _closing(cell: Cell, writer: Member, known: Dict[bytes, Cell], is_format: bool) -> str:

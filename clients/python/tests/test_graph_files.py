@@ -919,9 +919,18 @@ class TestCommandLine(FolderTest):
                                    "marks", status=1)
         self.assertIn("the images of a/f0.pgm and of b/f0.pgm would both be marks/f0.png", said)
         self.assertFalse(os.path.exists(self.path("marks")))
-        # One picture several times is no fault.
+        # One picture several times is no fault, unless its images may differ.
         self.run_command("run", "plain.json", "--in", "a/*.pgm", "a/f1.pgm", "--out", "marks")
         self.assertEqual(len(os.listdir(self.path("marks"))), 12)
+        image = {"kind": "image", "width": 2, "height": 1}
+        self.put("sums.json", {
+            "feqyldan": 1, "objects": {"camera": {**image, "format": "U8", "input": True},
+                                       "sums": {**image, "format": "S16"}},
+            "nodes": [{"function": "accumulate", "input": "camera", "accum": "sums"}]})
+        _, said = self.run_command("run", "sums.json", "--in", "a/f1.pgm", "a/f1.pgm", "--out",
+                                   "sums", status=1)
+        self.assertIn("a/f1.pgm is named twice, and its images may differ, since the graph keeps "
+                      "sums, by accumulate", said)
 
     def test_outputs_with_a_slash(self):
         self.plain("marks", "../evil")

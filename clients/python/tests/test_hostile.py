@@ -208,7 +208,7 @@ class Users(Hostile):
                     '&& exec "$@"', "sh"))
                 codes = [self.line_of(self.as_user(USER + k, CONNECTS, broker.path))
                          for k in (1, 2, 3, 0, 5)]
-                refused = str(wire.NO_RESOURCES)
+                refused = str(int(wire.NO_RESOURCES))
                 self.assertEqual(codes, ["0", "0", refused, refused, "0"])
 
 

@@ -142,6 +142,18 @@ class TestCalls(ProgramTest):
         with self.assertRaisesRegex(vx.InvalidFormat, "absdiff takes (?!.*convert_depth)"):
             self.context.vxu.absdiff(wide, wide, out)
 
+    def test_open_outputs_of_a_wrong_input(self):
+        """What they would be isn't at fault."""
+        graph = self.context.graph()
+        graph.sobel3x3(self.context.image(vx.S16, 2, 2), graph.virtual_image(),
+                       graph.virtual_image())
+        with self.assertRaises(vx.InvalidFormat) as caught:
+            graph.verify()
+        self.assertIn("sobel3x3 takes U8 to S16; convert_depth(image, out, vx.SATURATE, shift) "
+                      "makes U8 of an S16 image.", caught.exception.fault)
+        self.assertNotIn("because node", caught.exception.fault)
+        self.assertEqual(caught.exception.operand, "input")
+
     def test_an_open_image_that_became_s16(self):
         one, out = self.context.image(vx.U8, 4, 3), self.context.image(vx.U8, 4, 3)
         graph = self.context.graph()

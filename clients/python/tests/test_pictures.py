@@ -444,6 +444,22 @@ class TestOtherFiles(ProgramTest):
         self.holds(self.context.image_from(palette.convert("L")), [[10, 200, 90]])
         self.holds(self.context.image_from(numpy.asarray(palette)), [[0, 1, 2]])
 
+    def test_16_bits_in_colours(self):
+        """PIL reads them as 8 bits."""
+        for kind, samples_of_pixel in ((2, 3), (4, 2), (6, 4)):
+            line = b"\0" + struct.pack(">H", 0x1234) * samples_of_pixel
+            path = self.put("a.png", files.PNG + b"".join(
+                struct.pack(">I", len(content)) + name + content
+                + struct.pack(">I", zlib.crc32(name + content)) for name, content in (
+                    (b"IHDR", struct.pack(">IIBBBBB", 1, 1, 16, kind, 0, 0, 0)),
+                    (b"IDAT", zlib.compress(line)), (b"IEND", b""))))
+            for missing in self.readers():
+                if missing == "cv2":
+                    self.assertRaisesRegex(vx.BadPicture, "which PIL reads as 8 bits: install Open",
+                                           self.context.load, path)
+                else:
+                    self.assertEqual(self.context.load(path).fmt, vx.S16)
+
     def test_sun_rasters(self):
         """OpenCV returns zeros for one without a map of colours."""
         path = self.put("a.ras", struct.pack(">8I", 0x59a66a95, 2, 1, 8, 2, 1, 0, 0) + b"\x09\xc8")
