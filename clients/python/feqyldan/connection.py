@@ -111,7 +111,7 @@ class Request:
     frame ends.
     """
 
-    __slots__ = ("words", "client", "op", "answer", "on_refusal", "on_answer", "explain", "place",
+    __slots__ = ("words", "client", "op", "answer", "on_refusal", "on_success", "explain", "place",
                  "parts", "start", "end", "body", "may_lend", "has_lent",
                  "into", "is_ahead", "_error")
 
@@ -121,10 +121,10 @@ class Request:
         self.body: Body = BODIES.get(op, NO_BODY) if body is None else body
         self.place: Optional[Place] = None
         self.answer: Optional[Tuple[memoryview, int]] = None
-        # Called when the reply has come: on_answer for each reply, on_refusal for a refusal. Each
+        # Called when the reply has come: on_success for a success, on_refusal for a refusal. Each
         # may be called again after an interruption.
         self.on_refusal: Optional[Callable[[Request], None]] = None
-        self.on_answer: Optional[Callable[[memoryview], None]] = None
+        self.on_success: Optional[Callable[[memoryview], None]] = None
         # The frame until it was sent, and the positions in the stream of requests where it begins
         # and ends.
         self.parts: Sequence[Part] = ()
@@ -178,13 +178,13 @@ class Request:
             if found != begin:
                 raise UnexpectedReply(f"{self.words}: the reply is of another object: its body "
                                       f"begins with {found.hex(' ')}, not with {begin.hex(' ')}")
-        if self.on_answer is not None:
-            self.on_answer(reply)
+        if self.on_success is not None and code == 0:
+            self.on_success(reply)
         if self.on_refusal is not None and code != 0:
             self.on_refusal(self)
         self.answer = reply, end
         # The connection keeps the last request, whose functions would keep its context alive.
-        self.on_answer = None
+        self.on_success = None
         if code == 0:
             self.explain = None
 

@@ -375,7 +375,7 @@ class Context(Uncopied):
 
     def _send(self, words: str, make: Callable[..., bytes], arguments: Tuple[Any, ...] = (),
               content: Optional[Part] = None, explain: Optional[Explain] = None,
-              on_answer: Optional[Callable[[memoryview], None]] = None,
+              on_success: Optional[Callable[[memoryview], None]] = None,
               body: Optional[Body] = None, into: Optional[memoryview] = None,
               waits: bool = False) -> Request:
         """
@@ -406,7 +406,7 @@ class Context(Uncopied):
         if self._server._dead:
             self._server._release_dead()
         request = Request(words, self._number, frame[6], explain, body)
-        request.on_answer, request.into = on_answer, into
+        request.on_success, request.into = on_success, into
         parts = [frame] if content is None else [frame, content]
         if pipeline is not None:
             pipeline._take(request)
@@ -420,9 +420,9 @@ class Context(Uncopied):
     def _tell(self, words: str, make: Callable[..., bytes], *arguments: Any,
               content: Optional[Part] = None,
               explain: Optional[Explain] = None,
-              on_answer: Optional[Callable[[memoryview], None]] = None) -> None:
+              on_success: Optional[Callable[[memoryview], None]] = None) -> None:
         """Sends a request without a result; waits for its reply unless a pipeline is open."""
-        request = self._send(words, make, arguments, content, explain, on_answer, waits=True)
+        request = self._send(words, make, arguments, content, explain, on_success, waits=True)
         if self._pipeline is None or self._pipeline() is None:
             self._await_reply_to(request)
 
@@ -434,7 +434,7 @@ class Context(Uncopied):
         pipeline it is called at once. It may be called twice.
         """
         self._is_unsettled = True
-        self._tell(words, make, *arguments, on_answer=after_success(note))
+        self._tell(words, make, *arguments, on_success=lambda _: note())
         note()
         self._is_unsettled = False
 
@@ -469,16 +469,15 @@ class Context(Uncopied):
         name. The object takes `size` bytes of the quota."""
         thread = threading.get_ident()
         request = self._send(words, make, arguments, None, self._limit_for(size), waits=True,
-                             on_answer=lambda reply: self._note_made(reply, size, thread))
+                             on_success=lambda reply: self._note_made(reply, size, thread))
         return int(wire.name_of(self._reply_to(request)))
 
     def _note_made(self, reply: memoryview, size: int, thread: int) -> None:
         """Notes a new object for the thread that asked for it. The caller is the thread that reads
         the reply, which may be another one."""
-        if reply[7] == wire.SUCCESS:
-            name = wire.name_of(reply)
-            self._used.add(name, size)
-            self._unclaimed[name] = thread
+        name = wire.name_of(reply)
+        self._used.add(name, size)
+        self._unclaimed[name] = thread
 
     def _claim(self, name: int, thing: Named) -> None:
         """Gives the name of an object on the server to an object in Python. The name is released
@@ -496,8 +495,7 @@ class Context(Uncopied):
         self._is_unsettled = True
         request = self._send(f"add {call} to {graph}", wire.add_node, (graph.name, *fields),
                              waits=True, explain=lambda code: fault_of(call, code),
-                             on_answer=lambda reply: (
-                                added(wire.node_of(reply)) if reply[7] == wire.SUCCESS else None))
+                             on_success=lambda reply: added(wire.node_of(reply)))
         number = int(wire.node_of(self._reply_to(request)))
         self._is_unsettled = False
         return number
@@ -595,18 +593,18 @@ class Context(Uncopied):
         if self._why_closed is not None:
             return
         self._pipeline = None
-        if self._connection.fault is None:
-            self._is_unsettled = True
-            try:
-                self._tell("release the context", wire.release_context,
-                           on_answer=after_success(partial(self._end, True)))
-            except NestedCall:
-                # Nothing was sent.
-                raise
-            except FeqyldanError:
-                self._end(False)
-                raise
-        self._end(False)
+        if self._connection.fault is not None:
+            self._end(False)
+            return
+        try:
+            self._change("release the context", wire.release_context,
+                         note=partial(self._end, True))
+        except NestedCall:
+            # Nothing was sent.
+            raise
+        except FeqyldanError:
+            self._end(False)
+            raise
 
     def _end(self, is_released: bool) -> None:
         """Notes that the context has ended, and whether the server has released it. Only the first
@@ -655,11 +653,6 @@ class Context(Uncopied):
 
     def __repr__(self) -> str:
         return f"<context of client {self._number}{', closed' if self.closed else ''}>"
-
-
-def after_success(note: Callable[[], None]) -> Callable[[memoryview], None]:
-    """Returns a function of a reply that calls `note` unless the reply is a refusal."""
-    return lambda reply: note() if reply[7] == wire.SUCCESS else None
 
 
 @contextlib.contextmanager

@@ -132,8 +132,7 @@ class DirectConnection:
         if request is not None and request.is_ahead:
             return self._await(request, limit, wake)
         with free(self._lock, WAITING):
-            if self._last is not None:
-                self._settle()
+            self._settle()
             self._serve_line()
         return True
 

@@ -35,14 +35,6 @@ def runs() -> List[bytes]:
             wire.immediate(CLIENT, Function.INTEGRAL, IN, None, SUMS)]
 
 
-def codes_of(replies: bytes) -> List[int]:
-    found = []
-    while replies:
-        found.append(replies[7])
-        replies = replies[4 + int.from_bytes(replies[:4], "big") :]
-    return found
-
-
 def check_space(program: str) -> str:
     """Under each limit images are refused, and functions run: the program has its stack before the
     images."""
@@ -54,9 +46,9 @@ def check_space(program: str) -> str:
         ended = subprocess.run(
             ["sh", "-c", 'ulimit -v "$0" && exec "$@"', str(limit), program, "serve"],
             input=stream, capture_output=True, timeout=60)
-        codes = codes_of(ended.stdout)
-        is_right = (ended.returncode == 0 and wire.NO_MEMORY in codes[:-last]
-                    and codes[-last:] == [wire.SUCCESS] * last)
-        check(is_right, f"with an address space of {limit} KiB it ends with status "
-                        f"{ended.returncode} after the replies {codes}")
+        words = f"with an address space of {limit} KiB it"
+        check(ended.returncode == 0, f"{words} ends with status {ended.returncode}")
+        codes = [*map(wire.code_of, wire.replies(ended.stdout))]
+        check(wire.NO_MEMORY in codes[:-last] and codes[-last:] == [wire.SUCCESS] * last,
+              f"{words} gives the codes {codes}")
     return f"functions run under {len(LIMITS)} limits of the address space"
