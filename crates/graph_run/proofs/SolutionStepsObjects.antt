@@ -9,7 +9,7 @@ use Rattle.graph_steps.specs.declared.tally.Tally.{Tally}
 use Rattle.graph_steps.specs.Planes.{IsWhole, PlaneValue, block_image, no_plane, plane}
 use Rattle.graph_steps.specs.Tallies.{tally_at, tally_of}
 use Rattle.graph_run.specs.declared.schedule.Schedule.{Schedule}
-use Rattle.graph_run.specs.Bind.{plane_objects}
+use Rattle.graph_run.specs.Bind.{plane_object, plane_objects}
 use Rattle.graph_run.specs.Program.{node_tallies, tallies_of, tally_by}
 use Rattle.graph_run.specs.Results.{tally_cells, tally_object, tally_objects}
 use Rattle.graph_run.specs.Schedule.{CanRunBy}
@@ -22,7 +22,7 @@ use Rattle.graph_run.proofs.OperandLaws.{declared_of_virtual, virtual_there}
 use Rattle.graph_run.proofs.ProgramLemmas.{image_named}
 use Rattle.graph_run.proofs.SolutionStepsEnds.{first_real, in_nodes, in_steps, is, is_node_of, last_labels, last_lasts, solves, unwritten_seen}
 use Rattle.graph_run.proofs.SolutionStepsImages.{cell_there, cells, cells_once, client_image, client_there, clients, ends, ends_held, holds_output, image_real, starts, tally_kept, virtual, virtual_by, virtual_is, virtual_or}
-use Rattle.graph_run.proofs.SolutionStepsReturns.{counted_kind, forgotten_are, forgotten_lasting, image_back, image_comes, kept_real, last_known, last_none, last_some, tally_back, tally_comes, tally_output}
+use Rattle.graph_run.proofs.SolutionStepsReturns.{comes_back, counted_kind, each_comes, forgotten_are, forgotten_lasting, kept_real, last_known, last_none, last_some, tally_output}
 use Rattle.graph_run.proofs.SolutionStepsTasks.{image_or, one_output, tally_count, tally_there}
 use Rattle.graph_run.proofs.TallySteps.{Each, each_both, each_tally, node_of}
 use Rattle.graph_run.proofs.TurnSteps.{Counted, whole}
@@ -110,7 +110,7 @@ module _ {objects : List NamedObject} {v : Verified} {s : Schedule} (g : CanRunB
         → In w (plane_objects theirs (drop (slots g) after))
         → IsLeft w
     image_left w i =
-        let r = image_back theirs (drop (slots g) after) w i in
+        let r = comes_back plane_object theirs (drop (slots g) after) no_plane w i in
         let k : ℕ = r.0 in
         let c : Reference = get_or theirs k w.0 in
         let inside : In c theirs = In-at theirs k w.0 r.1 in
@@ -197,7 +197,7 @@ module _ {objects : List NamedObject} {v : Verified} {s : Schedule} (g : CanRunB
         → In w (tally_objects (tally_cells v.steps) counted)
         → IsLeft w
     tally_left w i =
-        let back = tally_back (tally_cells v.steps) counted w i in
+        let back = comes_back tally_object (tally_cells v.steps) counted (tally_at [] 0) w i in
         let r : IsTallied back.0 = tally_facts back.0 back.1 in
         let n : Node = r.node in
         let read = ends_held g n.in1 (cell_there g n r.inside n.in1 (inl refl)) in
@@ -291,7 +291,7 @@ module _ {objects : List NamedObject} {v : Verified} {s : Schedule} (g : CanRunB
         | inr client ↦
             (let enough : length theirs ≤ length (drop (slots g) after) = omega
             (arith, length-drop (slots g) after, leaves.planes_count) in
-            let x = image_comes theirs (drop (slots g) after) c enough client in
+            let x = each_comes plane_object theirs (drop (slots g) after) c enough client in
             (x.0, In-left (c, x.0) images tallies x.1))
       ]
       | inr other ↦
@@ -302,7 +302,7 @@ module _ {objects : List NamedObject} {v : Verified} {s : Schedule} (g : CanRunB
           let enough : length (tally_cells v.steps) ≤ length counted =
           omega (arith, leaves.tallies_count, tally_count objects v.steps) in
           let x =
-          tally_comes (tally_cells v.steps) counted c enough
+          each_comes tally_object (tally_cells v.steps) counted c enough
           (subst (λ (y : Reference). In y (tally_cells v.steps)) same inside) in
           (x.0, In-right (c, x.0) images tallies x.1))
     ]

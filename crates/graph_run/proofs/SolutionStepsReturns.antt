@@ -1,13 +1,11 @@
 -- Images and tallies written back to a table give the objects after the run of a graph.
-use Rattle.std.proofs.Common.{◌≡◌, ◌≢◌, ℕ, suc, ◌<◌, ◌≤◌, false, List, [], ◌∷◌, map, length, get_or, refl, ap, ◌∙◌, inl, inr, arith, All, Option, Some, None, ◌⊎◌, if◌then◌else◌}
+use Rattle.std.proofs.Common.{◌≡◌, ◌≢◌, ℕ, suc, ◌<◌, ◌≤◌, false, List, [], ◌∷◌, map, zip, length, get_or, refl, ap, ◌∙◌, inl, inr, arith, All, Option, Some, None, ◌⊎◌, if◌then◌else◌}
 use Rattle.graph_run.proofs.Common.{Reference, ImageObject, ImageValue, In, NamedObject, ObjectValue, objects_at_end, is_virtual_object, node_output, Node, Output, object_kind, same_cell-true, same_cell-refl, lasting_named, named_at_start, Operand, IsObject, Function, parameters}
 use Rattle.vx_base.specs.declared.kind.Kind.TheVariants as kind
 use Rattle.graph_steps.specs.declared.tally.Tally.{Tally}
-use Rattle.graph_steps.specs.Planes.{PlaneValue, block_image, no_plane}
-use Rattle.graph_steps.specs.Tallies.{tally_at, tally_of}
-use Rattle.graph_run.specs.Bind.{plane_objects}
+use Rattle.graph_steps.specs.Tallies.{tally_of}
 use Rattle.graph_run.specs.Program.{tally_by}
-use Rattle.graph_run.specs.Results.{tally_object, tally_objects}
+use Rattle.graph_run.specs.Results.{tally_object}
 use Rattle.graph_run.proofs.HeldLaws.{last_to, or_none}
 use Rattle.graph_run.proofs.BegunLaws.{begun_stays, kept_virtual}
 use Rattle.graph_run.proofs.LastingLemmas.{Lasting}
@@ -15,52 +13,28 @@ use Rattle.graph_run.proofs.LinkLaws.{All-from_In, In-from_All}
 
 -- ---- lists of written values
 
--- each reference gets the image of the plane at its index
-pub image_back : (cells : List Reference) (planes : List PlaneValue) (w : Reference × ObjectValue)
-    → In w (plane_objects cells planes)
-    → (k : ℕ)
-    × (k < length cells)
-    × (w ≡ (get_or cells k w.0, ImageObject (block_image (get_or planes k no_plane))))
-image_back (c ∷ cells) (p ∷ planes) w (inl e) = (0, omega arith, e)
-image_back (c ∷ cells) (p ∷ planes) w (inr i) =
-    let r = image_back cells planes w i in (suc r.0, omega (arith, r.1), r.2)
-image_back cells planes w i = absurd (grind arith)
+-- a list of references with the objects of a list of values
+module _ {X : Type 0} (object_of : X → ObjectValue) where
+  -- each reference gets the object of the value at its index
+  pub comes_back : (cells : List Reference) (xs : List X) (x : X) (w : Reference × ObjectValue)
+      → In w (zip cells (map object_of xs))
+      → (k : ℕ) × (k < length cells) × (w ≡ (get_or cells k w.0, object_of (get_or xs k x)))
+  comes_back (c ∷ cells) (y ∷ xs) x w (inl e) = (0, omega arith, e)
+  comes_back (c ∷ cells) (y ∷ xs) x w (inr i) =
+      let r = comes_back cells xs x w i in (suc r.0, omega (arith, r.1), r.2)
+  comes_back cells xs x w i = absurd (grind arith)
 
-pub image_comes : (cells : List Reference) (planes : List PlaneValue) (c : Reference)
-    → length cells ≤ length planes
-    → In c cells
-    → (x : ObjectValue) × In (c, x) (plane_objects cells planes)
-image_comes (d ∷ cells) (p ∷ planes) c enough (inl e) = (
-  ImageObject (block_image p),
-  inl
-      (ap
-      (λ (x : Reference). let pair : Reference
-      × ObjectValue = (x, ImageObject (block_image p)) in pair)
-      e),
-)
-image_comes (d ∷ cells) (p ∷ planes) c enough (inr i) =
-    let r = image_comes cells planes c (omega (arith, enough)) i in (r.0, inr r.1)
-image_comes cells planes c enough i = absurd (grind arith)
-
-pub tally_back : (cells : List Reference) (tallies : List Tally) (w : Reference × ObjectValue)
-    → In w (tally_objects cells tallies)
-    → (k : ℕ) × (k < length cells) × (w ≡ (get_or cells k w.0, tally_object (tally_at tallies k)))
-tally_back (c ∷ cells) (t ∷ tallies) w (inl e) = (0, omega arith, e)
-tally_back (c ∷ cells) (t ∷ tallies) w (inr i) =
-    let r = tally_back cells tallies w i in (suc r.0, omega (arith, r.1), r.2)
-tally_back cells tallies w i = absurd (grind arith)
-
-pub tally_comes : (cells : List Reference) (tallies : List Tally) (c : Reference)
-    → length cells ≤ length tallies
-    → In c cells
-    → (x : ObjectValue) × In (c, x) (tally_objects cells tallies)
-tally_comes (d ∷ cells) (t ∷ tallies) c enough (inl e) = (
-  tally_object t,
-  inl (ap (λ (x : Reference). let pair : Reference × ObjectValue = (x, tally_object t) in pair) e),
-)
-tally_comes (d ∷ cells) (t ∷ tallies) c enough (inr i) =
-    let r = tally_comes cells tallies c (omega (arith, enough)) i in (r.0, inr r.1)
-tally_comes cells tallies c enough i = absurd (grind arith)
+  pub each_comes : (cells : List Reference) (xs : List X) (c : Reference)
+      → length cells ≤ length xs
+      → In c cells
+      → (o : ObjectValue) × In (c, o) (zip cells (map object_of xs))
+  each_comes (d ∷ cells) (y ∷ xs) c enough (inl e) = (
+    object_of y,
+    inl (ap (λ (r : Reference). let pair : Reference × ObjectValue = (r, object_of y) in pair) e),
+  )
+  each_comes (d ∷ cells) (y ∷ xs) c enough (inr i) =
+      let r = each_comes cells xs c (omega (arith, enough)) i in (r.0, inr r.1)
+  each_comes cells xs c enough i = absurd (grind arith)
 
 -- if all values written to an object are the same, that is its value
 module _ (c : Reference) (known : Option ObjectValue) where

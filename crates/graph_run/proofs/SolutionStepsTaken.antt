@@ -10,7 +10,7 @@ use Rattle.graph_steps.specs.declared.tally.Tally.{Tally}
 use Rattle.graph_steps.specs.Tallies.{tally_at, tally_of}
 use Rattle.graph_steps.specs.Planes.{PlaneValue, no_plane, plane}
 use Rattle.graph_run.specs.declared.schedule.Schedule.{Schedule}
-use Rattle.graph_run.specs.Bind.{AreFor, HoldImages, bare_images, plane_objects, without_samples}
+use Rattle.graph_run.specs.Bind.{AreFor, HoldImages, bare_images, plane_object, plane_objects, without_samples}
 use Rattle.graph_run.specs.Bound.{AreTalliesFor, IsLent, IsTallyFor, KeepTallies, KeepsTally, LendTables}
 use Rattle.graph_run.specs.Program.{node_table, table_by, tables_of, tallies_of, tally_by}
 use Rattle.graph_run.specs.Results.{last_objects, tally_cells, tally_objects}
@@ -31,7 +31,7 @@ use Rattle.graph_run.proofs.SolutionStepsImages.{client_image, one_kind, table_s
 use Rattle.graph_run.proofs.SolutionStepsEnds.{is_node_of, last_kinds}
 use Rattle.graph_run.proofs.PlaneSteps.{plane_at, slots}
 use Rattle.graph_run.proofs.SolutionStepsObjects.{IsTallied, Leaves, returns, tally_facts, theirs_at}
-use Rattle.graph_run.proofs.SolutionStepsReturns.{counted_kind, image_back, last_known, last_none, last_some}
+use Rattle.graph_run.proofs.SolutionStepsReturns.{comes_back, counted_kind, last_known, last_none, last_some}
 use Rattle.graph_run.proofs.VerifiedLemmas.{pairs_of}
 
 -- ---- cells after writes
@@ -320,7 +320,7 @@ module _ {objects : List NamedObject} {v : Verified} {s : Schedule} (g : CanRunB
       ∙ same_elsewhere objects (plane_objects clients back)
       (planes_written objects clients back (hold g) planes_for) r.cell
       (last_none r.cell (plane_objects clients back) (λ w i e.
-      (let b = image_back clients back w i in
+      (let b = comes_back plane_object clients back no_plane w i in
       let cell : r.cell ≡ get_or clients b.0 w.0 =
       e ∙ ap (λ (x : Reference × ObjectValue). x.0) b.2 in
       let image : HoldsImage objects r.cell =

@@ -1,5 +1,5 @@
 -- Images that move from a table to planes for a run of a graph, and then back.
-use Rattle.std.specs.Prelude.{◌≡◌, ⊤, List, [], ◌∷◌, length, map}
+use Rattle.std.specs.Prelude.{◌≡◌, ⊤, List, [], ◌∷◌, length, map, zip}
 use Rattle.vx_base.specs.Description.{sample_count}
 use Rattle.vx_base.specs.Reference.{Reference}
 use Rattle.vx_base.specs.Image.{ImageValue, image_over, description_of}
@@ -47,12 +47,13 @@ image_plane image =
 abbrev pub image_planes : List NamedObject → List Reference → List PlaneValue
 image_planes objects cells = map (λ c. image_plane (image_held objects c)) cells
 
+-- the image of a plane as an object
+abbrev pub plane_object : PlaneValue → ObjectValue
+plane_object p = ImageObject (block_image p)
+
 -- the references, each with the image of its plane
 abbrev pub plane_objects : List Reference → List PlaneValue → List (Reference × ObjectValue)
-plane_objects [] planes = []
-plane_objects (c ∷ cells) [] = []
-plane_objects (c ∷ cells) (p ∷ planes) =
-    (c, ImageObject (block_image p)) ∷ plane_objects cells planes
+plane_objects cells planes = zip cells (map plane_object planes)
 
 -- there is a plane for each reference, with the description of the reference's image, and with a
 -- block of the image's format and number of samples, or without samples

@@ -1,5 +1,5 @@
 -- The results of a run over planes, as objects of the table.
-use Rattle.std.specs.Prelude.{List, [], ◌∷◌, length, map, unwrap_or}
+use Rattle.std.specs.Prelude.{List, [], ◌∷◌, length, map, unwrap_or, zip}
 use Rattle.std.specs.List.{flat_map}
 use Rattle.vx_base.specs.declared.kind.Kind.{Kind}
 use Rattle.vx_base.specs.declared.kind.Kind.TheVariants as kind
@@ -45,6 +45,4 @@ tally_cells nodes = flat_map (λ n. tally_cell (parameters n.function).output n)
 
 -- the references, each with its tally as an object
 abbrev pub tally_objects : List Reference → List Tally → List (Reference × ObjectValue)
-tally_objects [] tallies = []
-tally_objects (c ∷ cells) [] = []
-tally_objects (c ∷ cells) (t ∷ tallies) = (c, tally_object t) ∷ tally_objects cells tallies
+tally_objects cells tallies = zip cells (map tally_object tallies)

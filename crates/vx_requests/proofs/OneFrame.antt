@@ -4,7 +4,6 @@ use Rattle.vx_requests.proofs.Common.{Frame, ReplyFrame, IsFrame, IsReply, Turn,
 use Rattle.vx_requests.specs.Frame.Frames.{joined_replies, IsRest}
 use Rattle.vx_requests.specs.Serving.OneFrame.{ServesOneFrame}
 use Rattle.vx_requests.proofs.Alone.{states_after-push}
-use Rattle.std.specs.Io.KnownBytes.{IsAtEnd}
 use Rattle.vx_requests.specs.declared.stream.fault.StreamFault.TheVariants.{Truncated, BadLength, ReadFailed, ReaderWouldNotEnd}
 use Rattle.vx_requests.proofs.OneSplit.{one_rest, same_front, not_rest}
 use Rattle.vx_requests.proofs.WholeFrames.{said_of_front, said_of_frame}
@@ -63,33 +62,6 @@ served_frame limits f g (Some left) written old new reply is is' read replied wr
       replied = replied;
       written_is = wrote;
     }
-
--- the stream had not ended
-not_ended : (f : Frame) (left : Option (List ℕ))
-    → Consumes (Some (frame_bytes f)) left []
-    → IsAtEnd left
-    → ⊥
-not_ended f None read end = read
-not_ended f (Some left) read end =
-    let none : length (frame_bytes f) ≡ 0 = ap length (read ∙ end) in omega (arith, none)
-
--- `start` was taken before, and `now` is taken in all
-pub turn_serves :
-    (limits : LimitsValue) (f : Frame) (left : Option (List ℕ)) (start now : List ℕ)
-    (old new : ℕ → State) (code : Option ℕ)
-    → IsFrame f
-    → Turn limits (Some (frame_bytes f)) left (Some start) (Some now) old new (Ok code)
-    → (written : List ℕ)
-    × (now ≡ start ++ written)
-    × ServesOneFrame limits (frame_bytes f) written old new
-turn_serves limits f left start now old new None is (read, end, same, wrote) =
-    absurd (not_ended f left read end)
-turn_serves limits f left start now old new (Some code) is
-    (g, reply, is', read, replied, writes) = (
-      reply_bytes reply,
-      writes.0,
-      served_frame limits f g left (reply_bytes reply) old new reply is is' read replied refl,
-    )
 
 -- the stream doesn't end within the frame, and its length is in range
 not_broken : (f : Frame) (e : StreamFault) (rest : List ℕ) (left : Option (List ℕ))

@@ -1,18 +1,9 @@
 -- Bytes that are exactly one frame.
-use Rattle.std.proofs.Common.{◌≡◌, ℕ, ◌+◌, ◌≤◌, List, [], ◌∷◌, ◌++◌, arith, length, get_or, refl, sym, ap, ◌∙◌, length-append, append-nil}
+use Rattle.std.proofs.Common.{◌≡◌, ℕ, ◌+◌, ◌≤◌, List, [], ◌∷◌, ◌++◌, arith, length, sym, ap, ◌∙◌, length-append, append-nil}
 use Rattle.vx_requests.proofs.Common.{w32, from_be_bytes, Frame, IsFrame, IsLength, said_length, frame_bytes}
 use Rattle.std.proofs.lemmas.List.{take-append-le}
 use Rattle.vx_requests.proofs.EverySplit.{first_frame, IsBytes}
 use Rattle.vx_requests.proofs.OneSplit.{frame_length}
-
--- the first four bytes, one by one
-pub front_said : (bytes : List ℕ)
-    → 4 ≤ length bytes
-    → from_be_bytes w32
-    (get_or bytes 0 0 ∷ get_or bytes 1 0 ∷ get_or bytes 2 0 ∷ get_or bytes 3 0 ∷ [])
-    ≡ said_length bytes
-front_said (a ∷ b ∷ c ∷ d ∷ bytes) four = refl
-front_said bytes four = absurd (omega arith)
 
 -- the length is in the first part
 pub said_of_front : (front back : List ℕ)
