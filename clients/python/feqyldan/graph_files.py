@@ -336,7 +336,8 @@ def told_by(path: Path) -> Dict[str, Any]:
 
 def fault_of_contents(told: Any) -> str:
     """Returns why a JSON value can't be the contents of a graph file; empty if it can."""
-    if not isinstance(told, dict) or told.get("feqyldan") != VERSION:
+    version = told.get("feqyldan") if isinstance(told, dict) else None
+    if isinstance(version, bool) or version != VERSION:
         return (f'this isn\'t a graph file of version {VERSION}: it lacks "feqyldan": {VERSION}; '
                 "Graph.save() writes it")
     if not isinstance(told.get("objects"), dict) or not isinstance(told.get("nodes"), list):

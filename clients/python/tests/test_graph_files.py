@@ -271,6 +271,7 @@ class TestFiles(FolderTest, ProgramTest):
                 self.context.load_graph(path)
         for text, words in (
                 ("{", "the file isn't JSON: "), ("[]", 'it lacks "feqyldan": 1; '),
+                ('{"feqyldan": true, "objects": {}, "nodes": []}', 'it lacks "feqyldan": 1; '),
                 ('{"feqyldan": 1}', 'needs "objects"'), ("[" * 100_000, "nested too deeply"),
                 ('{"feqyldan": 1, "objects": {}, "nodes": [], "node": []}', "has no field 'node'"),
                 ('{"feqyldan": 1, "objects": {"a": {}, "a": {}}, "nodes": []}',
