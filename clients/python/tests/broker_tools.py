@@ -276,6 +276,10 @@ class Broker:
     def program(self) -> Program:
         return Program(self.path)
 
+    def children(self) -> List[int]:
+        """Returns the processes that it has started for connections."""
+        return children_of(self.process.pid)
+
     def status(self) -> int:
         return self.process.wait(LATE)
 
@@ -308,6 +312,14 @@ class Door(Broker):
 
     def prelude_of(self, command: Optional[List[str]]) -> str:
         return ""
+
+    @property
+    def starter(self) -> int:
+        """The process that starts the servers."""
+        return super().children()[0]
+
+    def children(self) -> List[int]:
+        return super().children()[1:] + children_of(self.starter)
 
 
 def files_of(process: int) -> int:

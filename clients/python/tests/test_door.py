@@ -19,10 +19,12 @@ from typing import Dict, List
 
 from broker_tools import (
     CLIENT, HERE, LATE, PACKAGE, PLAIN, PROGRAM, Broker, BrokerTest, Door, Program, all_of,
-    children_of, files_of, plain, runs, success)
+    files_of, plain, runs, success)
 import feqyldan as vx
 from feqyldan import program, wire
-from feqyldan.door.program import NICE, TRIAL_SECONDS, chosen
+from feqyldan.door.program import chosen
+from feqyldan.door.starting import NICE
+from feqyldan.door.trial import TRIAL_SECONDS
 from feqyldan.door.waiting import USERS, Waiting
 from feqyldan.service.admission import Owner
 from feqyldan.service.descriptors import Descriptors
@@ -83,7 +85,7 @@ class DoorTest(BrokerTest):
     def has_nothing(self, door: Broker) -> bool:
         """Returns whether no server is left, and the door has no more open files than at its
         start."""
-        return door.wait_for(lambda: not children_of(door.process.pid)
+        return door.wait_for(lambda: not door.children()
                              and not door.state()["servers"])
 
 
@@ -97,7 +99,10 @@ class Connections(DoorTest):
             self.assertEqual(asked.ask(plain(1)), success(1))
         self.assertEqual([asked.who_asked() for asked in programs],
                          [[(CLIENT, 1), (CLIENT, WHO_ASKED)]] * 3)
-        self.assertEqual(len({server["process"] for server in door.state()["servers"]}), 3)
+        servers = {server["process"] for server in door.state()["servers"]}
+        self.assertEqual(len(servers), 3)
+        # It has the connection and standard error, and nothing of the door.
+        self.assertEqual({files_of(server) for server in servers}, {3})
 
     def test_frames_and_replies_pass_as_they_are(self) -> None:
         asker = self.connect(self.begin())
@@ -293,6 +298,15 @@ class Ends(DoorTest):
         self.assertEqual(asker.ask(plain(50)), success(50))
         asker.sock.close()
         self.assertTrue(again.wait_for(lambda: not runs(server)))
+
+    def test_programs_go_on_where_the_process_that_starts_servers_is_killed(self) -> None:
+        door = self.begin()
+        asker = self.connect(door)
+        self.assertEqual(asker.ask(plain(1)), success(1))
+        os.kill(door.starter, signal.SIGKILL)
+        self.assertEqual(door.status(), 2)
+        self.assertIn("the process that starts the servers has ended", door.words())
+        self.assertEqual(asker.ask(plain(50)), success(50))
 
 
 class Turns(unittest.TestCase):
@@ -509,13 +523,13 @@ class Programs(DoorTest):
             door = self.begin(command=[path], tells_state=True)
             self.write(path, "#!/bin/sh\nexec sleep 1000\n")
             door.process.send_signal(signal.SIGHUP)
-            self.assertTrue(door.wait_for(lambda: children_of(door.process.pid) != []))
+            self.assertTrue(door.wait_for(lambda: door.children() != []))
             start = time.monotonic()
             self.assertEqual(self.connect(door).ask(plain(1)), success(1))
             self.assertLess(time.monotonic() - start, TRIAL_SECONDS / 2)
             self.assertTrue(door.says("still runs 10 s after the end of its input"))
             self.assertEqual(self.connect(door).ask(plain(1)), success(1))
-            self.assertTrue(door.wait_for(lambda: len(children_of(door.process.pid)) == 2))
+            self.assertTrue(door.wait_for(lambda: len(door.children()) == 2))
 
     def test_a_package_s_starter_is_asked_once(self) -> None:
         """The door starts the program that the starter would start."""

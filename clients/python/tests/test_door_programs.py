@@ -18,7 +18,7 @@ import unittest
 from typing import Any, List, Set
 
 from broker_tools import (
-    CLIENT, HERE, LATE, PROGRAM, Broker, Door, Program, children_of, files_of, passes_longest,
+    CLIENT, HERE, LATE, PROGRAM, Broker, Door, Program, files_of, passes_longest,
     peak_bytes, runs)
 from test_broker_programs import PATIENCE, Crowd
 from feqyldan import wire
@@ -62,7 +62,7 @@ class ManyPrograms(Crowd):
         """Checks that no process, file or memory is left: a newcomer finds what the first one
         found."""
         process = door.process.pid
-        self.assertTrue(door.wait_for(lambda: not children_of(process)))
+        self.assertTrue(door.wait_for(lambda: not door.children()))
         state = door.state()
         self.assertEqual((state["connections"]["open"], state["servers"]), (0, []))
         with self.kind(*self.OPTIONS, command=[str(PROGRAM), "serve"], tells_state=True) as fresh:
@@ -90,7 +90,7 @@ class ManyPrograms(Crowd):
         door = self.serve_all(refuses_descriptors=False)
         self.assertTrue(door.wait_for(lambda: not door.state()["servers"]))
         # One closes what the others sent.
-        self.assertLessEqual(len(children_of(door.process.pid)), 1)
+        self.assertLessEqual(len(door.children()), 1)
         self.assertEqual(door.stop(), 0)
 
     def test_where_servers_are_killed(self) -> None:

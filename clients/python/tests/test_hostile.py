@@ -21,7 +21,7 @@ import unittest
 from typing import List, Optional
 
 from broker_tools import (
-    CLIENT, HERE, LATE, PLAIN, PROGRAM, Broker, BrokerTest, Door, children_of, plain, runs, success)
+    CLIENT, HERE, LATE, PLAIN, PROGRAM, Broker, BrokerTest, Door, plain, runs, success)
 from test_broker_faults import SOON, Lingering
 from feqyldan import wire
 from feqyldan.door.loop import KILL_SECONDS
@@ -373,7 +373,7 @@ class SentFiles(Hostile):
         self.assertTrue(program.has_ended())
         self.assertTrue(broker.says("is ended: it sent file descriptors"))
         # The process that closed the connection has ended.
-        self.assertTrue(broker.wait_for(lambda: not children_of(broker.process.pid)))
+        self.assertTrue(broker.wait_for(lambda: not broker.children()))
 
 
 class StatusSockets(Hostile):

@@ -18,7 +18,7 @@ from program import PROGRAM, needs_program, skip_module_in_process, vx
 from feqyldan.broker import command_line as broker
 from feqyldan.door import command_line as door
 from feqyldan.door.loop import KILL_SECONDS
-from feqyldan.door.program import NICE
+from feqyldan.door.starting import NICE
 from feqyldan.service.listener import STATUS_NAME
 
 skip_module_in_process("it is about the processes of systemd")

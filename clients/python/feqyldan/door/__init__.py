@@ -17,8 +17,8 @@ What connections can rely on, and how it is ensured:
 - The door's own end affects no connection: if it is killed, servers and programs go on.
 
 The door counts connections: all, those of a process and those of a user. It turns away those over a
-limit. One server is started after another. The next one is for the user whose last start is the
-longest ago.
+limit. One server is started after another, by a small process of the door that does nothing else.
+The next one is for the user whose last start is the longest ago.
 """
 
 from .command_line import main

@@ -27,7 +27,7 @@ them immediately. After SIGHUP the door looks up the program again, and tries it
 New connections get it if the trial succeeds; otherwise they get the same program file as before.
 
 Failures: if the door is killed or crashes, its servers and their programs keep running. It ends
-with status 2 if it can't start itself.
+with status 2 if it can't start itself, or if the process that starts its servers has ended.
 
 Socket activation: a service manager may pass one or two listening sockets (LISTEN_FDS) instead of
 --socket and --status.

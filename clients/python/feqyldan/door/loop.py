@@ -1,6 +1,5 @@
 """The loop over new connections, ends of servers and signals."""
 
-import os
 import select
 import signal
 import socket
@@ -9,13 +8,17 @@ from functools import partial
 from typing import Any, Dict, NamedTuple, Optional
 
 from ..service.admission import Owner
+from ..service.events import READ
 from ..service.front import Front
 from ..service.lines import Unusable
 from ..service.listener import Listener
 from ..service.signals import Signals
 from .counts import LATE, USUAL, USUAL_ENDS, Counts, as_metrics, meaning_of
-from .program import NICE, Failures, Plan, Program, Trial, set_nice
+from .program import Plan, Program
 from .server import Server
+from .starter import Begin, End, Starter
+from .starting import NICE, set_nice
+from .trial import Trial
 from .waiting import Waiting
 
 # Seconds between two checks of the clock.
@@ -56,8 +59,8 @@ class Door(Front):
         # The program of new servers; and the one that takes its place if its trial succeeds.
         self.program = program
         self.trial: Optional[Trial] = None
-        self.failures = Failures()
-        # The connections without a server so far, and the servers by their process numbers.
+        self.starter = Starter()
+        # The connections without a server so far, and the servers by their numbers.
         self.waiting = Waiting()
         self.servers: Dict[int, Server] = {}
         super().__init__("door", listener, status, self.counts, limits, as_metrics)
@@ -66,6 +69,7 @@ class Door(Front):
         self.stops_at: Optional[float] = None
         self.was_told_twice = False
         self.signals = Signals(self.events, self.take_signals)
+        self.events.watch(self.starter.sock.fileno(), READ, self.hear)
 
     # ---- the loop
 
@@ -88,20 +92,21 @@ class Door(Front):
                         handler(mask)
                     if self.waiting:
                         self.start_next()
+                        self.hear()
                     self.look_at_clock()
                 self.kill_all()
         finally:
             self.close()
-            self.failures.close()
+            self.starter.close()
         return 0
 
     def try_first(self) -> None:
         """Raises Unusable if the program isn't a server."""
-        trial = Trial(self.program, self.plan, self.failures)
-        status = trial.wait()
-        if status is None:
-            os.kill(trial.process, signal.SIGKILL)
-        fault = trial.fault(status, self.failures.of(trial.process))
+        trial = Trial(self.program, self.plan, self.starter)
+        end = trial.wait()
+        if end is None:
+            self.starter.kill(trial.number)
+        fault = trial.fault(end)
         if fault:
             raise Unusable(fault)
 
@@ -157,64 +162,60 @@ class Door(Front):
             self.descriptors.close(sock)
             return
         try:
-            server = Server(sock, owner, self.program, self.plan, self.failures, self.now)
+            server = Server(sock, owner, self.program, self.plan, self.starter, self.now)
         except (OSError, ValueError) as error:
             self.admission.let_out(owner)
             self.admission.turn_away(sock, owner, f"no server could be started: {error}")
             return
-        self.servers[server.process] = server
+        self.servers[server.number] = server
         self.events.watch_end(sock.fileno(), partial(self.leave, server))
 
     def leave(self, server: Server, _mask: int) -> None:
         """Handles the end of a connection: nobody can read a reply any more, so its server is
         killed, even if its user has stopped it."""
         # The server's own end may come with the same events, and be handled before.
-        if self.servers.get(server.process) is server:
+        if server.number in self.servers:
             self.events.forget(server.sock.fileno())
             server.has_left = True
-            os.kill(server.process, signal.SIGKILL)
+            self.starter.kill(server.number)
 
-    # ---- servers that end
+    # ---- servers that begin and end
 
-    def bury(self) -> None:
-        """Removes all servers that have ended, and counts them."""
-        while True:
-            try:
-                process, status, usage = os.wait4(-1, os.WNOHANG)
-            except ChildProcessError:
-                return
-            if process == 0:
-                return
-            self.descriptors.closers.discard(process)
-            reason = self.failures.of(process)
-            server = self.servers.pop(process, None)
-            if server is not None:
-                self.counts.processor_seconds += usage.ru_utime + usage.ru_stime
-                self.end(server, os.waitstatus_to_exitcode(status), reason)
-            elif self.trial is not None and process == self.trial.process:
-                self.end_trial(os.waitstatus_to_exitcode(status), reason)
+    def hear(self, _mask: int = 0) -> None:
+        """Notes the processes of servers that have begun. Removes all servers that have ended, and
+        counts them."""
+        for told in self.starter.told():
+            server = self.servers.get(told.number)
+            if isinstance(told, Begin):
+                if server is not None:
+                    server.process = told.process
+            elif server is not None:
+                del self.servers[told.number]
+                self.counts.processor_seconds += told.seconds
+                self.end(server, told)
+            elif self.trial is not None and told.number == self.trial.number:
+                self.end_trial(told)
 
-    def end(self, server: Server, status: int, reason: Optional[str]) -> None:
-        """Handles the end of a server's process, with its exit status, and the reason why it
-        couldn't become the program."""
+    def end(self, server: Server, end: End) -> None:
+        """Handles the end of a server."""
         self.events.forget(server.sock.fileno())
         self.admission.let_out(server.owner)
-        if reason is not None:
+        if end.reason is not None:
             self.admission.turn_away(server.sock, server.owner,
-                                     f"no server could be started: {reason}")
+                                     f"no server could be started: {end.reason}")
             return
-        is_late = status == LATE and not server.has_left and not has_ended(server.sock)
+        is_late = end.status == LATE and not server.has_left and not has_ended(server.sock)
         self.descriptors.close(server.sock)
         self.counts.ended += 1
-        if status not in (USUAL_ENDS if server.has_left else USUAL):
+        if end.status not in (USUAL_ENDS if server.has_left else USUAL):
             self.counts.failed += 1
-            self.lines.say(f"{server} {meaning_of(status)}")
+            self.lines.say(f"{server} {meaning_of(end.status)}")
         elif is_late:
             self.lines.say(f"{server} ended: its program {self.plan.lateness}")
 
     def kill(self, server: Server, why: str) -> None:
         self.lines.say(f"{server} is killed: {why}")
-        os.kill(server.process, signal.SIGKILL)
+        self.starter.kill(server.number)
 
     # ---- the clock, and the end
 
@@ -223,10 +224,10 @@ class Door(Front):
             return
         self.looked_at = self.now
         self.manager.is_alive()
-        self.bury()
+        self.descriptors.reap()
         if self.trial is not None and self.now > self.trial.until:
-            os.kill(self.trial.process, signal.SIGKILL)
-            self.end_trial(None, None)
+            self.starter.kill(self.trial.number)
+            self.end_trial(None)
         self.end_late_visitors()
         self.report(self.open)
 
@@ -243,7 +244,7 @@ class Door(Front):
     def take_signals(self, _mask: int) -> None:
         for which in self.signals.taken():
             if which == signal.SIGCHLD:
-                self.bury()
+                self.descriptors.reap()
             elif which == signal.SIGHUP:
                 if self.stops_at is None:
                     self.reload()
@@ -258,20 +259,20 @@ class Door(Front):
         """Finds the program again, and tries it. New connections get it after the trial."""
         self.stop_trial()
         try:
-            self.trial = Trial(Program(self.plan.command), self.plan, self.failures)
+            self.trial = Trial(Program(self.plan.command), self.plan, self.starter)
         except (Unusable, OSError) as reason:
             self.keep_program(str(reason))
 
     def stop_trial(self) -> None:
         if self.trial is not None:
-            os.kill(self.trial.process, signal.SIGKILL)
+            self.starter.kill(self.trial.number)
             self.trial = None
 
-    def end_trial(self, status: Optional[int], reason: Optional[str]) -> None:
-        """Handles the end of a trial; Trial.fault() explains the arguments."""
+    def end_trial(self, end: Optional[End]) -> None:
+        """Handles the end of a trial; None if it didn't end in time."""
         assert self.trial is not None
         trial, self.trial = self.trial, None
-        fault = trial.fault(status, reason)
+        fault = trial.fault(end)
         if fault:
             self.keep_program(fault)
             return
@@ -301,7 +302,7 @@ class Door(Front):
         until = time.monotonic() + KILL_SECONDS
         while self.servers and time.monotonic() < until:
             time.sleep(KILL_LOOKS)
-            self.bury()
+            self.hear()
         for server in self.servers.values():
             # Another process traces it, or a call of it to the system doesn't end.
             self.lines.say(f"{server} was killed and hasn't ended; the door doesn't wait for it")

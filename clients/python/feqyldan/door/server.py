@@ -9,7 +9,8 @@ from typing import Any, Dict, Tuple
 from ..service.admission import Owner
 from ..service.metrics import memory_of
 from ..service.peers import peer_of
-from .program import Failures, Plan, Program, start
+from .program import Plan, Program
+from .starter import Starter
 
 # Bytes of replies that a server may write ahead of the program, as far as the system allows it. The
 # more, the less often the server wakes up.
@@ -27,7 +28,7 @@ class Server:
     program leaves, and ends the server's input."""
 
     def __init__(self, sock: socket.socket, owner: Owner, program: Program, plan: Plan,
-                 failures: Failures, now: float) -> None:
+                 starter: Starter, now: float) -> None:
         self.sock, self.owner, self.began_at = sock, owner, now
         # Whether the program at the other end has left.
         self.has_left = False
@@ -37,7 +38,9 @@ class Server:
         if plan.idle is not None:
             set_time(sock, socket.SO_RCVTIMEO, plan.idle)
         peer = peer_of(sock) if plan.is_of_peer else None
-        self.process = start(program, sock.fileno(), plan, peer, failures)
+        self.number = starter.start(program, sock.fileno(), plan, peer)
+        # 0 until it has begun.
+        self.process = 0
 
     def __str__(self) -> str:
         return f"the server of process {self.process} for {self.owner}"

@@ -82,13 +82,10 @@ def raise_file_limit(whose: str, files: int) -> None:
         resource.setrlimit(resource.RLIMIT_NOFILE, (wanted, hard))
 
 
-def limit_memory(process: int, memory: Optional[int]) -> None:
-    """Limits the address space of a process, in bytes, to `memory` or this program's own limit, the
-    smaller one. If `memory` is None, only the own limit counts."""
+def address_space(memory: Optional[int]) -> int:
+    """Returns the limit of a server's address space, in bytes: `memory` or this program's own
+    limit, the smaller one. If `memory` is None, only the own limit counts."""
     allowed = resource.getrlimit(resource.RLIMIT_AS)[1]
     limits = [limit for limit in (memory, allowed)
               if limit is not None and limit != resource.RLIM_INFINITY]
-    limit = min(limits, default=resource.RLIM_INFINITY)
-    # The process may have ended.
-    with contextlib.suppress(ProcessLookupError):
-        resource.prlimit(process, resource.RLIMIT_AS, (limit, limit))
+    return min(limits, default=resource.RLIM_INFINITY)
