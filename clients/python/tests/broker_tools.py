@@ -328,8 +328,12 @@ def files_of(process: int) -> int:
 
 
 def children_of(process: int) -> List[int]:
-    with open(f"/proc/{process}/task/{process}/children") as children:
-        return [int(word) for word in children.read().split()]
+    """Returns the processes that the threads of a process have started."""
+    found: List[int] = []
+    for thread in os.listdir(f"/proc/{process}/task"):
+        with open(f"/proc/{process}/task/{thread}/children", encoding="utf-8") as file:
+            found += map(int, file.read().split())
+    return found
 
 
 def runs(process: int) -> bool:

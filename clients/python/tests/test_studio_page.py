@@ -12,6 +12,7 @@ import threading
 import time
 import unittest
 
+from broker_tools import children_of
 from program import PROGRAM, TOOLS, of_a_process, vx
 from studio_browser import ABSENT, CONTROL, Page, StudioProcess, browser, set_theme
 from test_graph_files import FolderTest
@@ -558,15 +559,6 @@ class TestPage(PageTest):
         sample = page.run("const full = studio.result.fulls.get('camera');"
                           "return [full.at(full.x0 + 7, full.y0 + 2), full.x0 + 7]")
         self.assertEqual(sample[0], sample[1] % 250)
-
-
-def children_of(process):
-    """Returns the processes that the threads of a process have started."""
-    found = []
-    for thread in os.listdir(f"/proc/{process}/task"):
-        with open(f"/proc/{process}/task/{thread}/children", encoding="utf-8") as file:
-            found += map(int, file.read().split())
-    return found
 
 
 # The text of the page whose contrast with its background is too low, in JavaScript.

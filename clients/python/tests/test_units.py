@@ -197,6 +197,8 @@ class Units(unittest.TestCase):
         allowed, excluded = unit("feqyldan-door.service")["SystemCallFilter"]
         calls = self.calls_of(allowed) - self.calls_of(excluded[1:])
         self.assertLessEqual({"setpriority", "prlimit64", "setsid", "execve"}, calls)
+        # With these it reaches the process that starts the servers.
+        self.assertLessEqual({"socketpair", "sendmsg", "recvmsg", "wait4", "kill"}, calls)
 
     def test_no_burst_stops_a_socket(self) -> None:
         for path in glob.glob(f"{DEPLOY}/*.socket"):

@@ -16,7 +16,7 @@ from ..service.signals import Signals
 from .counts import LATE, USUAL, USUAL_ENDS, Counts, as_metrics, meaning_of
 from .program import Plan, Program
 from .server import Server
-from .starter import Begin, End, Starter
+from .starter import Ended, Started, Starter
 from .starting import NICE, set_nice
 from .trial import Trial
 from .waiting import Waiting
@@ -50,7 +50,7 @@ def has_ended(sock: socket.socket) -> bool:
 class Door(Front):
     """The door: its listening socket, and the servers, each with its connection."""
 
-    # Accepting one takes a fiftieth of the time of a start. So the users' turns are soon known.
+    # Accepting one takes about a tenth of the time of a start. So the users' turns are soon known.
     accepted_at_once = 32
 
     def __init__(self, listener: Listener, status: Optional[Listener], program: Program, plan: Plan,
@@ -179,14 +179,14 @@ class Door(Front):
             server.has_left = True
             self.starter.kill(server.number)
 
-    # ---- servers that begin and end
+    # ---- servers that were started and have ended
 
     def hear(self, _mask: int = 0) -> None:
-        """Notes the processes of servers that have begun. Removes all servers that have ended, and
-        counts them."""
+        """Notes the processes of servers that were started. Removes all servers that have ended,
+        and counts them."""
         for told in self.starter.told():
             server = self.servers.get(told.number)
-            if isinstance(told, Begin):
+            if isinstance(told, Started):
                 if server is not None:
                     server.process = told.process
             elif server is not None:
@@ -196,7 +196,7 @@ class Door(Front):
             elif self.trial is not None and told.number == self.trial.number:
                 self.end_trial(told)
 
-    def end(self, server: Server, end: End) -> None:
+    def end(self, server: Server, end: Ended) -> None:
         """Handles the end of a server."""
         self.events.forget(server.sock.fileno())
         self.admission.let_out(server.owner)
@@ -268,7 +268,7 @@ class Door(Front):
             self.starter.kill(self.trial.number)
             self.trial = None
 
-    def end_trial(self, end: Optional[End]) -> None:
+    def end_trial(self, end: Optional[Ended]) -> None:
         """Handles the end of a trial; None if it didn't end in time."""
         assert self.trial is not None
         trial, self.trial = self.trial, None

@@ -39,7 +39,7 @@ class Server:
             set_time(sock, socket.SO_RCVTIMEO, plan.idle)
         peer = peer_of(sock) if plan.is_of_peer else None
         self.number = starter.start(program, sock.fileno(), plan, peer)
-        # 0 until it has begun.
+        # 0 until the door knows it.
         self.process = 0
 
     def __str__(self) -> str:

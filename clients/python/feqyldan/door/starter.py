@@ -17,15 +17,15 @@ from .program import Plan, Program
 from .starting import BEGAN, FAILED, KILL, MOST_BYTES, START, joined, words_of
 
 
-class Begin(NamedTuple):
-    """The begin of the server with this number, as a process."""
+class Started(NamedTuple):
+    """The server with this number was started, as a process."""
 
     number: int
     process: int
 
 
-class End(NamedTuple):
-    """The end of a server: its exit status, the seconds of the processors that it had, and the
+class Ended(NamedTuple):
+    """A server has ended: its exit status, the seconds of the processors that it had, and the
     reason if no process became the program."""
 
     number: int
@@ -35,7 +35,7 @@ class End(NamedTuple):
 
 
 class Starter:
-    """Lets servers be started and killed, and tells of their begins and ends."""
+    """Lets servers be started and killed, and tells when they were started and have ended."""
 
     def __init__(self) -> None:
         self.sock, other = socket.socketpair(socket.AF_UNIX, socket.SOCK_SEQPACKET)
@@ -47,7 +47,7 @@ class Starter:
         self.numbers = itertools.count(1)
         # The messages that have come before told() asks for them.
         self.left: List[List[str]] = []
-        # The reasons why servers couldn't begin, until their ends are told.
+        # The reasons why no process became the program, until the ends are told.
         self.reasons: Dict[int, str] = {}
 
     def start(self, program: Program, stream: int, plan: Plan, peer: Optional[Peer]) -> int:
@@ -67,9 +67,9 @@ class Starter:
         """Lets a server be killed, unless it has ended."""
         self.send([KILL, str(number)])
 
-    def told(self, seconds: float = 0) -> Iterator[Union[Begin, End]]:
-        """Yields the begins and ends since the last call, in order. Waits for the first message, at
-        most these seconds."""
+    def told(self, seconds: float = 0) -> Iterator[Union[Started, Ended]]:
+        """Yields which servers were started and have ended since the last call, in order. Waits for
+        the first message, at most these seconds."""
         while self.wait(select.POLLIN, 0 if self.left else seconds):
             self.left.append(self.received())
         while self.left:
@@ -78,9 +78,9 @@ class Starter:
             if kind == FAILED:
                 self.reasons[number] = words[0]
             elif kind == BEGAN:
-                yield Begin(number, int(words[0]))
+                yield Started(number, int(words[0]))
             else:
-                yield End(number, int(words[0]), float(words[1]), self.reasons.pop(number, None))
+                yield Ended(number, int(words[0]), float(words[1]), self.reasons.pop(number, None))
 
     def send(self, words: List[str], files: Sequence[int] = ()) -> None:
         # The other end takes no order before it could tell what it has to tell.

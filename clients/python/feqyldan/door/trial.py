@@ -5,7 +5,7 @@ import time
 from typing import Optional
 
 from .program import Plan, Program
-from .starter import End, Starter
+from .starter import Ended, Starter
 
 # The seconds that a server with empty input may take to end.
 TRIAL_SECONDS = 10.0
@@ -23,7 +23,7 @@ class Trial:
             os.close(null)
         self.until = time.monotonic() + TRIAL_SECONDS
 
-    def fault(self, end: Optional[End]) -> Optional[str]:
+    def fault(self, end: Optional[Ended]) -> Optional[str]:
         """Returns in words what is wrong with the program; None if nothing is. `end` is None if it
         didn't end."""
         words = self.program.words
@@ -37,11 +37,11 @@ class Trial:
                     "it a Feqyldan server, and are its arguments right?")
         return None
 
-    def wait(self) -> Optional[End]:
+    def wait(self) -> Optional[Ended]:
         """Returns how the program ended, before any other one was started; None if it doesn't end
         in time."""
         while time.monotonic() < self.until:
             for told in self.starter.told(self.until - time.monotonic()):
-                if isinstance(told, End):
+                if isinstance(told, Ended):
                     return told
         return None

@@ -6,9 +6,6 @@ from typing import Iterable
 
 from .signals import TAKEN, held
 
-# The signals that Python ignores. A program that is started expects their defaults.
-IGNORED_BY_PYTHON = (signal.SIGPIPE, signal.SIGXFSZ)
-
 
 def fork() -> int:
     """Forks, and returns the child's process; 0 in the child. A signal to the child has its default
@@ -18,7 +15,7 @@ def fork() -> int:
         process = os.fork()
         if process == 0:
             signal.set_wakeup_fd(-1)
-            for which in (*TAKEN, *IGNORED_BY_PYTHON):
+            for which in TAKEN:
                 signal.signal(which, signal.SIG_DFL)
     return process
 
