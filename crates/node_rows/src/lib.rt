@@ -13,7 +13,5 @@
 pub mod examples;
 mod functions;
 pub mod laws;
-#[cfg(test)]
-mod tests;
 
 pub use functions::window_radius;

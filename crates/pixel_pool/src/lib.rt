@@ -21,8 +21,6 @@ pub mod laws;
 mod pool;
 mod shelf;
 mod stacks;
-#[cfg(test)]
-mod tests;
 
 pub use block::Block;
 pub use pool::Pool;

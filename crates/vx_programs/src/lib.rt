@@ -11,8 +11,6 @@ mod ended;
 mod job;
 mod output;
 mod program;
-#[cfg(test)]
-mod tests;
 
 pub use ended::Ended;
 pub use program::run;

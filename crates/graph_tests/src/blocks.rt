@@ -1,10 +1,10 @@
-//! Reuse of blocks, and their capacities.
+//! Blocks of a pool: their reuse, and their capacities.
 ghost use Rattle.std.specs.Prelude.{◌≡◌};
 ghost use Rattle.vx_base.specs.Picture.{samples_format};
 ghost use Rattle.pixel_pool.specs.Pool.{HasLent};
 
-use crate::laws::{taken_again, taken_and_given_back};
-use crate::{Block, Pool};
+use pixel_pool::laws::{taken_again, taken_and_given_back};
+use pixel_pool::{Block, Pool};
 use std::test::Fail;
 use vx_base::{Format, Samples};
 

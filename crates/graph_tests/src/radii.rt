@@ -1,5 +1,5 @@
 //! The vertical radii of some functions.
-use crate::window_radius;
+use node_rows::window_radius;
 use std::test::Fail;
 use vx_base::{Convolution, Function};
 
