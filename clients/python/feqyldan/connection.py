@@ -47,6 +47,7 @@ REST = 5
 WAITING = "wait for replies"
 # The modules with the classes of connections.
 CONNECTIONS = {__name__, f"{__package__}.direct"}
+PACKAGE = __name__.partition(".")[0]
 # The most buffers for long replies that are kept for reuse.
 KEPT = 4
 # The size of the buffer for short replies, in bytes.
@@ -370,6 +371,25 @@ def is_within_a_call() -> bool:
                 frame.f_globals.get("__name__") in CONNECTIONS):
             frame = frame.f_back
     return frame is not None
+
+
+def is_interrupted(owner: Any) -> bool:
+    """Returns whether a call of this package is made in a signal's handler that interrupts another
+    one, of a method of `owner` or of an object that has it as its context."""
+    frame: Optional[FrameType] = sys._getframe(1)
+    while frame is not None and is_of_package(frame):
+        frame = frame.f_back
+    while frame is not None:
+        if is_of_package(frame):
+            other = frame.f_locals.get("self")
+            if other is owner or getattr(other, "_context", None) is owner:
+                return True
+        frame = frame.f_back
+    return False
+
+
+def is_of_package(frame: FrameType) -> bool:
+    return str(frame.f_globals.get("__name__")).partition(".")[0] == PACKAGE
 
 
 class Connection:

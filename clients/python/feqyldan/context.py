@@ -17,7 +17,8 @@ from typing import (
     TypeVar, Union)
 
 from . import wire
-from .connection import GREATEST_REQUEST, Body, Connection, Explain, Part, Request
+from .connection import (
+    GREATEST_REQUEST, Body, Connection, Explain, Part, Request, is_interrupted)
 from .direct import DirectConnection
 from .errors import Closed, Fault, FeqyldanError, InvalidScope, NestedCall
 from .files import picture_in
@@ -37,7 +38,7 @@ from .storage import Path, name_of_file, naming, read_bytes
 from .uncopied import Uncopied
 from .usage import Usage, Used, wanted_bytes
 from .verdicts import formats_in_words, narrowing_for, parameter_for
-from .whole import BYTE, SIGNED, UNSIGNED, whole, within
+from .whole import BYTE, NO_SEQUENCE, SIGNED, UNSIGNED, whole, within
 
 if TYPE_CHECKING:
     from .server import Server
@@ -96,13 +97,15 @@ class Context(Uncopied):
     Each object can have a name=, which messages use.
     """
 
-    __slots__ = ("_server", "_connection", "_number", "_pipeline", "_stretch", "_alive", "_dead",
-                 "_unclaimed", "_releasing", "_used", "_barred", "_is_closed", "_is_unsettled",
-                 "__weakref__")
+    __slots__ = ("_server", "_connection", "_number", "_borrowed", "_pipeline", "_stretch",
+                 "_alive", "_dead", "_unclaimed", "_releasing", "_used", "_barred", "_is_closed",
+                 "_is_unsettled", "__weakref__")
 
     def __init__(self, server: Server, connection: Union[Connection, DirectConnection],
                  number: int) -> None:
         self._server, self._connection, self._number = server, connection, number
+        # The client number, until it is given back. Another context may have it from then on.
+        self._borrowed = [number]
         # The open pipeline, and its refusals. The reference is weak: after an interruption within
         # __enter__ nobody holds the pipeline, and it counts as closed.
         self._pipeline: Optional[weakref.ref[Pipeline]] = None
@@ -555,7 +558,10 @@ class Context(Uncopied):
 
     def _release_forgotten(self) -> None:
         """Releases the objects that Python has freed. After an interruption it may release some
-        again; the server refuses the second request."""
+        again; the server refuses the second request. A call in a signal's handler leaves them to
+        the call that it interrupts, which may have asked for one of them."""
+        if is_interrupted(self):
+            return
         thread = threading.get_ident()
         for name in [name for name, maker in list(self._unclaimed.items()) if maker == thread]:
             self._release_unseen(name)
@@ -690,7 +696,7 @@ def two_limits(between: Any) -> Tuple[Any, Any]:
     """Returns the two limits of `between`. Raises TypeError for anything else."""
     try:
         lower, upper = between
-    except (TypeError, ValueError):
+    except (*NO_SEQUENCE, ValueError):
         raise TypeError(f"between must be two limits, (lower, upper), not {between!r}") from None
     return lower, upper
 

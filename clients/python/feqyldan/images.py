@@ -18,7 +18,7 @@ from .samples import (
     samples_of, turned)
 from .storage import Path
 from .uncopied import Uncopied
-from .whole import UNSIGNED, whole, within
+from .whole import NO_SEQUENCE, UNSIGNED, whole, within
 
 if TYPE_CHECKING:
     import numpy
@@ -48,7 +48,7 @@ class ValidRectangle:
     def __set__(self, image: AnyImage, rectangle: Tuple[int, int, int, int]) -> None:
         try:
             given = tuple(rectangle)
-        except TypeError:
+        except NO_SEQUENCE:
             given = ()
         if len(given) != 4:
             raise ValueError(f"the valid rectangle of {image} must be (x0, y0, x1, y1), not "

@@ -3,6 +3,7 @@
 from __future__ import annotations
 
 import asyncio
+import itertools
 import os
 import threading
 from collections import deque
@@ -11,7 +12,7 @@ from types import TracebackType
 from typing import Deque, Dict, List, Optional, Sequence, Type, TypeVar, Union
 
 from . import core, wire
-from .connection import Connection, Request
+from .connection import Connection, Request, is_interrupted
 from .context import Context, Death
 from .core import Core
 from .direct import DirectConnection
@@ -59,7 +60,7 @@ class Server(Forked, Uncopied):
     process a call ends before Ctrl-C interrupts. In the child of a fork the server is closed.
     """
 
-    __slots__ = ("_lock", "_next_number", "_free_numbers", "_left", "_alive", "_dead", "_ended_by",
+    __slots__ = ("_lock", "_numbers", "_free_numbers", "_left", "_alive", "_dead", "_ended_by",
                  "_quota", "_work", "_connection", "_process", "__weakref__")
 
     def __init__(self, program: Union[Path, Sequence[str], None] = None, *,
@@ -69,8 +70,8 @@ class Server(Forked, Uncopied):
         seconds, path = seconds_of(timeout), core_for(program, process, timeout)
         words = [] if path else command(find() if program is None else program, quota, work)
         self._lock = threading.RLock()
-        # The least client number that no context ever had, and the numbers that are free again.
-        self._next_number = 0
+        # The client numbers that no context ever had, and those that are free again.
+        self._numbers = itertools.count()
         self._free_numbers: List[int] = []
         # The contexts that have ended at a moment when they couldn't be closed.
         self._left: Deque[Context] = deque()
@@ -119,7 +120,7 @@ class Server(Forked, Uncopied):
         number = self._take_number()
         try:
             context = Context(self, self._connection, number)
-        except Refused:
+        except (NestedCall, Refused):
             self._free_numbers.append(number)
             raise
         self._watch(context, number)
@@ -133,7 +134,10 @@ class Server(Forked, Uncopied):
 
     def _release_dead(self) -> None:
         """Releases the contexts that Python has freed. After an interruption it may release one
-        again; the server refuses the second request, because no other context has its number."""
+        again; the server refuses the second request, because no other context has its number. A
+        call in a signal's handler leaves them to the call that it interrupts."""
+        if is_interrupted(self):
+            return
         with self._lock:
             while self._dead:
                 number = self._dead[0].name
@@ -147,8 +151,11 @@ class Server(Forked, Uncopied):
     def _give_back(self, context: Context, is_released: bool) -> None:
         """Takes back the client number of a context that has ended, unless that was done before.
         The number is free again if the server has released the context."""
-        if self._alive.pop(context.number, None) is not None and is_released:
-            self._free_numbers.append(context.number)
+        with suppress(IndexError):
+            number = context._borrowed.pop()
+            self._alive.pop(number, None)
+            if is_released:
+                self._free_numbers.append(number)
 
     def _leave(self, context: Context) -> None:
         """Leaves a context to be closed when the next one is opened."""
@@ -218,14 +225,15 @@ class Server(Forked, Uncopied):
         return f"<server, {where}{', closed' if self.closed else ''}>"
 
     def _take_number(self) -> int:
-        with self._lock:
-            if self._free_numbers:
-                return self._free_numbers.pop()
-            if self._next_number == CLIENTS:
-                raise FeqyldanError(f"open a context: this server has {CLIENTS:,} already, the "
-                                    "most: close one, or start another server")
-            self._next_number += 1
-            return self._next_number - 1
+        """Returns a client number that no context has. Each step is whole, also for a signal's
+        handler that interrupts it."""
+        with suppress(IndexError):
+            return self._free_numbers.pop()
+        number = next(self._numbers)
+        if number >= CLIENTS:
+            raise FeqyldanError(f"open a context: this server has {CLIENTS:,} already, the most: "
+                                "close one, or start another server")
+        return number
 
     def _end(self, patience: float) -> Optional[ServerEnded]:
         """Ends the server, and kills its process unless it ends within `patience` seconds. Returns

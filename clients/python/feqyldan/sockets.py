@@ -15,7 +15,7 @@ from collections import deque
 from types import TracebackType
 from typing import Any, Deque, Dict, Optional, Set, Tuple, Type, Union
 
-from .connection import Connection
+from .connection import Connection, is_interrupted
 from .context import Context, Death
 from .errors import BrokerFull, Closed, ServerEnded, TimedOut, UnexpectedReply
 from .forks import FORKED, HELD, OPENING
@@ -98,7 +98,10 @@ class SocketServer(Server):
         return context
 
     def _release_dead(self) -> None:
-        """Closes the connections of the contexts that Python has freed."""
+        """Closes the connections of the contexts that Python has freed. A call in a signal's
+        handler leaves them to the call that it interrupts."""
+        if is_interrupted(self):
+            return
         with self._lock:
             while self._dead:
                 self._disconnect(self._dead[0].name)

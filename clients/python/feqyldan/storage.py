@@ -47,15 +47,21 @@ def read_bytes(path: Path, most: int = GREATEST_FILE) -> bytes:
     """Returns the bytes of a file. Raises OSError, which names the file, if it can't be read, isn't
     a regular file, or has more than `most` bytes."""
     name = name_of_file(path)
-    # With O_NONBLOCK open() doesn't wait for somebody to write to a named pipe.
-    with open(name, "rb", opener=lambda name, flags: os.open(name, flags | os.O_NONBLOCK)) as file:
-        there = os.fstat(file.fileno())
-        if not stat.S_ISREG(there.st_mode):
-            raise OSError(errno.EINVAL, "it isn't a regular file: copy its bytes to one", name)
-        if there.st_size > most:
-            raise OSError(errno.EFBIG, f"it has {there.st_size:,} bytes, and at most {most:,} are "
-                                       "read", name)
+    # A named pipe isn't opened, since that would wait for somebody to write to it.
+    _check(os.stat(name), name, most)
+    with open(name, "rb") as file:
+        _check(os.fstat(file.fileno()), name, most)
         return file.read()
+
+
+def _check(there: os.stat_result, name: str, most: int) -> None:
+    if stat.S_ISDIR(there.st_mode):
+        raise IsADirectoryError(errno.EISDIR, os.strerror(errno.EISDIR), name)
+    if not stat.S_ISREG(there.st_mode):
+        raise OSError(errno.EINVAL, "it isn't a regular file: copy its bytes to one", name)
+    if there.st_size > most:
+        raise OSError(errno.EFBIG, f"it has {there.st_size:,} bytes, and at most {most:,} are read",
+                      name)
 
 
 def write_bytes(path: Path, parts: Sequence[Any]) -> None:
@@ -84,15 +90,14 @@ def _replace(target: str, parts: Sequence[Any]) -> None:
     exists = os.path.exists(target)
     if exists and not os.access(target, os.W_OK):
         raise PermissionError(errno.EACCES, os.strerror(errno.EACCES))
-    descriptor = os.open(temporary, os.O_WRONLY | os.O_CREAT | os.O_EXCL | os.O_CLOEXEC, 0o666)
     try:
-        with open(descriptor, "wb") as file:
+        with open(temporary, "xb") as file:
             if exists:
-                os.fchmod(descriptor, stat.S_IMODE(os.stat(target).st_mode))
+                os.fchmod(file.fileno(), stat.S_IMODE(os.stat(target).st_mode))
             file.writelines(parts)
             file.flush()
-            os.fsync(descriptor)
-            if os.fstat(descriptor).st_size != sum(map(len, parts)):
+            os.fsync(file.fileno())
+            if os.fstat(file.fileno()).st_size != sum(map(len, parts)):
                 raise OSError(errno.EIO, "the disk didn't take all bytes")
         os.replace(temporary, target)
     except BaseException:

@@ -18,7 +18,7 @@ from .objects import Distribution, MinMax, Named
 from .pipeline import Pipeline, Result
 from .samples import Samples, is_array, samples_of
 from .sources import source_of
-from .whole import whole
+from .whole import NO_SEQUENCE, whole
 
 if TYPE_CHECKING:
     from .context import Context
@@ -52,7 +52,7 @@ def stream(frames: Iterable[Frame], stations: Sequence[Station],
 
 def stations_in(given: Any) -> Sequence[Station]:
     """Returns the stations of a list. Raises TypeError or ValueError for anything else."""
-    if isinstance(given, (Station, Graph)) or not hasattr(given, "__iter__"):
+    if isinstance(given, (Station, Graph, memoryview)) or not hasattr(given, "__iter__"):
         raise TypeError("the stations of a stream must be in a list, as in vx.stream(frames, "
                         f"[vx.Station(graph, camera, out)]), not {given!r}")
     stations = [station_of(one) for one in given]
@@ -278,7 +278,7 @@ def several(out: Any) -> Tuple[Any, ...]:
     ValueError for an empty sequence."""
     try:
         things = tuple(out)
-    except TypeError:
+    except NO_SEQUENCE:
         raise TypeError(f"{_READ}, or a list of them, not {type(out).__name__}") from None
     if not things:
         raise ValueError("a stream must read at least one object after each run, and the list is "

@@ -17,6 +17,10 @@ class Field(NamedTuple):
 BYTE, UNSIGNED, SIGNED = Field(0, 255), Field(0, 65535), Field(-32768, 32767)
 
 
+# What the iteration over a value that is no sequence raises; the second for rows in memory.
+NO_SEQUENCE = TypeError, NotImplementedError
+
+
 def whole(value: Any, what: str, allowed: str = "a whole number") -> int:
     """Returns a whole number as an int. Raises TypeError for anything else, even for 0.5 and
     2.0."""

@@ -196,7 +196,7 @@ class TestCollections(EndTest):
             number += 1
         self.assertGreater(number, 200)
         # Their contexts were closed later.
-        self.assertLess(self.server._next_number, 5)
+        self.assertLess(next(self.server._numbers), 5)
 
     def test_a_server_that_is_freed_too(self):
         """The collector may have closed its pipes first."""

@@ -14,13 +14,15 @@ import os
 import random
 import signal
 import sys
+import tempfile
 import threading
 import time
 import unittest
+from functools import partial
 from unittest import mock
 
 from program import SERVED, ProgramTest, answering, needs_program, of_a_process, vx
-from feqyldan import pages, samples, wire
+from feqyldan import pages, samples, storage, wire
 from feqyldan.connection import Body, Connection, Request
 from feqyldan.pipes import enlarge
 from feqyldan.sources import Taker
@@ -177,12 +179,17 @@ class TestAtRandom(unittest.TestCase):
                 signal.signal(signal.SIGALRM, before)
 
 
-class Everywhere:
-    """Raises KeyboardInterrupt before the n-th line that runs in the package's connections, or
-    before the n-th event in other files."""
+def interrupt():
+    raise KeyboardInterrupt
 
-    def __init__(self, number, files=("connection.py", "pipeline.py"), events=("line",)):
-        self.left, self.files, self.events = number, files, events
+
+class Everywhere:
+    """Raises KeyboardInterrupt, or acts otherwise, before the n-th line that runs in the package's
+    connections, or before the n-th event in other files."""
+
+    def __init__(self, number, files=("connection.py", "pipeline.py"), events=("line",),
+                 act=interrupt):
+        self.left, self.files, self.events, self.act = number, files, events, act
 
     def __call__(self, frame, event, _):
         if not frame.f_code.co_filename.endswith(self.files):
@@ -190,7 +197,7 @@ class Everywhere:
         if event in self.events:
             self.left -= 1
             if self.left == 0:
-                raise KeyboardInterrupt
+                self.act()
         return self
 
     def interrupts(self, call, *arguments):
@@ -202,7 +209,7 @@ class Everywhere:
             return True
         finally:
             sys.settrace(None)
-        return False
+        return self.act is not interrupt and self.left <= 0
 
 
 def can_lend():
@@ -373,13 +380,13 @@ class TestChanges(ProgramTest):
 
     FILES = ("connection.py", "context.py", "direct.py", "graphs.py", "server.py")
 
-    def interruptions(self, call_of):
+    def interruptions(self, call_of, act=interrupt):
         """Calls what `call_of` returns, interrupted before each line in turn, and yields after each
         interruption, and in the end without one."""
         number, is_interrupted = 0, True
         while is_interrupted:
             number += 1
-            is_interrupted = Everywhere(number, self.FILES).interrupts(call_of())
+            is_interrupted = Everywhere(number, self.FILES, act=act).interrupts(call_of())
             yield
         self.assertGreater(number, 30)
 
@@ -431,6 +438,53 @@ class TestChanges(ProgramTest):
             self.assertTrue(context.closed)
             # Refused if the server still has a context with this number.
             type(context)(self.server, self.server._connection, context.number).close()
+
+    def test_a_handler_between_the_lines_of_a_call(self):
+        """Its own call releases nothing that the interrupted one asked for, and nothing twice."""
+        small, made = self.context.image_from([[3]]), []
+
+        def handle():
+            with contextlib.suppress(vx.NestedCall):
+                self.assertEqual(small.read()[0, 0], 3)
+
+        def call():
+            # Python frees it at once, so the next call releases it.
+            self.context.image(vx.U8, 4, 4)
+            return lambda: made.append(self.context.image(vx.U8, 8, 8))
+
+        for _ in self.interruptions(call, handle):
+            image = made.pop()
+            image.fill(7)
+            self.assertEqual(image.read()[7, 7], 7)
+            image.close()
+            self.assertEqual(self.context.usage().objects, 1)
+
+    def test_a_handler_that_opens_contexts(self):
+        """No two open contexts have one number."""
+        made = []
+
+        def handle():
+            with contextlib.suppress(vx.NestedCall):
+                made.append(self.server.context())
+
+        def call():
+            # Python frees the first.
+            self.server.context()
+            other = self.server.context()
+
+            def close_and_open():
+                other.close()
+                handle()
+
+            return close_and_open
+
+        for _ in self.interruptions(call, handle):
+            self.assertEqual(len({context.number for context in made}), len(made))
+            for context in made:
+                self.assertEqual(context.usage().objects, 0)
+                context.image(vx.U8, 1, 1)
+            while made:
+                made.pop().close()
 
     def test_a_handler_that_changes_something(self):
         """What interrupts a call of the server is refused, changes nothing, and can be done
@@ -568,6 +622,27 @@ class TestPrograms(ProcessTest):
             self.assertEqual(self.line_of(client), ["ended", "well"])
             self.assertEqual(client.wait(60), 0)
             self.ends(server)
+
+
+class TestFiles(unittest.TestCase):
+    def test_each_line(self):
+        """No file stays open, and none is left beside the one that was to be written."""
+        folder = tempfile.TemporaryDirectory()
+        self.addCleanup(folder.cleanup)
+        path = os.path.join(folder.name, "picture")
+        storage.write_bytes(path, [b"old"])
+        for call in (partial(storage.read_bytes, path),
+                     partial(storage.write_bytes, path, [b"new"])):
+            number, is_interrupted = 0, True
+            while is_interrupted:
+                number += 1
+                opened = os.listdir("/proc/self/fd")
+                trace = Everywhere(number, ("storage.py",), ("line", "return"))
+                is_interrupted = trace.interrupts(call)
+                self.assertEqual(os.listdir("/proc/self/fd"), opened)
+                self.assertEqual(os.listdir(folder.name), ["picture"])
+                self.assertIn(storage.read_bytes(path), (b"old", b"new"))
+            self.assertGreater(number, 8)
 
 
 @of_a_process

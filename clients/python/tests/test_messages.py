@@ -28,6 +28,17 @@ class TestPictures(ProgramTest):
             with self.subTest(words), self.assertRaisesRegex(kind, words):
                 call(given)
 
+    def test_rows_in_memory_where_a_list_is_expected(self):
+        rows, graph = memoryview(bytes(64)).cast("B", (8, 8)), self.context.graph()
+        graph.not_(self.image, self.context.image(vx.U8, 4, 3))
+        for kind, call in (
+                (ValueError, lambda: setattr(self.image, "valid", rows)),
+                (TypeError, lambda: graph.save("a.json", rows)),
+                (TypeError, lambda: graph.stream([], self.image, rows)),
+                (TypeError, lambda: vx.stream([], rows)),
+                (TypeError, lambda: self.context.threshold(vx.U8, between=rows))):
+            self.assertRaises(kind, call)
+
     def test_what_is_no_picture(self):
         self.says(None, r"None is no picture: cv2.imread\(\) returns it if it can't read a file",
                   TypeError)

@@ -309,7 +309,8 @@ class TestForgottenContexts(ProgramTest):
             with context.pipeline() as ahead:
                 result = ahead.read(context.min_max())
             self.assertEqual(result.value().max, 0)
-        self.assertLess(self.server._next_number, 5)
+        opened = next(self.server._numbers)
+        self.assertLess(opened, 5)
         if self.server._process is not None:
             with open(f"/proc/{self.server._process.pid}/status") as file:
                 status = dict(line.split(":", 1) for line in file)
@@ -317,7 +318,7 @@ class TestForgottenContexts(ProgramTest):
         # Another context's request releases them too.
         del context, image, out, graph, ahead, result
         self.context.graph()
-        self.assertEqual(len(self.server._free_numbers), self.server._next_number - 1)
+        self.assertEqual(len(self.server._free_numbers), opened - 1)
 
 
 class TestThreads(ProgramTest):
