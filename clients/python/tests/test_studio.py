@@ -1,6 +1,7 @@
 """The studio without a browser: runs of edited graphs, and the graph file."""
 
 import contextlib
+import gc
 import importlib.util
 import io
 import json
@@ -8,6 +9,7 @@ import os
 import random
 import socket
 import stat
+import tempfile
 import unittest
 from unittest import mock
 
@@ -307,6 +309,14 @@ class TestRuns(StudioTest):
             self.assertEqual([(fault.object, fault.code) for fault in faults],
                              [("camera", "NO_RESOURCES"), ("out", "NO_RESOURCES")])
 
+    def test_objects_with_ever_other_names_are_released(self):
+        bench = self.bench([])
+        for number in range(60):
+            node = {**INVERTING, "output": f"out{number}"}
+            bench.run(contents(node, **{f"out{number}": image()}), 0)
+        gc.collect()
+        self.assertLess(bench._context.usage().objects, 30)
+
     @unittest.skipUnless(importlib.util.find_spec("cv2") and numpy_module(), "no OpenCV")
     def test_pictures_of_other_formats(self):
         import cv2
@@ -561,6 +571,22 @@ class TestFile(StudioTest):
         self.assertEqual(self.text("new.json").decode(), vx.graph_text(told))
         self.assertEqual(self.text("data.json"), b"{}")
         self.assertFalse(os.path.exists(self.file))
+
+    def test_a_link_out_of_the_folder(self):
+        """It may be the studio's own file, but no other one."""
+        told = contents(INVERTING, out=image())
+        with tempfile.TemporaryDirectory() as other:
+            target = os.path.join(other, "target.json")
+            for name in ("link.json", "station.json"):
+                os.symlink(target, self.path(name))
+            with open(target, "w", encoding="utf-8") as file:
+                file.write(vx.graph_text(contents()))
+            calls = self.studio()
+            self.refused(403, calls["save"], "link.json is a link to a file in ", contents=told,
+                         name="link.json", sure=True)
+            self.save(calls, told, "station.json", sure=True)
+            with open(target, encoding="utf-8") as file:
+                self.assertEqual(file.read(), vx.graph_text(told))
 
     def test_open(self):
         calls = self.studio(contents())

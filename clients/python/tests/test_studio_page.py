@@ -531,7 +531,7 @@ class TestPage(PageTest):
         self.assertEqual((page.status, page.faults), ("", []))
 
     def test_a_large_picture(self):
-        """Only the part that is seen comes to the page."""
+        """Only the part that is seen comes to the page, and the histogram of the whole picture."""
         width, height = 3000, 1500
         with open(self.path("large.pgm"), "wb") as file:
             file.write(b"P5\n%d %d\n255\n" % (width, height))
@@ -542,6 +542,21 @@ class TestPage(PageTest):
         columns, rows, step = page.run(part_of)
         self.assertGreater(step, 1)
         self.assertLess(columns * rows, 2e6)
+        self.check_histograms_of_parts(page, step)
+        page.choose("camera")
+        page.click("#one")
+        page.until("return studio.result.fulls.get('camera').step === 1")
+        columns, rows, step = page.run(part_of)
+        self.assertLess(columns, width)
+        sample = page.run("const full = studio.result.fulls.get('camera');"
+                          "return [full.at(full.x0 + 7, full.y0 + 2), full.x0 + 7]")
+        self.assertEqual(sample[0], sample[1] % 250)
+
+    def check_histograms_of_parts(self, page, step):
+        """They are shown until those of the whole images come."""
+        page.until("return !!studio.result.fulls.get('camera').exact")
+        page.run("studio.panel.late.make = () => {};"
+                 "studio.result.fulls.get('camera').exact = undefined")
         page.add("threshold")
         page.filled()
         notes = ("return [...document.querySelectorAll('#panel p:not([hidden])')]"
@@ -550,15 +565,14 @@ class TestPage(PageTest):
         self.assertEqual(page.run(notes), [
             f"Of the part that is shown, the {taken} of each {step} × {step} samples."
             for taken in ("mean", "greatest")])
-        page.choose("camera")
-        page.click("#one")
-        page.until("return studio.result.fulls.get('camera').step === 1")
-        self.assertEqual(page.run(notes), ["Of the part that is shown."])
-        columns, rows, step = page.run(part_of)
-        self.assertLess(columns, width)
-        sample = page.run("const full = studio.result.fulls.get('camera');"
-                          "return [full.at(full.x0 + 7, full.y0 + 2), full.x0 + 7]")
-        self.assertEqual(sample[0], sample[1] % 250)
+        page.run("delete studio.panel.late.make; studio.panel.refresh()")
+        page.until(f"return !(() => {{ {notes} }})().length")
+        above = page.run("return Object.values(studio.model.objects).find("
+                         "one => one.kind === 'threshold').above")
+        facts = page.run("return document.querySelector('#panel dl').textContent")
+        self.assertIn(f"not 0{(249 - above) * 18_000:,}", facts)
+        self.assertEqual(page.run("return studio.result.fulls.get('camera').histogram.bins"),
+                         [18_000] * 250 + [0] * 6)
 
 
 # The text of the page whose contrast with its background is too low, in JavaScript.

@@ -1,10 +1,16 @@
 """What the studio's page gets of images, and what its web server refuses."""
 
+import contextlib
 import http.client
+import io
+import itertools
 import json
 import os
 import re
+import socket
+import struct
 import threading
+import time
 import unittest
 from unittest import mock
 
@@ -13,7 +19,7 @@ from test_studio import INVERTING, contents, unpacked
 from feqyldan import samples, thumbnails
 from feqyldan.functions import FUNCTIONS
 from feqyldan.studio import views
-from feqyldan.studio.views import masks_in, part_of, thumb
+from feqyldan.studio.views import histogram, masks_in, part_of, thumb
 from feqyldan.studio.web import PAGE, Packed, Site
 
 numpy = samples.numpy_module()
@@ -58,6 +64,27 @@ class TestViews(unittest.TestCase):
         self.assertEqual(place, [0, 0, 3, 2, 4])
         if numpy is not None:
             self.assertEqual(content, bytes([0, 255, 0, 0, 0, 0]))
+
+    @unittest.skipIf(numpy is None, "NumPy isn't installed")
+    def test_histograms(self):
+        for kind, rows, valid in (
+                ("uint8", [[0, 7, 255], [7, 0, 9]], [1, 0, 3, 2]), ("uint8", [[5]], [0, 0, 0, 0]),
+                ("int16", [[-32768, 32767, 3], [-1, 0, 3]], [0, 0, 3, 2]),
+                ("int16", [[-7, 400]], [0, 0, 2, 1]), ("uint32", [[2**32 - 1, 5]], [0, 0, 2, 1])):
+            picture, (x0, y0, x1, y1) = numpy.array(rows, kind), valid
+            inside = [sample for row in rows[y0:y1] for sample in row[x0:x1]]
+            everything = [0, 255] if kind == "uint8" else sum(rows, [])
+            low, high = min(everything), max(everything)
+            bins = [0] * 256
+            for sample in inside:
+                bins[(sample - low) * 256 // (high - low + 1)] += 1
+            self.assertEqual(histogram(picture, valid), {
+                "bins": bins, "low": low, "high": high, "count": len(inside),
+                "nonzero": len(inside) - inside.count(0), "least": min(inside, default=None),
+                "most": max(inside, default=None),
+                "mean": sum(inside) / len(inside) if inside else 0})
+        with with_numpy(False)[0]:
+            self.assertIsNone(histogram(picture, valid))
 
     def test_thumbnails(self):
         dark = self.picture([[0, 10], [20, 5]])
@@ -170,6 +197,22 @@ class TestWeb(unittest.TestCase):
         self.refuses(411, Content_Length="-1")
         for body in ("{", "[]", "1", "", "[" * 100_000):
             self.refuses(400, body=body)
+
+    def test_clients_that_go(self):
+        """They leave no words at the terminal, and half a call isn't made."""
+        call = (f"POST /api/about HTTP/1.1\r\nHost: 127.0.0.1:{self.port}\r\n"
+                "X-Studio-Token: a token\r\nContent-Type: application/json\r\n"
+                "Content-Length: 9\r\n\r\n{}")
+        reset = struct.pack("ii", 1, 0)
+        with contextlib.redirect_stderr(io.StringIO()) as said:
+            for text, linger in itertools.product(("GET / HT", call), (None, reset)):
+                with socket.create_connection(("127.0.0.1", self.port)) as client:
+                    client.sendall(text.encode())
+                    if linger is not None:
+                        client.setsockopt(socket.SOL_SOCKET, socket.SO_LINGER, linger)
+            self.assertEqual(self.ask()[0], 200)
+            time.sleep(0.5)
+        self.assertEqual((said.getvalue(), self.asked), ("", [{}]))
 
     def test_errors_of_calls(self):
         for kind, status in (("key", 400), ("system", 500), ("client", 500), ("file", 500),

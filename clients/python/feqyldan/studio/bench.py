@@ -17,6 +17,7 @@ from typing import Any, Dict, Iterator, List, NamedTuple, Optional, Sequence, Tu
 from ..context import Context
 from ..errors import FeqyldanError, NoResources, Refused
 from ..files import load
+from ..graph_drafts import base_of
 from ..graph_files import GraphFileError, Place, input_of
 from ..images import AnyImage
 from ..server import Server
@@ -110,6 +111,8 @@ class Bench:
                 self.shown = shown
             if isinstance(run, RememberingRun):
                 self._kept = run
+            self._held = {name: held for name, held in self._held.items()
+                          if base_of(name) in contents["objects"]}
             self._pool.trim(len(contents["objects"]))
         return Outcome(run.faults, run.waiting, shown, run.draft.remembers,
                        {"verdict": judged - begin, "graph": end - judged})

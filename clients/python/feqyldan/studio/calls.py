@@ -16,7 +16,7 @@ from .bench import Bench, Outcome, fault_for_run
 from .document import Document
 from .drafts import Blobs
 from .runs import Shown
-from .views import marked, masks_in, part_of, thumb
+from .views import histogram, marked, masks_in, part_of, thumb
 from .web import Call, Packed, Refusal
 
 # The parameters that take an image, and what to do if one has none.
@@ -38,9 +38,9 @@ class Studio:
 
     @property
     def calls(self) -> Mapping[str, Call]:
-        return {"about": self._about, "run": self._run, "part": self._part, "pixel": self._pixel,
-                "strip": self._strip, "graphs": self._graphs, "open": self._open,
-                "save": self._save}
+        return {"about": self._about, "run": self._run, "part": self._part,
+                "histogram": self._histogram, "pixel": self._pixel, "strip": self._strip,
+                "graphs": self._graphs, "open": self._open, "save": self._save}
 
     def close(self) -> None:
         self._chosen.close()
@@ -90,14 +90,23 @@ class Studio:
 
     def _part(self, told: Dict[str, Any]) -> Packed:
         """Returns a part of an image of the page's last run."""
-        one = self._chosen.shown.get(told["name"])
-        if one is None or not is_marked(one, told.get("mark")):
-            raise Refusal(409, "another window has run its graph since")
+        one = self._of_last_run(told)
         is_mask = bool(told.get("mask"))
         head = described(one, is_mask)
         packed = Packed(head)
         head["full"] = full(packed, one, told, is_mask)
         return packed
+
+    def _histogram(self, told: Dict[str, Any]) -> Any:
+        """Returns the histogram of an image of the page's last run, if there is NumPy."""
+        one = self._of_last_run(told)
+        return histogram(one.samples, one.about["valid"])
+
+    def _of_last_run(self, told: Dict[str, Any]) -> Shown:
+        one = self._chosen.shown.get(told["name"])
+        if one is None or one.kind != "image" or not is_marked(one, told.get("mark")):
+            raise Refusal(409, "another window has run its graph since")
+        return one
 
     def _pixel(self, told: Dict[str, Any]) -> Any:
         """Returns the sample of each image of the page's last run at a pixel."""
@@ -133,7 +142,8 @@ def ran(bench: Bench, contents: Dict[str, Any], at: int, only: str = "") -> Outc
     try:
         return bench.run(contents, at, only or None)
     except ServerEnded as error:
-        raise Refusal(503, f"{error} The next change starts another server.") from None
+        words = str(error).rstrip(".")
+        raise Refusal(503, f"{words}. The next change starts another server.") from None
 
 
 def about(name: str) -> Dict[str, Any]:

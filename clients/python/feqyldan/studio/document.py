@@ -120,6 +120,9 @@ class Document:
         path = self.path_of(name)
         if name not in self._read and os.path.lexists(path) and not is_graph_file(path):
             raise Refusal(403, f"{name} exists, and isn't a graph file: give another name")
+        there = os.path.dirname(os.path.realpath(path))
+        if name != self._name and there != os.path.realpath(self.folder):
+            raise Refusal(403, f"{name} is a link to a file in {there}: give another name")
 
 
 def stamp_of(text: Optional[bytes]) -> str:

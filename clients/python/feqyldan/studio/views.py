@@ -1,9 +1,9 @@
-"""What the page gets of an image: a thumbnail, and the samples of a part."""
+"""What the page gets of an image: a thumbnail, the samples of a part, and a histogram."""
 
 from __future__ import annotations
 
 import math
-from typing import Any, Dict, List, NamedTuple, Set, Tuple
+from typing import Any, Dict, List, NamedTuple, Optional, Sequence, Set, Tuple
 
 from ..graph_drafts import inputs_of, outputs_of
 from ..samples import numpy_module
@@ -20,6 +20,8 @@ DARK, MOST_TIMES = 86, 16
 
 # The samples of an image that are sent if the page doesn't know its size yet.
 MOST = 4_000_000
+# The bins of a histogram.
+BINS = 256
 
 
 class Thumb(NamedTuple):
@@ -87,6 +89,27 @@ def part_of(samples: Any, part: Dict[str, Any], is_mask: bool) -> Tuple[List[int
     small = reduced(cut(samples, x0, y0, x1, y1), step, is_mask)
     rows, columns = small.shape
     return [x0, y0, columns, rows, step], small.tobytes()
+
+
+def histogram(samples: Any, valid: Sequence[int]) -> Optional[Dict[str, Any]]:
+    """Returns the counts of an image's valid samples in bins, and what they add up to, as the page
+    does itself for smaller images. Returns None without NumPy, since it would take seconds."""
+    numpy = numpy_module()
+    if numpy is None:
+        return None
+    x0, y0, x1, y1 = valid
+    inside = samples[y0:y1, x0:x1]
+    low, high = (0, 255) if samples.itemsize == 1 else (int(samples.min()), int(samples.max()))
+    bins = numpy.zeros(BINS, numpy.int64)
+    for row in inside:
+        places = (row.astype(numpy.int64) - low) * BINS // (high - low + 1)
+        bins += numpy.bincount(places, minlength=BINS)
+    count = inside.size
+    return {"bins": bins.tolist(), "low": low, "high": high, "count": count,
+            "nonzero": int(numpy.count_nonzero(inside)),
+            "least": int(inside.min()) if count else None,
+            "most": int(inside.max()) if count else None,
+            "mean": int(inside.sum(dtype=numpy.int64)) / count if count else 0}
 
 
 def clamped(value: Any, least: int, greatest: int, otherwise: int = 0) -> int:

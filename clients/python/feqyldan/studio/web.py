@@ -14,6 +14,7 @@ import json
 import os
 import socketserver
 import struct
+import sys
 from http.server import BaseHTTPRequestHandler, ThreadingHTTPServer
 from typing import Any, Callable, Dict, List, Mapping, Tuple
 
@@ -98,8 +99,6 @@ class Handler(BaseHTTPRequestHandler):
             self.close_connection = True
             self._send(refusal.status, "application/json",
                        json.dumps({"error": str(refusal)}).encode())
-        except ConnectionError:
-            self.close_connection = True
 
     def _check_origin(self) -> None:
         if self.headers.get_all("Host") != [self.server.host]:
@@ -137,8 +136,11 @@ class Handler(BaseHTTPRequestHandler):
             raise Refusal(411, "a call needs its length")
         if int(length) > GREATEST:
             raise Refusal(413, f"a call has at most {GREATEST:,} bytes")
+        body = self.rfile.read(int(length))
+        if len(body) < int(length):
+            raise Refusal(400, "the call is cut off")
         try:
-            told = json.loads(self.rfile.read(int(length)))
+            told = json.loads(body)
         except ValueError:
             raise Refusal(400, "this isn't JSON") from None
         except RecursionError:
@@ -184,6 +186,11 @@ class Site(ThreadingHTTPServer):
         """Binds the socket. HTTPServer would also ask the network for this machine's name."""
         socketserver.TCPServer.server_bind(self)
         self.server_name, self.server_port = "127.0.0.1", self.server_address[1]
+
+    def handle_error(self, request: Any, client_address: Any) -> None:
+        """Writes nothing of a client that has gone."""
+        if not isinstance(sys.exc_info()[1], ConnectionError):
+            super().handle_error(request, client_address)
 
     @property
     def address(self) -> str:

@@ -1,8 +1,10 @@
 // The properties of what is chosen: the node's parameters, the image, and its histogram.
+import { call } from './api.js'
 import { Controls, faultBox, row, section, setFacts, ticks } from './controls.js'
 import { byId, el } from './dom.js'
 import { Parameters } from './parameters.js'
 import { plotCounts, plotHistogram } from './plots.js'
+import { LateCall } from './runs.js'
 
 const BORDERS = ['UNDEFINED', 'REPLICATE', 'constant']
 const TITLES = { image: 'Image', 'virtual image': 'Virtual image', delay: 'Image of the delay', distribution: 'Distribution', extremes: 'Extremes' }
@@ -13,6 +15,7 @@ export class Panel {
     this.root = byId('panel')
     this.controls = new Controls(studio)
     this.parameters = new Parameters(studio, this.controls)
+    this.late = new LateCall(studio)
     new ResizeObserver(() => this.refresh()).observe(this.root)
   }
 
@@ -169,6 +172,22 @@ export class Panel {
     if (one?.kind === 'extremes' && this.facts) setFacts(this.facts, factsOfExtremes(one))
     const full = studio.result.fulls.get(studio.chosen)
     if (full && this.plot) this.refreshPlot(full)
+    this.fetchHistograms()
+  }
+
+  // Asks for the histograms of large images, of which only parts are here.
+  fetchHistograms () {
+    const { result, chosen, viewer } = this.studio
+    const lacking = [chosen, this.parameters.limits?.name]
+      .map(name => [name, result.fulls.get(name)]).filter(([, full]) => full && full.exact === undefined)
+    this.late.make(lacking.length && (async () => {
+      for (const [name, { mark }] of lacking) {
+        if (result.fulls.get(name)?.mark !== mark) continue
+        result.takeHistogram(name, mark, await call('histogram', { name, mark }))
+      }
+      this.refresh()
+      viewer.draw()
+    }))
   }
 
   refreshLimits () {
@@ -190,8 +209,8 @@ export class Panel {
 }
 
 // Says what a histogram is of, if that isn't the whole image.
-function setNote (note, { isWhole, step, taken }) {
-  note.hidden = isWhole
+function setNote (note, { exact, step, taken }) {
+  note.hidden = !!exact
   note.textContent = `Of the part that is shown${step === 1 ? '' : `, the ${taken} of each ${step} × ${step} samples`}.`
 }
 

@@ -22,7 +22,7 @@ export class Results {
     for (const [name, one] of Object.entries(reply.shown)) {
       if (one.kind !== 'image') continue
       thumbs[name] = one.thumb ? { ...one.thumb, mark: one.mark, bytes: bytesOf(reply.parts[one.thumb.part]) } : this.thumbs[name]
-      if (one.full) this.fulls.set(name, new Full(one, reply.parts))
+      if (one.full) this.keep(name, one, reply.parts)
     }
     for (const [name, full] of this.fulls) {
       if (reply.shown[name]?.mark !== full.mark || !wanted.includes(name)) this.fulls.delete(name)
@@ -33,24 +33,41 @@ export class Results {
 
   // Takes a further part of an image, unless the image has changed since.
   takePart (name, reply) {
-    if (this.shown[name]?.mark === reply.mark) this.fulls.set(name, new Full(reply, reply.parts))
+    if (this.shown[name]?.mark === reply.mark) this.keep(name, reply, reply.parts)
+  }
+
+  keep (name, one, parts) {
+    const last = this.fulls.get(name)
+    this.fulls.set(name, new Full(one, parts, last?.mark === one.mark ? last.exact : undefined))
+  }
+
+  // Takes the histogram of a large image, unless the image has changed since.
+  takeHistogram (name, mark, histogram) {
+    const full = this.fulls.get(name)
+    if (full?.mark === mark) this.fulls.set(name, full.withExact(histogram))
   }
 }
 
 export const bytesOf = part => new Uint8Array(part.buffer, part.at, part.size)
 
 // The samples of an image, or of a part: one for each square of `step` samples from x0, y0 on,
-// the mean, the greatest or the first as `taken` says.
+// the mean, the greatest or the first as `taken` says. `exact` is the histogram of the whole image;
+// it is undefined until it has been asked for, and null if the server has none.
 export class Full {
-  constructor (one, parts) {
+  constructor (one, parts, exact) {
     const { place: [x0, y0, columns, rows, step], taken } = one.full
     const { fmt, width, height, valid, mark } = one
     Object.assign(this, { fmt, width, height, valid, mark, x0, y0, columns, rows, step, taken })
     this.samples = samplesOf(parts[one.full.part], fmt)
-    this.isWhole = step === 1 && columns === width && rows === height
-    this.bounds = bounds(this)
-    this.histogram = histogram(this)
+    this.ofPart = histogram(this, bounds(this))
+    const isWhole = step === 1 && columns === width && rows === height
+    this.exact = isWhole ? this.ofPart : exact
   }
+
+  withExact (exact) { return Object.assign(Object.create(Full.prototype), this, { exact }) }
+
+  get histogram () { return this.exact ?? this.ofPart }
+  get bounds () { return [this.histogram.low, this.histogram.high] }
 
   // The sample at a pixel; undefined if it isn't here.
   at (x, y) {
@@ -86,7 +103,7 @@ function bounds ({ fmt, samples }) {
 }
 
 // The counts of the valid samples in 256 bins, and what they add up to.
-function histogram ({ samples, columns, rows, x0, y0, step, valid, bounds: [low, high] }) {
+function histogram ({ samples, columns, rows, x0, y0, step, valid }, [low, high]) {
   const inside = (from, to, start, count) => [Math.max(0, Math.ceil((from - start) / step)), Math.min(count, Math.ceil((to - start) / step))]
   const [left, right] = inside(valid[0], valid[2], x0, columns)
   const [top, bottom] = inside(valid[1], valid[3], y0, rows)

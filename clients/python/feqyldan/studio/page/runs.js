@@ -2,6 +2,11 @@
 import { call } from './api.js'
 import { byId, setText } from './dom.js'
 
+// Milliseconds after a change until more of a run is asked for.
+const PATIENCE = 120
+// The status of a call for the samples of another window's run.
+const OTHER_RUN = 409
+
 export class Runs {
   constructor (studio) {
     this.studio = studio
@@ -62,6 +67,25 @@ export class Runs {
     const shape = result.shown[name] ?? full
     const part = shape ? viewer.partOf(shape) : {}
     return { name, mark: full?.covers(part) ? full.mark : null, ...part }
+  }
+}
+
+// A call for more of the last run. It is made when nothing has changed for a while. A run that is
+// under way shows something new at its end, for which the call is made anew.
+export class LateCall {
+  constructor (studio) { this.studio = studio }
+
+  // Replaces the call that waits, by none if there is no `make`.
+  make (make) {
+    clearTimeout(this.timer)
+    if (!make) return
+    this.timer = setTimeout(async () => {
+      if (this.studio.runs.isRunning) return
+      try { await make() } catch (error) {
+        if (error.status === OTHER_RUN) this.studio.runs.start()
+        else this.studio.say(error.message, true)
+      }
+    }, PATIENCE)
   }
 }
 

@@ -3,6 +3,7 @@
 import { call } from './api.js'
 import { byId, resize, setText } from './dom.js'
 import { WHOLE } from './results.js'
+import { LateCall } from './runs.js'
 import { Sheets } from './sheets.js'
 
 const [LEAST, GREATEST] = [0.02, 96]
@@ -10,10 +11,6 @@ const [LEAST, GREATEST] = [0.02, 96]
 const NUMBERS = 26
 const VALID = '#e0a030'
 const EXTREMES = { max: '#e0482a', min: '#2a8fe0' }
-// Milliseconds after a move until a further part is asked for.
-const PATIENCE = 120
-// The status of a call for the samples of another window's run.
-const OTHER_RUN = 409
 // Pixels of a move by a key.
 const STEP = 60
 
@@ -22,6 +19,7 @@ export class Viewer {
     this.studio = studio
     for (const id of ['large', 'overlay', 'contrast', 'under']) this[id] = byId(id)
     this.sheets = new Sheets()
+    this.late = new LateCall(studio)
     Object.assign(this, { scale: 1, x: 0, y: 0, isFitted: true, wide: 1, tall: 1, pointed: null, samples: null })
     new ResizeObserver(([{ contentRect }]) => {
       Object.assign(this, { wide: contentRect.width, tall: contentRect.height })
@@ -160,22 +158,15 @@ export class Viewer {
 
   // Asks for the part of a large image that is seen now.
   fetchPart (full) {
-    clearTimeout(this.timer)
+    const { name, studio } = this
     const part = this.partOf(full)
-    if (full.covers(part)) return
-    const { name } = this
-    const { mark, mask } = this.studio.result.shown[name] ?? {}
-    this.timer = setTimeout(async () => {
-      try {
-        this.studio.result.takePart(name, await call('part', { name, mark, mask, ...part }))
-        this.draw()
-        // The histogram is of the part that is shown.
-        this.studio.panel.refresh()
-      } catch (error) {
-        if (error.status === OTHER_RUN) this.studio.runs.start()
-        else this.studio.say(error.message, true)
-      }
-    }, PATIENCE)
+    const { mark, mask } = studio.result.shown[name] ?? {}
+    this.late.make(!full.covers(part) && (async () => {
+      studio.result.takePart(name, await call('part', { name, mark, mask, ...part }))
+      this.draw()
+      // The histogram may be of the part that is shown.
+      studio.panel.refresh()
+    }))
   }
 
   // ---- moving
