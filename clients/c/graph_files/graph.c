@@ -66,6 +66,8 @@ static gboolean parse(feqyldan_graph_file_t *file, GError **error) {
         return FALSE;
     file->objects = json_object_get_object_member(json_node_get_object(root), "objects");
     file->nodes = json_object_get_array_member(json_node_get_object(root), "nodes");
+    if (json_object_has_member(file->objects, ""))
+        return refuse(error, "the name of an object can't be empty");
     return check_count(json_object_get_size(file->objects), MOST_OBJECTS, "objects", error) &&
            check_count(json_array_get_length(file->nodes), MOST_NODES, "nodes", error);
 }

@@ -22,20 +22,24 @@ gboolean refuse_call(vx_context context, GError **error) {
 }
 
 /* Checks that the text isn't nested too deeply for the parser, which calls itself for each list and
-   object. Refuses comments and quotes that only this parser allows, where brackets could hide. */
-static gboolean check_depth(const char *text, gsize length, GError **error) {
+   object. Refuses what only this parser allows: comments and quotes, where brackets could hide, and
+   more than one value. */
+static gboolean check_text(const char *text, gsize length, GError **error) {
     guint depth = 0;
-    gboolean is_text = FALSE;
+    gboolean is_text = FALSE, is_over = FALSE;
     for (gsize at = 0; at < length; at++) {
+        if (is_over && !g_ascii_isspace(text[at]))
+            return refuse(error, "the file isn't JSON: more follows its end");
         if (text[at] == '"')
             is_text = !is_text;
         else if (is_text)
             at += text[at] == '\\';
         else if (text[at] == '/' || text[at] == '#' || text[at] == '\'')
             return refuse(error, "the file isn't JSON: it has %c outside a text", text[at]);
-        else if (text[at] == ']' || text[at] == '}')
+        else if (text[at] == ']' || text[at] == '}') {
+            is_over = depth <= 1;
             depth -= depth > 0;
-        else if ((text[at] == '[' || text[at] == '{') && ++depth > GREATEST_DEPTH)
+        } else if ((text[at] == '[' || text[at] == '{') && ++depth > GREATEST_DEPTH)
             return refuse(error, "its lists and objects are nested too deeply");
     }
     return TRUE;
@@ -56,7 +60,7 @@ static void note_key(JsonParser *parser, JsonObject *object, const char *key, Ke
 }
 
 gboolean parse_json(JsonParser *parser, const char *text, gsize length, GError **error) {
-    if (!check_depth(text, length, error))
+    if (!check_text(text, length, error))
         return FALSE;
     Keys keys = {g_hash_table_new_full(g_str_hash, g_str_equal, g_free, NULL), NULL};
     gulong noting = g_signal_connect(parser, "object-member", G_CALLBACK(note_key), &keys);

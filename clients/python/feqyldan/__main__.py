@@ -11,6 +11,7 @@ from __future__ import annotations
 import argparse
 import contextlib
 import glob
+import io
 import os
 import signal
 import sys
@@ -29,7 +30,7 @@ from .reports import STANDARD_OUTPUT_NAME, Report, files_read, standard_output, 
 from .samples import samples_of
 from .server import Server
 from .sockets import connect
-from .storage import natural
+from .storage import cause_of, natural
 
 DESCRIPTION = "Runs a graph file, as Graph.save() writes it, on pictures, draws it, or edits it."
 # The errors that are written to standard error, and the exit status if pictures were skipped.
@@ -126,15 +127,18 @@ def main(words: Optional[Sequence[str]] = None) -> int:
 
 
 def written_arguments(words: Optional[Sequence[str]]) -> argparse.Namespace:
-    """Does the same as arguments(). If that writes a text and ends the program, as for --help, the
-    text goes out here, where main() takes an error."""
-    with writing_to(STANDARD_OUTPUT_NAME):
-        try:
+    """Does the same as arguments(). If that has a text for standard output and ends the program, as
+    for --help, the text is written here: argparse hides that it couldn't be written."""
+    text = io.StringIO()
+    try:
+        with contextlib.redirect_stdout(text):
             return arguments(words)
-        except SystemExit:
-            if sys.stdout is not None:
+    except SystemExit:
+        if text.getvalue():
+            with writing_to(STANDARD_OUTPUT_NAME):
+                standard_output().write(text.getvalue())
                 sys.stdout.flush()
-            raise
+        raise
 
 
 @contextlib.contextmanager
@@ -198,7 +202,7 @@ def pictures_in(folder: str) -> List[str]:
 
 
 def run(told: argparse.Namespace) -> int:
-    paths = paths_of(told.pictures)
+    paths = paths_of(told.pictures, told.skip)
     with ExitStack() as ends:
         ends.enter_context(ended_by_signals())
         server = ends.enter_context(connect(told.socket, retry=10) if told.socket is not None
@@ -265,16 +269,16 @@ def with_paths(results: Iterator[Tuple[Any, Tuple[Any, ...]]],
 
 def in_words(error: BaseException, path: str) -> str:
     """Returns the words of an error about a picture, with the picture's path."""
-    words = str(error)
+    words = cause_of(error) if isinstance(error, Exception) else str(error)
     if isinstance(error, Refused):
         # The place is a line of this file, which tells the user nothing.
         words = words.replace(error.place, error.place.partition(",")[0])
     return words if path in words else f"{path}: {words}"
 
 
-def paths_of(patterns: Sequence[str]) -> List[str]:
+def paths_of(patterns: Sequence[str], takes_missing: bool = False) -> List[str]:
     """Returns the paths that match the patterns, pattern by pattern, each in the natural order of
-    names."""
+    names. With `takes_missing` a name that is no pattern is returned if it has no file, too."""
     found: List[str] = []
     for pattern in patterns:
         if os.path.isdir(pattern):
@@ -282,6 +286,8 @@ def paths_of(patterns: Sequence[str]) -> List[str]:
             raise IsADirectoryError(f"{pattern} is a folder: name its pictures, as in '{inside}'")
         paths = [pattern] if os.path.exists(pattern) else sorted(
             filter(os.path.isfile, glob.glob(pattern, recursive=True)), key=natural)
+        if not paths and takes_missing and glob.escape(pattern) == pattern:
+            paths = [pattern]
         if not paths:
             raise FileNotFoundError(f"no file matches {pattern}: check the name or the pattern")
         found += paths

@@ -28,7 +28,7 @@ def graph_faults(context: Context, path: Path) -> Tuple[GraphFileError, ...]:
         return (error,)
     draft = Draft(context, name)
     draft.fill(contents)
-    return (*draft.faults, *draft.unread_inputs())
+    return (*draft.faults, *draft.faults_of_inputs())
 
 
 class Draft(Reader):
@@ -71,18 +71,24 @@ class Draft(Reader):
                 if described.get("input") and self._things[name].name in self._graph._uses:
                     self._check_input(self._things[name])
 
-    def unread_inputs(self) -> List[GraphFileError]:
-        """Returns a fault for each input that no node of the file reads."""
+    def faults_of_inputs(self) -> List[GraphFileError]:
+        """Returns a fault for each input that a node of the file writes or that none reads, unless
+        it was found before: the draft may have dropped these nodes."""
         at_fault = {fault.object for fault in self.faults}
-        return [GraphFileError(self._path, "it can't be an input: no node reads it", Place(name))
-                for name, described in self._described()
-                if described.get("input") and name not in at_fault and not self._is_read(name)]
+        return [GraphFileError(self._path, f"it can't be an input: {words}", Place(name))
+                for name, described in self._described() if described.get("input")
+                for words in [self._fault_of_input(name)] if words and name not in at_fault]
 
     def _described(self) -> List[Tuple[str, Dict[str, Any]]]:
         return [(name, self._contents["objects"][name]) for name in self._things]
 
-    def _is_read(self, name: str) -> bool:
-        return any(name in inputs_of(node).values() for node in self._contents["nodes"])
+    def _fault_of_input(self, name: str) -> str:
+        nodes = self._contents["nodes"]
+        for position, node in enumerate(nodes, 1):
+            if name in outputs_of(node).values():
+                return f"node {position}, {node['function']}, writes it"
+        is_read = any(name in inputs_of(node).values() for node in nodes)
+        return "" if is_read else "no node reads it"
 
     @contextlib.contextmanager
     def _noting(self, place: Place) -> Iterator[None]:

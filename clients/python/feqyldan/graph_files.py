@@ -132,7 +132,7 @@ def _inputs_of(graph: Graph, written: Any,
 
 def _checked_inputs(graph: Graph, inputs: Any) -> Sequence[AnyImage]:
     """Returns the input images, after checking that a run reads each of them unchanged."""
-    if isinstance(inputs, str) or not hasattr(inputs, "__iter__"):
+    if isinstance(inputs, (str, memoryview)) or not hasattr(inputs, "__iter__"):
         raise TypeError("inputs must be a list of images, as in save(path, inputs=[camera]), not "
                         f"{inputs}")
     images = list(inputs)
@@ -337,7 +337,7 @@ def told_by(path: Path) -> Dict[str, Any]:
 def fault_of_contents(told: Any) -> str:
     """Returns why a JSON value can't be the contents of a graph file; empty if it can."""
     version = told.get("feqyldan") if isinstance(told, dict) else None
-    if isinstance(version, bool) or version != VERSION:
+    if type(version) is not int or version != VERSION:
         return (f'this isn\'t a graph file of version {VERSION}: it lacks "feqyldan": {VERSION}; '
                 "Graph.save() writes it")
     if not isinstance(told.get("objects"), dict) or not isinstance(told.get("nodes"), list):
@@ -346,6 +346,8 @@ def fault_of_contents(told: Any) -> str:
     if unknown:
         return (f"a graph file has no field {unknown[0]!r}; it has 'feqyldan', 'objects' and "
                 "'nodes': leave it out")
+    if "" in told["objects"]:
+        return "the name of an object can't be empty"
     for things, most in (("objects", MOST_OBJECTS), ("nodes", MOST_NODES)):
         if len(told[things]) > most:
             return (f"a graph file has at most {most:,} {things}, and this one has "
@@ -451,9 +453,11 @@ class Reader:
         if unknown:
             raise ValueError(f"the kind {kind!r} has no field {unknown[0]!r}; it has "
                              f"{', '.join(FIELDS[kind]) or 'nothing more'}")
-        for field in SWITCHES:
-            if not isinstance(told.get(field, False), bool):
-                raise ValueError(f'"{field}" must be true or false, not {told[field]!r}')
+        for field, value in told.items():
+            if field in SWITCHES and not isinstance(value, bool):
+                raise ValueError(f'"{field}" must be true or false, not {value!r}')
+            if field not in SWITCHES:
+                check_numbers(field, value)
         return makers[kind](name, told)
 
     def _image(self, name: str, told: Dict[str, Any]) -> Image:
@@ -513,6 +517,8 @@ class Reader:
         if unknown:
             raise ValueError(f"{function} has no parameter {unknown[0]!r}; it has "
                              f"{', '.join(parameters)}")
+        for name in parameters:
+            check_numbers(name, told.get(name))
         arguments = [self._argument(name, told.get(name) if name in ("border", "output_x",
                                                                      "output_y") else told[name])
                      for name in parameters]
@@ -539,6 +545,15 @@ class Reader:
             except IndexError as error:
                 raise ValueError(f"there is no slot {name!r}: {error}") from None
         return thing
+
+
+def check_numbers(field: str, value: Any) -> None:
+    """Raises ValueError if a value is true or false, which Python takes for 1 and 0, or has one."""
+    for one in value if isinstance(value, list) else (value,):
+        if isinstance(one, bool):
+            raise ValueError(f'"{field}" can\'t be {"true" if one else "false"}')
+        if isinstance(one, list):
+            check_numbers(field, one)
 
 
 def format_named(name: Any) -> Format:

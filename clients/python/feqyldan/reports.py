@@ -37,7 +37,7 @@ class Report:
         self._kept = kept_by(station.graph)
         self._look_at_files(told, paths, others)
         if self._folder is not None:
-            os.makedirs(self._folder, exist_ok=True)
+            make_folder(self._folder)
         self._lines: Any = None
         self._file_name = told.csv
         if told.csv == STANDARD_OUTPUT or told.csv is None and self._folder is None:
@@ -107,6 +107,13 @@ class Report:
             self._lines.writerow(cells)
 
 
+def make_folder(path: str) -> None:
+    """Creates the folder for images, if it doesn't exist."""
+    if os.path.exists(path) and not os.path.isdir(path):
+        raise NotADirectoryError(f"--out {path} isn't a folder: name another one")
+    os.makedirs(path, exist_ok=True)
+
+
 @contextlib.contextmanager
 def writing_to(name: str) -> Iterator[None]:
     """Yields once; an error of the disk within the `with` names the file, which Python leaves
@@ -121,7 +128,7 @@ def standard_output() -> TextIO:
     """Returns standard output, which writes each line when it is complete. Raises ValueError if it
     is closed."""
     if sys.stdout is None:
-        raise ValueError("standard output is closed: send it to a file, as in > found.csv")
+        raise ValueError("standard output is closed: send it to a file, as in > FILE")
     if hasattr(sys.stdout, "reconfigure"):
         # A file's name may have bytes that are no UTF-8.
         sys.stdout.reconfigure(errors="surrogateescape", line_buffering=True)

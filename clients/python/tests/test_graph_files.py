@@ -2,6 +2,7 @@
 
 import csv
 import importlib.util
+import itertools
 import json
 import os
 import pickle
@@ -264,7 +265,13 @@ class TestFiles(FolderTest, ProgramTest):
                 ({"a": {**image, "input": True}}, [],
                  "object \"a\": it can't be an input: no node reads"),
                 (both, [{"function": "box3x3", "input": "a", "output": "b", "border": "X"}],
-                 "node 1: a border must be UNDEFINED, REPLICATE or a number, not 'X'")):
+                 "node 1: a border must be UNDEFINED, REPLICATE or a number, not 'X'"),
+                (both, [{"function": "box3x3", "input": "a", "output": "b", "border": True}],
+                 "node 1: \"border\" can't be true"),
+                ({"a": {**image, "width": True}}, [], "object \"a\": \"width\" can't be true"),
+                ({"a": {"kind": "convolution", "rows": [[1, 0, 1], [0, False, 0], [0, 0, 0]]}}, [],
+                 "object \"a\": \"rows\" can't be false"),
+                ({"": image}, [], "the name of an object can't be empty")):
             path = self.put("a.json", {"feqyldan": 1, "objects": objects, "nodes": nodes})
             with self.subTest(words), self.assertRaisesRegex(vx.GraphFileError,
                                                              f"{path}: {words}"):
@@ -272,6 +279,8 @@ class TestFiles(FolderTest, ProgramTest):
         for text, words in (
                 ("{", "the file isn't JSON: "), ("[]", 'it lacks "feqyldan": 1; '),
                 ('{"feqyldan": true, "objects": {}, "nodes": []}', 'it lacks "feqyldan": 1; '),
+                ('{"feqyldan": 1.0, "objects": {}, "nodes": []}', 'it lacks "feqyldan": 1; '),
+                ('{"feqyldan": 1, "objects": {}, "nodes": []} {}', "the file isn't JSON: "),
                 ('{"feqyldan": 1}', 'needs "objects"'), ("[" * 100_000, "nested too deeply"),
                 ('{"feqyldan": 1, "objects": {}, "nodes": [], "node": []}', "has no field 'node'"),
                 ('{"feqyldan": 1, "objects": {"a": {}, "a": {}}, "nodes": []}',
@@ -415,6 +424,11 @@ class TestAllFaults(FolderTest, ProgramTest):
         self.assertEqual(self.places([]), [("camera", "", "")])
         self.assertEqual(self.places([{"function": "not_", "input": "out", "output": "camera"}]),
                          [("camera", "", "")])
+        cycle = [{"function": "not_", "input": one, "output": other}
+                 for one, other in (("out", "camera"), ("camera", "out"))]
+        found = self.faults(cycle)
+        self.assertEqual([fault.code for fault in found], ["INVALID_GRAPH"] * 2 + [""])
+        self.assertEqual(found[2].words, "it can't be an input: node 1, not_, writes it")
 
     def test_no_graph_file(self):
         fault, = self.context.graph_faults(self.put("a.json", "{"))
@@ -728,6 +742,9 @@ class TestCommandLine(FolderTest):
         for line in lines:
             self.assertEqual(sum(int(line[f"counts.{k}"]) for k in range(3)), 48)
             self.assertEqual(line["marks.marked"], line["counts.2"])
+        _, said = self.run_command("run", "station.json", "--in", "part1.pgm", "--out", "found.csv",
+                                   status=1)
+        self.assertEqual(said, "feqyldan: --out found.csv isn't a folder: name another one\n")
         left = os.listdir(self.path("marks"))
         self.assertIn("part2.marks.png", left)
         # PNG has no negative samples.
@@ -754,6 +771,11 @@ class TestCommandLine(FolderTest):
         _, said = self.run_command("run", "station.json", "--in", "part3.pgm", "part4.pgm",
                                    "--skip", "--out", "marks", status=3)
         self.assertIn("2 of 2 pictures were skipped", said)
+        # It may have been removed meanwhile; a pattern without a file is a mistake.
+        _, said = self.run_command("run", "station.json", "--in", "none.pgm", "part2.pgm", "--skip",
+                                   status=3)
+        self.assertIn("skipped none.pgm: No such file", said)
+        self.run_command("run", "station.json", "--in", "none*.pgm", "--skip", status=1)
 
     def test_patterns_in_two_options(self):
         words = "run", "station.json", "--in", "part1.pgm"
@@ -767,10 +789,10 @@ class TestCommandLine(FolderTest):
         self.assertEqual(said, plain)
         self.assertFalse(os.path.exists(self.path("-")))
         # It is closed.
-        for command in (words, ("draw", "station.json")):
+        for command in (words, ("draw", "station.json"), ("--help",)):
             _, said = self.run_command(*command, status=1, before=">&- ")
             self.assertEqual(said, "feqyldan: standard output is closed: send it to a file, as in "
-                                   "> found.csv\n")
+                                   "> FILE\n")
         self.run_command(*words, "--out", "marks", before=">&- ")
         self.run_command("run", "none.json", "--in", "part1.pgm", status=1, before="2>&- ")
         # Its reader has ended, before the words of argparse or ours come.
@@ -780,9 +802,12 @@ class TestCommandLine(FolderTest):
 
     def test_full_disks(self):
         words = "run", "station.json", "--in", "part*.pgm"
-        for command in (words, ("draw", "station.json"), ("--help",)):
+        # Python may write each text at once, or what is left at the end.
+        for is_at_once, command in itertools.product(("", "1"), (
+                words, ("draw", "station.json"), ("--help",), ("--version",))):
             with open("/dev/full", "w") as full:
-                _, said = self.run_command(*command, status=1, stdout=full)
+                _, said = self.run_command(*command, status=1, stdout=full,
+                                           before=f"PYTHONUNBUFFERED={is_at_once} ")
             self.assertEqual(said, "feqyldan: [Errno 28] No space left on device: 'standard output'"
                                    "\n")
         _, said = self.run_command(*words, "--csv", "/dev/full", status=1)
@@ -845,7 +870,8 @@ class TestCommandLine(FolderTest):
                               "this isn't a socket")):
             start = time.monotonic()
             _, said = self.run_command("run", *words, status=1)
-            self.assertRegex(said, f"^feqyldan: .*{fault}.*'(pipe|station.json)'$")
+            self.assertRegex(said, f"^feqyldan: .*{fault}")
+            self.assertRegex(said, "(pipe|station.json)")
             self.assertLess(time.monotonic() - start, 8)
 
     def test_version(self):
