@@ -12,8 +12,9 @@ GST_DEBUG_CATEGORY_STATIC(feqyldan_debug);
              "height = (int) [ 1, 8192 ], framerate = (fraction) [ 0/1, MAX ]"
 #define META "GstFeqyldanMeta"
 
-/* How often a frame is tried again with a new server. */
-enum { MOST_SERVERS = 64, MOST_RESTARTS = 3 };
+/* MOST_RESTARTS is how often a frame is tried again with a new server. Before all but the first the
+   element waits, in seconds: a broker that is being restarted is then there again. */
+enum { MOST_SERVERS = 64, MOST_RESTARTS = 3, RESTART_WAIT = 1 };
 enum { GRAPH = 1, OUTPUT, SERVER, TIMEOUT, SERVERS, GRAY16 };
 
 typedef struct {
@@ -37,6 +38,8 @@ typedef struct {
     /* Guard the jobs' ends. */
     GMutex lock;
     GCond end;
+    /* Wakes jobs that wait for a restart, when the element stops. */
+    GCond stopping;
     /* Set atomically: whether the element stops, and whether it has posted its error. */
     gint is_stopping, has_failed;
 } Feqyldan;
@@ -77,17 +80,36 @@ static void post_error(Feqyldan *self, GQuark domain, gint code, const char *wor
     if (!g_atomic_int_compare_and_exchange(&self->has_failed, FALSE, TRUE))
         return;
     gst_element_message_full(GST_ELEMENT(self), GST_MESSAGE_ERROR, domain, code, g_strdup(words),
-                             g_strdup_printf("graph file %s", self->graph), __FILE__, G_STRFUNC,
-                             __LINE__);
+                             self->graph == NULL ? g_strdup("no graph file")
+                                                 : g_strdup_printf("graph file %s", self->graph),
+                             __FILE__, G_STRFUNC, __LINE__);
+}
+
+/* The words of a fault, after the graph file's path. Some faults begin with it. */
+static char *with_path(const Feqyldan *self, const char *fault) {
+    return g_str_has_prefix(fault, self->graph) ? g_strdup(fault)
+                                                : g_strdup_printf("%s: %s", self->graph, fault);
 }
 
 /* ---- Frames ---- */
 
+/* Waits until a new server may be started. Returns FALSE where the element stops. */
+static gboolean await_restart(Feqyldan *self, guint attempt) {
+    const gint64 end = g_get_monotonic_time() + RESTART_WAIT * G_USEC_PER_SEC;
+    gboolean is_early = attempt > 1;
+    g_mutex_lock(&self->lock);
+    while (is_early && !g_atomic_int_get(&self->is_stopping))
+        is_early = g_cond_wait_until(&self->stopping, &self->lock, end);
+    g_mutex_unlock(&self->lock);
+    return !g_atomic_int_get(&self->is_stopping);
+}
+
 /* Builds the station's graph on a new server, with a warning. */
 static gboolean restart(Job *job, guint attempt, char fault[FAULT_BYTES]) {
     Station *station = job->station;
+    g_autofree char *words = with_path(job->element, fault);
     GST_ELEMENT_WARNING(job->element, RESOURCE, FAILED,
-                        ("%s: %s; starting a new server%s", job->element->graph, fault,
+                        ("%s; starting a new server%s", words,
                          station->plan->has_memory ? ", where delays and sums begin anew" : ""),
                         ("attempt %u of %d", attempt, MOST_RESTARTS));
     station_close(station);
@@ -120,11 +142,11 @@ static GstFlowReturn run_frame(Job *job) {
     char fault[FAULT_BYTES];
     vx_status status = try_frame(job, fault);
     for (guint attempt = 1; status == VX_FAILURE && attempt <= MOST_RESTARTS; attempt++) {
-        if (g_atomic_int_get(&self->is_stopping))
+        if (!await_restart(self, attempt))
             return GST_FLOW_FLUSHING;
-        if (!restart(job, attempt, fault))
-            break;
-        status = try_frame(job, fault);
+        /* A server that was being started while the element stopped isn't cancelled. */
+        if (restart(job, attempt, fault) && !g_atomic_int_get(&self->is_stopping))
+            status = try_frame(job, fault);
     }
     if (status == VX_SUCCESS) {
         job->results = station_results(job->station);
@@ -132,7 +154,10 @@ static GstFlowReturn run_frame(Job *job) {
     }
     if (g_atomic_int_get(&self->is_stopping))
         return GST_FLOW_FLUSHING;
-    g_autofree char *words = g_strdup_printf("%s: %s", self->graph, fault);
+    /* Without a graph the frames that still come end at once. */
+    if (status == VX_FAILURE)
+        station_close(job->station);
+    g_autofree char *words = with_path(self, fault);
     post_error(self, GST_STREAM_ERROR, GST_STREAM_ERROR_FAILED, words);
     return GST_FLOW_ERROR;
 }
@@ -270,19 +295,28 @@ static GstFlowReturn transform_frame(GstVideoFilter *filter, GstVideoFrame *in,
 
 /* ---- Caps ---- */
 
-static GstCaps *other_caps(GstCaps *caps, const char *own, const char *other, const Plan *plan) {
+static const char *output_format(const Plan *plan) {
+    return format_of(plan->output == NULL ? plan->input : plan->output);
+}
+
+/* The caps of the other pad for those of one pad. */
+static GstCaps *other_caps(GstBaseTransform *transform, GstPadDirection direction, GstCaps *caps,
+                           const Plan *plan) {
+    const char *in = format_of(plan->input), *out = output_format(plan);
+    const gboolean is_sink = direction == GST_PAD_SINK;
     g_autoptr(GstCaps) limit =
-        gst_caps_new_simple("video/x-raw", "format", G_TYPE_STRING, own, NULL);
+        gst_caps_new_simple("video/x-raw", "format", G_TYPE_STRING, is_sink ? in : out, NULL);
     if (plan->is_fixed)
         gst_caps_set_simple(limit, "width", G_TYPE_INT, (gint)plan->input->width, "height",
                             G_TYPE_INT, (gint)plan->input->height, NULL);
     GstCaps *fitting = gst_caps_make_writable(gst_caps_intersect(caps, limit));
-    gst_caps_set_simple(fitting, "format", G_TYPE_STRING, other, NULL);
+    /* Where an element upstream asks for caps first, it posts an error without a reason. */
+    if (gst_caps_is_empty(fitting))
+        GST_WARNING_OBJECT(transform, "caps refused: the %s pad takes %" GST_PTR_FORMAT
+                           ", and the caps there are %" GST_PTR_FORMAT, is_sink ? "sink" : "src",
+                           limit, caps);
+    gst_caps_set_simple(fitting, "format", G_TYPE_STRING, is_sink ? out : in, NULL);
     return fitting;
-}
-
-static const char *output_format(const Plan *plan) {
-    return format_of(plan->output == NULL ? plan->input : plan->output);
 }
 
 /* Takes a reference of the plan; NULL before the element starts. */
@@ -304,13 +338,8 @@ static void set_plan(Feqyldan *self, Plan *plan) {
 static GstCaps *transform_caps(GstBaseTransform *transform, GstPadDirection direction,
                                GstCaps *caps, GstCaps *filter) {
     Plan *plan = take_plan((Feqyldan *)transform);
-    GstCaps *other;
-    if (plan == NULL)
-        other = gst_caps_from_string(CAPS);
-    else if (direction == GST_PAD_SINK)
-        other = other_caps(caps, format_of(plan->input), output_format(plan), plan);
-    else
-        other = other_caps(caps, output_format(plan), format_of(plan->input), plan);
+    GstCaps *other = plan == NULL ? gst_caps_from_string(CAPS)
+                                  : other_caps(transform, direction, caps, plan);
     g_clear_pointer(&plan, plan_unref);
     if (filter == NULL)
         return other;
@@ -377,9 +406,7 @@ static gboolean build(Feqyldan *self, gint width, gint height) {
         Station *station = g_ptr_array_index(self->stations, at);
         if (station_build(station, (guint)width, (guint)height, fault))
             continue;
-        g_autofree char *words = g_str_has_prefix(fault, self->graph)
-                                     ? g_strdup(fault)
-                                     : g_strdup_printf("%s: %s", self->graph, fault);
+        g_autofree char *words = with_path(self, fault);
         post_error(self, GST_RESOURCE_ERROR, GST_RESOURCE_ERROR_SETTINGS, words);
         return FALSE;
     }
@@ -487,8 +514,11 @@ static gboolean stop(GstBaseTransform *transform) {
 static GstStateChangeReturn change_state(GstElement *element, GstStateChange change) {
     Feqyldan *self = (Feqyldan *)element;
     if (change == GST_STATE_CHANGE_PAUSED_TO_READY) {
-        /* A server that hangs would hold the streaming thread until the timeout. */
+        g_mutex_lock(&self->lock);
         g_atomic_int_set(&self->is_stopping, TRUE);
+        g_cond_broadcast(&self->stopping);
+        g_mutex_unlock(&self->lock);
+        /* A server that hangs would hold the streaming thread until the timeout. */
         GST_OBJECT_LOCK(self);
         g_ptr_array_foreach(self->stations, (GFunc)(void (*)(void))station_cancel, NULL);
         GST_OBJECT_UNLOCK(self);
@@ -537,6 +567,7 @@ static void finalize(GObject *object) {
     g_ptr_array_unref(self->stations);
     g_mutex_clear(&self->lock);
     g_cond_clear(&self->end);
+    g_cond_clear(&self->stopping);
     G_OBJECT_CLASS(feqyldan_parent_class)->finalize(object);
 }
 
@@ -610,6 +641,7 @@ static void feqyldan_init(Feqyldan *self) {
     g_queue_init(&self->jobs);
     g_mutex_init(&self->lock);
     g_cond_init(&self->end);
+    g_cond_init(&self->stopping);
 }
 
 static gboolean plugin_init(GstPlugin *plugin) {

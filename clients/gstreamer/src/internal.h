@@ -51,9 +51,10 @@ typedef struct {
     feqyldan_connection_t connection;
     Gray16 gray16;
     guint width, height;
-    /* Guards the context, which another thread may cancel. */
+    /* Guards the context, which another thread may cancel, and whether it has. */
     GMutex lock;
     vx_context context;
+    gboolean is_cancelled;
     feqyldan_graph_t *graph;
     /* The number of runs since the delays and sums began. */
     guint64 runs;
@@ -73,7 +74,7 @@ void station_free(Station *station);
 gboolean station_build(Station *station, guint width, guint height, char fault[FAULT_BYTES]);
 /* Ends the server. */
 void station_close(Station *station);
-/* Lets a call of another thread end. */
+/* Lets a call of another thread end, and each later one of this station. */
 void station_cancel(Station *station);
 /* Runs the graph on a frame. Writes the output, unless that is NULL. VX_FAILURE: the server has
    ended or is late. */

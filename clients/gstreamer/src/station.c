@@ -39,6 +39,8 @@ void station_free(Station *station) {
 static void set_context(Station *station, vx_context context) {
     g_mutex_lock(&station->lock);
     station->context = context;
+    if (context != NULL && station->is_cancelled)
+        feqyldanCancel(context);
     g_mutex_unlock(&station->lock);
 }
 
@@ -58,6 +60,7 @@ void station_close(Station *station) {
 
 void station_cancel(Station *station) {
     g_mutex_lock(&station->lock);
+    station->is_cancelled = TRUE;
     if (station->context != NULL)
         feqyldanCancel(station->context);
     g_mutex_unlock(&station->lock);

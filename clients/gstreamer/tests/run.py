@@ -10,9 +10,12 @@ import os
 import re
 import shutil
 import signal
+import socket
+import socketserver
 import subprocess
 import sys
 import tempfile
+import threading
 import time
 import unittest
 from unittest import mock
@@ -24,7 +27,7 @@ ROOT = os.path.realpath(os.path.join(HOME, "../.."))
 sys.path[:0] = [os.path.join(HOME, "../c/tests"), os.path.join(HOME, "../python/tests")]
 import graph_files as c_tests  # noqa: E402
 import test_graph_files  # noqa: E402
-from program import VARIABLES, ProgramTest, vx  # noqa: E402
+from program import PROGRAM, VARIABLES, ProgramTest, vx  # noqa: E402
 from feqyldan.functions import FUNCTIONS  # noqa: E402
 
 try:
@@ -147,6 +150,50 @@ class Line:
         """The words of the element's error; there is only one."""
         message, = self.messages(Gst.MessageType.ERROR, PATIENCE)
         return message.parse_error()[0].message
+
+
+# Requests, by their numbers on the wire.
+OPEN_CONTEXT, ADD_NODE, PROCESS_GRAPH = 1, 20, 23
+
+
+class Door(socketserver.ThreadingUnixStreamServer):
+    """
+    A socket that starts a server for each connection. The connections end one after another at
+    these requests, before the server gets them; further ones go on.
+    """
+
+    daemon_threads, request_queue_size = True, 64
+
+    def __init__(self, path, *last):
+        with contextlib.suppress(FileNotFoundError):
+            os.unlink(path)
+        super().__init__(path, None)
+        self.last, self.connections, self.ended = list(last), [], 0
+        threading.Thread(target=self.serve_forever, args=(0.01,), daemon=True).start()
+
+    def finish_request(self, request, client_address):
+        last = self.last.pop(0) if self.last else None
+        self.connections.append(request)
+        with contextlib.suppress(OSError), request.makefile("rwb") as client, subprocess.Popen(
+                [PROGRAM, "serve"], stdin=subprocess.PIPE, stdout=subprocess.PIPE) as server:
+            while head := client.read(4):
+                frame = client.read(int.from_bytes(head, "big"))
+                if frame[2] == last:
+                    break
+                server.stdin.write(head + frame)
+                server.stdin.flush()
+                head = server.stdout.read(4)
+                client.write(head + server.stdout.read(int.from_bytes(head, "big")))
+                client.flush()
+        self.ended += 1
+
+    def close(self):
+        """Refuses connections, and ends those that are open."""
+        self.shutdown()
+        self.server_close()
+        for connection in self.connections:
+            with contextlib.suppress(OSError):
+                connection.shutdown(socket.SHUT_RDWR)
 
 
 class ElementTest(test_graph_files.FolderTest, ProgramTest):
@@ -392,6 +439,26 @@ class Faults(ElementTest):
                 line.push(numpy.zeros((1, width), "uint8"))
                 self.assertIn(words, line.error())
 
+    def test_caps_that_an_element_upstream_asks_for(self):
+        """The error is that element's own, and a line of the log says what the graph takes."""
+        path = self.save("a.json", six, 320, 240)
+        # After such an error gst-launch-1.0 may stay in its main loop, whatever the elements do.
+        run = subprocess.run(
+            ["timeout", "20", "gst-launch-1.0", "videotestsrc", "!", "video/x-raw,format=GRAY16_LE",
+             "!", "feqyldan", f"graph={path}", "!", "fakesink"], check=False,
+            stdout=subprocess.PIPE, text=True, stderr=subprocess.STDOUT,
+            env={**os.environ, "GST_DEBUG": "feqyldan:3", "GST_DEBUG_NO_COLOR": "1"})
+        self.assertRegex(run.stdout, r"caps refused: the sink pad takes video/x-raw, "
+                                     r"format=\S*GRAY8, and the caps there are video/x-raw, "
+                                     r"format=\S*GRAY16_LE")
+        self.assertEqual(re.findall("ERROR: from element .*/(.*?):", run.stdout),
+                         ["GstVideoTestSrc"])
+
+    def test_the_details_of_an_error_without_a_graph_file(self):
+        with Line("", 320, 240) as line:
+            message, = line.messages(Gst.MessageType.ERROR, PATIENCE)
+            self.assertTrue(message.parse_error()[1].endswith("\nno graph file"))
+
     def test_a_killed_server(self):
         """No frame is lost or repeated, with one warning."""
         path, frames = self.save("a.json", six, 320, 240), frames_of(8, 320, 240)
@@ -439,6 +506,94 @@ class Faults(ElementTest):
                 line.pipeline.set_state(Gst.State.NULL)
                 self.assertLess(time.monotonic() - start, 1)
                 self.assertEqual(set(stopped) & set(self.servers()), set())
+                self.assertEqual(line.messages(Gst.MessageType.ERROR), [])
+
+
+class Restarts(ElementTest):
+    """Servers whose replacements fail too."""
+
+    def setUp(self):
+        super().setUp()
+        self.frames = frames_of(3, 64, 48)
+        self.graph = self.save("a.json", six, 64, 48)
+
+    def door(self, *last):
+        door = Door(self.path("door"), *last)
+        self.addCleanup(door.close)
+        return door
+
+    def line(self, more=""):
+        return Line(f"graph={self.graph} server={self.path('door')} {more}", 64, 48)
+
+    def warnings(self, line):
+        return [message.parse_warning()[0].message
+                for message in line.messages(Gst.MessageType.WARNING)]
+
+    def test_no_frame_is_lost(self):
+        wanted = self.in_python(self.graph, self.frames, "marks")
+        for last in ((PROCESS_GRAPH, ADD_NODE), (PROCESS_GRAPH, OPEN_CONTEXT, PROCESS_GRAPH),
+                     (PROCESS_GRAPH, ADD_NODE, OPEN_CONTEXT)):
+            self.door(*last)
+            with self.subTest(last), self.line() as line:
+                for frame in self.frames:
+                    line.push(frame)
+                self.same(line.pull_all(), wanted)
+                warnings = self.warnings(line)
+                self.assertEqual(len(warnings), len(last))
+                for words in warnings:
+                    self.assertEqual(words, f"{self.graph}: the server has ended; starting a new "
+                                            "server")
+
+    def test_an_error_after_three_new_servers(self):
+        self.door(PROCESS_GRAPH, ADD_NODE, OPEN_CONTEXT, PROCESS_GRAPH)
+        with self.line() as line:
+            start = time.monotonic()
+            line.push(self.frames[0])
+            self.assertEqual(line.error(), f"{self.graph}: the server has ended")
+            # A second before the second and the third.
+            self.assertGreaterEqual(time.monotonic() - start, 2)
+
+    def test_three_warnings_before_an_error(self):
+        self.door(PROCESS_GRAPH, ADD_NODE, ADD_NODE, ADD_NODE)
+        with self.line() as line:
+            line.push(self.frames[0])
+            self.assertEqual(line.pull_all(), [])
+            self.assertEqual(len(self.warnings(line)), 3)
+
+    def test_a_socket_that_is_away_for_a_while(self):
+        wanted = self.in_python(self.graph, self.frames, "marks")
+        for has_file in (True, False):
+            door = self.door()
+            with self.subTest(has_file), self.line() as line:
+                line.push(self.frames[0])
+                found = [line.pull()]
+                door.close()
+                if not has_file:
+                    os.unlink(self.path("door"))
+                for frame in self.frames[1:]:
+                    line.push(frame)
+                time.sleep(0.5)
+                self.door()
+                self.same(found + line.pull_all(), wanted)
+                ended, *refused = self.warnings(line)
+                self.assertIn("the server has ended", ended)
+                self.assertNotEqual(refused, [])
+                for words in refused:
+                    self.assertIn("can't connect to", words)
+
+    def test_a_pipeline_that_stops_while_the_element_waits(self):
+        for servers in (1, 2):
+            door = self.door(*[PROCESS_GRAPH] * 9)
+            with self.subTest(servers), self.line(f"servers={servers}") as line:
+                for frame in self.frames[:servers]:
+                    line.push(frame)
+                while door.ended < 2 * servers:
+                    time.sleep(0.01)
+                time.sleep(0.1)
+                start = time.monotonic()
+                line.pipeline.set_state(Gst.State.READY)
+                self.assertLess(time.monotonic() - start, 0.5)
+                self.assertEqual(len(self.warnings(line)), servers)
                 self.assertEqual(line.messages(Gst.MessageType.ERROR), [])
 
 
@@ -656,7 +811,8 @@ class Threads(ElementTest):
         self.assertEqual(run.returncode, 0)
 
     def test_killed_servers(self):
-        """A graph may fail to be built, if its new server is killed too: then there is an error."""
+        """A frame may fail if its new servers are killed too, and so may a graph that is built anew
+        after a seek: then there is an error."""
         with self.start(*self.elements()) as run:
             while run.poll() is None:
                 for server in self.servers(run.pid)[:1]:
