@@ -161,15 +161,17 @@ static bool open_server(vx_context context, const feqyldan_connection_t *given, 
     end_look(context);
     vx_status status = ask(context, OPEN_CONTEXT, NULL, 0, NULL, 0);
     let_look(context);
+    if (status == VX_SUCCESS)
+        return true;
     if (context->connection.has_ended)
         connection_say_end(&context->connection, why, size);
     else
         snprintf(why, size, "the server refused OpenContext: %s%s", name_of_status(status),
                  advice_on(OPEN_CONTEXT, status));
-    return status == VX_SUCCESS;
+    return false;
 }
 
-/* Makes a context. Where that fails, returns NULL and writes why. */
+/* Makes a context, and empties `why`. Where that fails, returns NULL and writes why. */
 static vx_context open_context(const feqyldan_connection_t *given, char *why, size_t size) {
     snprintf(why, size, "out of memory");
     vx_context context = calloc(1, sizeof *context);
@@ -191,6 +193,7 @@ static vx_context open_context(const feqyldan_connection_t *given, char *why, si
     make_base(&context->base, context, VX_TYPE_CONTEXT, VX_SUCCESS);
     for (vx_status status = -1; status > VX_STATUS_MIN; status--)
         make_base(&context->errors[-status], context, VX_TYPE_ERROR, status);
+    snprintf(why, size, "%s", "");
     return context;
 }
 

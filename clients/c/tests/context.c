@@ -48,7 +48,7 @@ static void test_arguments(void) {
     CHECK(make_context(NULL) == NULL && strstr(fault, "/no/socket") != NULL);
     CHECK(feqyldanCreateContext(NULL, NULL, 0) == NULL);
     vx_context context = make_context(&(feqyldan_connection_t){.program = kept, .timeout = 5});
-    CHECK(context != NULL);
+    CHECK(context != NULL && fault[0] == '\0');
     EXPECT(VX_SUCCESS, vxReleaseContext(&context));
     CHECK(unsetenv("FEQYLDAN_SOCKET") == 0 && setenv("FEQYLDAN_PROGRAM", kept, 1) == 0);
 }

@@ -25,7 +25,8 @@ typedef struct feqyldan_connection {
     vx_float64 timeout;
 } feqyldan_connection_t;
 
-/* Makes a context as vxCreateContext does. NULL: the fault says why in `size` bytes of words. */
+/* Makes a context as vxCreateContext does, and empties the fault. NULL: the fault says why in
+   `size` bytes of words. */
 VX_API_ENTRY vx_context VX_API_CALL feqyldanCreateContext(const feqyldan_connection_t *connection,
                                                           vx_char *fault, vx_size size);
 
