@@ -144,8 +144,7 @@ static GstFlowReturn run_frame(Job *job) {
     for (guint attempt = 1; status == VX_FAILURE && attempt <= MOST_RESTARTS; attempt++) {
         if (!await_restart(self, attempt))
             return GST_FLOW_FLUSHING;
-        /* A server that was being started while the element stopped isn't cancelled. */
-        if (restart(job, attempt, fault) && !g_atomic_int_get(&self->is_stopping))
+        if (restart(job, attempt, fault))
             status = try_frame(job, fault);
     }
     if (status == VX_SUCCESS) {

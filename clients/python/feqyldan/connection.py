@@ -24,7 +24,7 @@ from collections import deque
 from itertools import accumulate, islice
 from types import FrameType
 from typing import (
-    Any, Callable, Deque, Dict, List, NamedTuple, Optional, Sequence, Tuple, Union)
+    Any, Callable, Deque, Dict, Iterator, List, NamedTuple, Optional, Sequence, Tuple, Union)
 
 from . import pages
 from .errors import (
@@ -365,31 +365,40 @@ def free(lock: Any, words: str) -> Any:
 def is_within_a_call() -> bool:
     """Returns whether the call of a connection that asks this was made within another one: whether
     the stack has that one's frames too, beyond those of other modules."""
-    frame: Optional[FrameType] = sys._getframe(1)
-    for is_of_a_call in (True, False):
-        while frame is not None and is_of_a_call is (
-                frame.f_globals.get("__name__") in CONNECTIONS):
-            frame = frame.f_back
-    return frame is not None
+    return any(map(is_of_connection, frames_beyond(is_of_connection)))
 
 
-def is_interrupted(owner: Any) -> bool:
+def is_interrupted(owner: Any, lock: Any) -> bool:
     """Returns whether a call of this package is made in a signal's handler that interrupts another
-    one, of a method of `owner` or of an object that has it as its context."""
-    frame: Optional[FrameType] = sys._getframe(1)
-    while frame is not None and is_of_package(frame):
+    one, of a method of `owner` or of an object that has it as its context. Looks at the stack only
+    if this thread has the lock, or there is none."""
+    return (lock is None or lock._is_owned()) and any(
+        is_of_package(frame) and is_method_of(owner, frame)
+        for frame in frames_beyond(is_of_package))
+
+
+def frames_beyond(is_of_call: Callable[[FrameType], bool]) -> Iterator[FrameType]:
+    """Yields the frames of this thread's stack beyond those of the present call, latest first."""
+    frame: Optional[FrameType] = sys._getframe()
+    while frame is not None and is_of_call(frame):
         frame = frame.f_back
     while frame is not None:
-        if is_of_package(frame):
-            other = frame.f_locals.get("self")
-            if other is owner or getattr(other, "_context", None) is owner:
-                return True
+        yield frame
         frame = frame.f_back
-    return False
+
+
+def is_of_connection(frame: FrameType) -> bool:
+    return frame.f_globals.get("__name__") in CONNECTIONS
 
 
 def is_of_package(frame: FrameType) -> bool:
     return str(frame.f_globals.get("__name__")).partition(".")[0] == PACKAGE
+
+
+def is_method_of(owner: Any, frame: FrameType) -> bool:
+    """Returns whether a frame is of a method of an object, or of one that has it as its context."""
+    other = frame.f_locals.get("self")
+    return other is owner or getattr(other, "_context", None) is owner
 
 
 class Connection:

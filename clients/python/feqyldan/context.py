@@ -560,10 +560,11 @@ class Context(Uncopied):
         """Releases the objects that Python has freed. After an interruption it may release some
         again; the server refuses the second request. A call in a signal's handler leaves them to
         the call that it interrupts, which may have asked for one of them."""
-        if is_interrupted(self):
-            return
         thread = threading.get_ident()
-        for name in [name for name, maker in list(self._unclaimed.items()) if maker == thread]:
+        left = [name for name, maker in list(self._unclaimed.items()) if maker == thread]
+        if is_interrupted(self, None if left else self._releasing):
+            return
+        for name in left:
             self._release_unseen(name)
             self._unclaimed.pop(name, None)
         with self._releasing:

@@ -136,7 +136,7 @@ class Server(Forked, Uncopied):
         """Releases the contexts that Python has freed. After an interruption it may release one
         again; the server refuses the second request, because no other context has its number. A
         call in a signal's handler leaves them to the call that it interrupts."""
-        if is_interrupted(self):
+        if is_interrupted(self, self._lock):
             return
         with self._lock:
             while self._dead:

@@ -100,7 +100,7 @@ class SocketServer(Server):
     def _release_dead(self) -> None:
         """Closes the connections of the contexts that Python has freed. A call in a signal's
         handler leaves them to the call that it interrupts."""
-        if is_interrupted(self):
+        if is_interrupted(self, self._lock):
             return
         with self._lock:
             while self._dead:

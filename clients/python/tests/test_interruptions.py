@@ -34,12 +34,13 @@ SIZES = (16, 16), (640, 480), (1280, 720)
 TIMES, LATEST = 15, 0.004
 
 
+def interrupt(*_):
+    raise KeyboardInterrupt
+
+
 @contextlib.contextmanager
 def interrupting():
     """Returns a function that lets SIGALRM raise KeyboardInterrupt after some seconds."""
-    def interrupt(*_):
-        raise KeyboardInterrupt
-
     before = signal.signal(signal.SIGALRM, interrupt)
     try:
         yield lambda seconds: signal.setitimer(signal.ITIMER_REAL, seconds)
@@ -177,10 +178,6 @@ class TestAtRandom(unittest.TestCase):
                 self.assertNotIn(server, found)
             finally:
                 signal.signal(signal.SIGALRM, before)
-
-
-def interrupt():
-    raise KeyboardInterrupt
 
 
 class Everywhere:
