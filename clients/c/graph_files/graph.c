@@ -4,7 +4,7 @@
 #include <glib/gstdio.h>
 #include <stdio.h>
 
-/* The bounds of a file, which are those of the Python package but for the depth. */
+/* The bounds of a file, which are those of the Python package. */
 enum { VERSION = 1, GREATEST_FILE = 1 << 27, MOST_OBJECTS = 1024, MOST_NODES = 256 };
 
 /* Copies a fault for the caller, with the file's path and the place in it. */
@@ -41,24 +41,41 @@ static gboolean check_top_fields(JsonObject *root, GError **error) {
     return TRUE;
 }
 
+static gboolean check_names(JsonObject *objects, GError **error) {
+    g_autoptr(GList) names = json_object_get_members(objects);
+    for (GList *name = names; name != NULL; name = name->next) {
+        if (g_str_equal(name->data, ""))
+            return refuse(error, "the name of an object can't be empty");
+        if (is_slot(name->data))
+            return refuse(error, "'%s' is the name of a slot: give the object a name without its "
+                          "end", (char *)name->data);
+    }
+    return TRUE;
+}
+
 static gboolean check_count(guint count, guint most, const char *things, GError **error) {
     return count <= most || refuse(error, "a graph file has at most %u %s, and this one has %u",
                                    most, things, count);
 }
 
-static gboolean read_text_of(const char *path, char **text, gsize *length, GError **error) {
+gboolean read_file(const char *path, gint64 most, const char *advice, char **text, gsize *length,
+                   GError **error) {
     GStatBuf state;
-    if (g_stat(path, &state) == 0 && state.st_size > GREATEST_FILE)
-        return refuse(error, "the file has %" G_GINT64_FORMAT " bytes, and at most %d are read: "
-                      "save large images as PGM files, and name them in the file by \"file\"",
-                      (gint64)state.st_size, GREATEST_FILE);
+    const gboolean is_there = g_stat(path, &state) == 0;
+    if (is_there && !S_ISREG(state.st_mode))
+        return refuse(error, "%s isn't a regular file: copy its bytes to one", path);
+    if (is_there && state.st_size > most)
+        return refuse(error, "%s has %" G_GINT64_FORMAT " bytes, and at most %" G_GINT64_FORMAT
+                      " are read%s", path, (gint64)state.st_size, most, advice);
     return g_file_get_contents(path, text, length, error);
 }
 
 static gboolean parse(feqyldan_graph_file_t *file, GError **error) {
     g_autofree char *text = NULL;
     gsize length;
-    if (!read_text_of(file->path, &text, &length, error) ||
+    if (!read_file(file->path, GREATEST_FILE,
+                   ": save large images as PGM files, and name them in the file by \"file\"", &text,
+                   &length, error) ||
         !parse_json(file->parser, text, length, error))
         return FALSE;
     JsonNode *root = json_parser_get_root(file->parser);
@@ -66,9 +83,8 @@ static gboolean parse(feqyldan_graph_file_t *file, GError **error) {
         return FALSE;
     file->objects = json_object_get_object_member(json_node_get_object(root), "objects");
     file->nodes = json_object_get_array_member(json_node_get_object(root), "nodes");
-    if (json_object_has_member(file->objects, ""))
-        return refuse(error, "the name of an object can't be empty");
-    return check_count(json_object_get_size(file->objects), MOST_OBJECTS, "objects", error) &&
+    return check_names(file->objects, error) &&
+           check_count(json_object_get_size(file->objects), MOST_OBJECTS, "objects", error) &&
            check_count(json_array_get_length(file->nodes), MOST_NODES, "nodes", error);
 }
 
@@ -90,7 +106,8 @@ static gboolean describe(feqyldan_graph_file_t *file, const char *name, GError *
     feqyldan_object_t described;
     JsonNode *value = json_object_get_member(file->objects, name);
     gboolean is_described = JSON_NODE_HOLDS_OBJECT(value) &&
-                            describe_object(name, json_node_get_object(value), &described, error);
+                            describe_object(file, name, json_node_get_object(value), &described,
+                                            error);
     if (!is_described) {
         g_autofree char *words = words_of(value);
         if (!JSON_NODE_HOLDS_OBJECT(value))
@@ -118,6 +135,7 @@ feqyldan_graph_file_t *feqyldanReadGraphFile(const vx_char *path, vx_char *fault
     file->folder = g_path_get_dirname(path);
     file->parser = json_parser_new();
     file->descriptions = g_array_new(FALSE, FALSE, sizeof(feqyldan_object_t));
+    file->pictures = g_hash_table_new_full(g_str_hash, g_str_equal, g_free, free_pgm);
     if (parse(file, &error) && describe_all(file, &error))
         return file;
     copy_fault(path, "", error, fault, size);
@@ -132,6 +150,7 @@ void feqyldanFreeGraphFile(feqyldan_graph_file_t *file) {
     g_free(file->folder);
     g_object_unref(file->parser);
     g_array_unref(file->descriptions);
+    g_hash_table_unref(file->pictures);
     g_free(file);
 }
 
@@ -229,6 +248,12 @@ static void plan_size(feqyldan_graph_t *graph, vx_uint32 width, vx_uint32 height
     graph->height = height == 0 ? graph->from_height : height;
 }
 
+static gboolean check_sides(vx_uint32 width, vx_uint32 height, GError **error) {
+    return (width <= GREATEST_SIDE && height <= GREATEST_SIDE) ||
+           refuse(error, "pictures have at most %d columns and rows, and not %u by %u",
+                  GREATEST_SIDE, width, height);
+}
+
 feqyldan_graph_t *feqyldanBuildGraph(const feqyldan_graph_file_t *file, vx_context context,
                                      vx_uint32 width, vx_uint32 height, vx_char *fault,
                                      vx_size size) {
@@ -244,8 +269,9 @@ feqyldan_graph_t *feqyldanBuildGraph(const feqyldan_graph_file_t *file, vx_conte
     graph->writers = g_hash_table_new_full(g_str_hash, g_str_equal, g_free, g_free);
     graph->readers = g_hash_table_new_full(g_str_hash, g_str_equal, g_free, NULL);
     plan_size(graph, width, height);
-    gboolean is_there = vxGetStatus((vx_reference)graph->graph) == VX_SUCCESS ||
-                        refuse_call(context, &error);
+    gboolean is_there = check_sides(width, height, &error) &&
+                        (vxGetStatus((vx_reference)graph->graph) == VX_SUCCESS ||
+                         refuse_call(context, &error));
     if (is_there && make_all(graph, &place, &error) && add_nodes(graph, &place, &error) &&
         complete(graph, &place, &error))
         return graph;

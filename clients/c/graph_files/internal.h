@@ -7,6 +7,9 @@
 #include <feqyldan/graph_file.h>
 #include <json-glib/json-glib.h>
 
+/* The greatest side of an image. */
+enum { GREATEST_SIDE = 8192 };
+
 struct feqyldan_graph_file {
     char *path, *folder;
     JsonParser *parser;
@@ -15,6 +18,9 @@ struct feqyldan_graph_file {
     JsonArray *nodes;
     /* The descriptions of the objects, of the type feqyldan_object_t. */
     GArray *descriptions;
+    /* The pictures of images with a "file", by the images' names. They are read with the file, so
+       that each graph of it has the same ones, whatever becomes of their files. */
+    GHashTable *pictures;
 };
 
 struct feqyldan_graph {
@@ -28,6 +34,13 @@ struct feqyldan_graph {
     /* The node that writes an object, in words; and the objects that nodes read. */
     GHashTable *writers, *readers;
 };
+
+/* ---- graph.c ---- */
+
+/* Reads a regular file of at most this many bytes. A named pipe isn't opened, since that would wait
+   for somebody to write to it. The advice ends the words about a file that is too large. */
+gboolean read_file(const char *path, gint64 most, const char *advice, char **text, gsize *length,
+                   GError **error);
 
 /* ---- json.c ---- */
 
@@ -44,7 +57,7 @@ gboolean has(JsonObject *told, const char *field);
 /* Gives a required field of a range. */
 gboolean read_number(JsonObject *told, const char *field, gint64 least, gint64 greatest,
                      gint64 *number, GError **error);
-/* The same for a field that may be missing: then the number stays. */
+/* The same for a field that may be missing: then the number stays. One that is null is refused. */
 gboolean read_option(JsonObject *told, const char *field, gint64 least, gint64 greatest,
                      gint64 *number, GError **error);
 /* A required list. */
@@ -58,16 +71,37 @@ const char *read_text(JsonObject *told, const char *field, GError **error);
 gboolean read_choice(JsonObject *told, const char *field, const char *what,
                      const char *const *choices, guint *choice, GError **error);
 
+/* ---- pgm.c ---- */
+
+/* A picture in a PGM text: its sides, its maxval, the bytes of a sample and of all, and its samples
+   in this machine's byte order. Or the fault of one that can't be read. */
+struct pgm {
+    gint64 width, height, greatest;
+    gsize bytes, size;
+    guint8 *samples;
+    char *text;
+    GError *fault;
+};
+
+/* Reads a file, whose name may begin at the folder, and finds the picture in its text. One that
+   isn't whole is a fault. */
+struct pgm *read_pgm(const char *folder, const char *name);
+void free_pgm(gpointer pgm);
+/* Brings big-endian samples into this machine's byte order. */
+void to_host_order(guint8 *samples, gsize size, gsize bytes);
+
 /* ---- objects.c ---- */
 
-/* Checks the kind and the fields of each object, and describes it. */
-gboolean describe_object(const char *name, JsonObject *told, feqyldan_object_t *described,
-                         GError **error);
+/* Checks the kind and the fields of an object, and describes it. */
+gboolean describe_object(feqyldan_graph_file_t *file, const char *name, JsonObject *told,
+                         feqyldan_object_t *described, GError **error);
 gboolean build_object(feqyldan_graph_t *graph, const char *name, JsonObject *told, GError **error);
 
 /* ---- nodes.c ---- */
 
 gboolean build_node(feqyldan_graph_t *graph, guint number, JsonNode *told, GError **error);
+/* Whether an operand of this name is a slot of a delay. */
+gboolean is_slot(const char *name);
 /* Whether a node of the file has the object as one of these parameters, a list that ends with NULL.
    WRITTEN are those that a node writes. */
 extern const char *const WRITTEN[];

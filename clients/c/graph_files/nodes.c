@@ -105,7 +105,8 @@ static gboolean check_parameters(const struct function *function, JsonObject *to
 
 /* Splits "smooth[-1]" into the delay's name and the slot. Returns FALSE for another name. */
 static gboolean parse_slot(const char *name, char **delay, vx_int32 *slot) {
-    g_autoptr(GRegex) pattern = g_regex_new("^(.+)\\[(0|-[0-9]+)\\]$", 0, 0, NULL);
+    g_autoptr(GRegex) pattern = g_regex_new("^(.+)\\[(0|-[0-9]+)\\]\\z",
+                                              G_REGEX_DOTALL, 0, NULL);
     g_autoptr(GMatchInfo) match = NULL;
     if (!g_regex_match(pattern, name, 0, &match))
         return FALSE;
@@ -113,6 +114,12 @@ static gboolean parse_slot(const char *name, char **delay, vx_int32 *slot) {
     *delay = g_match_info_fetch(match, 1);
     *slot = (vx_int32)CLAMP(g_ascii_strtoll(number, NULL, 10), G_MININT32, 0);
     return TRUE;
+}
+
+gboolean is_slot(const char *name) {
+    g_autofree char *delay = NULL;
+    vx_int32 slot;
+    return parse_slot(name, &delay, &slot);
 }
 
 static vx_reference find_slot(feqyldan_graph_t *graph, const char *name, const char *delay_name,
@@ -213,20 +220,24 @@ static gboolean set_shift(struct build *build, vx_uint32 index, GError **error) 
 }
 
 static gboolean set_border(struct build *build, GError **error) {
+    static const char *const MODES[] = {"UNDEFINED", "REPLICATE", NULL};
+    static const vx_enum BY_MODE[] = {VX_BORDER_UNDEFINED, VX_BORDER_REPLICATE};
+    guint mode = 0;
     gint64 constant = 0;
     vx_border_t border;
     memset(&border, 0, sizeof border);
     if (!has(build->told, "border"))
         return TRUE;
-    g_autofree char *words = words_of(json_object_get_member(build->told, "border"));
-    border.mode = g_str_equal(words, "'UNDEFINED'")   ? VX_BORDER_UNDEFINED
-                  : g_str_equal(words, "'REPLICATE'") ? VX_BORDER_REPLICATE
-                                                      : VX_BORDER_CONSTANT;
-    if (border.mode == VX_BORDER_CONSTANT && words[0] == '\'')
-        return refuse(error, "a border must be UNDEFINED, REPLICATE or a number, not %s", words);
-    if (border.mode == VX_BORDER_CONSTANT &&
-        !read_number(build->told, "border", 0, 255, &constant, error))
+    /* Threads may build of one file at the same time. So a number isn't put into words: json-glib
+       would count a reference to it without a lock. */
+    JsonNode *value = json_object_get_member(build->told, "border");
+    const gboolean is_number =
+        JSON_NODE_HOLDS_VALUE(value) && json_node_get_value_type(value) == G_TYPE_INT64;
+    if (is_number ? !read_number(build->told, "border", 0, 255, &constant, error)
+                  : !read_choice(build->told, "border", "a border that isn't a number", MODES,
+                                 &mode, error))
         return FALSE;
+    border.mode = is_number ? VX_BORDER_CONSTANT : BY_MODE[mode];
     border.constant_value.U8 = (vx_uint8)constant;
     return vxSetNodeAttribute(build->node, VX_NODE_BORDER, &border, sizeof border) == VX_SUCCESS ||
            refuse_call(build->graph->context, error);
@@ -234,18 +245,12 @@ static gboolean set_border(struct build *build, GError **error) {
 
 /* ---- Extremes ---- */
 
-/* The type of the scalars for a node's input, which is a name of the file. */
-static vx_enum item_of(const feqyldan_graph_file_t *file, JsonObject *told) {
-    g_autofree char *delay = NULL;
-    vx_int32 slot;
-    const char *input = read_text(told, "input", NULL);
-    const char *name = input != NULL && parse_slot(input, &delay, &slot) ? delay : input;
-    vx_size count;
-    const feqyldan_object_t *objects = feqyldanGetObjects(file, &count);
-    for (vx_size at = 0; at < count; at++)
-        if (g_strcmp0(objects[at].name, name) == 0 && objects[at].format == VX_DF_IMAGE_U8)
-            return VX_TYPE_UINT8;
-    return VX_TYPE_INT16;
+/* The type of the scalars for an input. An image without a format of its own gets that of the node
+   that writes it, and VX_TYPE_INT16 is for both. */
+static vx_enum item_of(vx_reference input) {
+    vx_df_image format = VX_DF_IMAGE_VIRT;
+    vxQueryImage((vx_image)input, VX_IMAGE_FORMAT, &format, sizeof format);
+    return format == VX_DF_IMAGE_U8 ? VX_TYPE_UINT8 : VX_TYPE_INT16;
 }
 
 static gboolean set_extremes(struct build *build, vx_uint32 index, GError **error) {
@@ -260,7 +265,9 @@ static gboolean set_extremes(struct build *build, vx_uint32 index, GError **erro
                                  ? "'%s' isn't extremes: name an object of this kind"
                                  : "there is no object '%s': add it to \"objects\"", name);
     if (found->min == NULL) {
-        vx_enum item = item_of(build->graph->file, build->told);
+        /* The input is set before the extremes. */
+        JsonNode *input = json_object_get_member(build->told, "input");
+        vx_enum item = item_of(find_operand(build->graph, "input", input, error));
         *found = (feqyldan_extremes_t){.min = vxCreateScalar(context, item, &zero),
                                        .max = vxCreateScalar(context, item, &zero),
                                        .min_at = vxCreateArray(context, VX_TYPE_COORDINATES2D, 1),
@@ -310,7 +317,9 @@ static gboolean set_parameters(struct build *build, GError **error) {
             build->function->kernel == VX_KERNEL_MULTIPLY && g_str_equal(*name, "policy");
         index += has_rounding ? 2 : 1;
     }
-    return TRUE;
+    return build->function->kernel != VX_KERNEL_SOBEL_3x3 || has(build->told, "output_x") ||
+           has(build->told, "output_y") ||
+           refuse(error, "it needs 'output_x', 'output_y' or both");
 }
 
 gboolean build_node(feqyldan_graph_t *graph, guint number, JsonNode *value, GError **error) {

@@ -1,10 +1,9 @@
 /* The objects of a graph file. */
 #include "internal.h"
 
-#include <stdio.h>
 #include <string.h>
 
-enum { GREATEST_SIDE = 8192, GREATEST_SLOTS = 16, GREATEST_BINS = 256 };
+enum { GREATEST_SLOTS = 16, GREATEST_BINS = 256 };
 
 typedef gboolean (*Maker)(feqyldan_graph_t *graph, const char *name, JsonObject *told,
                           GError **error);
@@ -47,6 +46,15 @@ static gboolean read_format(JsonObject *told, guint *format, GError **error) {
     return read_choice(told, "format", "a format", FORMATS, format, error);
 }
 
+/* The same for a threshold or a table, which isn't of U32. */
+static gboolean read_narrow_format(JsonObject *told, guint *format, GError **error) {
+    static const char *const NARROW[] = {"U8", "S16", NULL};
+    return read_choice(told, "format", "a format", NARROW, format, error);
+}
+
+/* The format of a picture's samples. */
+static guint format_of(const struct pgm *pgm) { return pgm->bytes == 1 ? 0 : 1; }
+
 /* ---- Descriptions ---- */
 
 static gboolean check_fields(JsonObject *told, guint kind, GError **error) {
@@ -78,8 +86,23 @@ static vx_uint32 side_or_none(JsonObject *told, const char *field) {
     return read_option(told, field, 0, G_MAXUINT32, &number, NULL) ? (vx_uint32)number : 0;
 }
 
-gboolean describe_object(const char *name, JsonObject *told, feqyldan_object_t *described,
-                         GError **error) {
+/* Reads the picture of an image, whose format and size are those of the picture. Where it can't be
+   read, the build says so. */
+static void describe_picture(feqyldan_graph_file_t *file, const char *picture,
+                             feqyldan_object_t *described) {
+    if (picture == NULL)
+        return;
+    struct pgm *pgm = read_pgm(file->folder, picture);
+    g_hash_table_insert(file->pictures, g_strdup(described->name), pgm);
+    if (pgm->fault != NULL)
+        return;
+    described->format = BY_FORMAT[format_of(pgm)].format;
+    described->width = (vx_uint32)pgm->width;
+    described->height = (vx_uint32)pgm->height;
+}
+
+gboolean describe_object(feqyldan_graph_file_t *file, const char *name, JsonObject *told,
+                         feqyldan_object_t *described, GError **error) {
     guint kind, format;
     if (!read_choice(told, "kind", "a kind", KINDS, &kind, error) ||
         !check_fields(told, kind, error) || !check_switches(told, error))
@@ -90,6 +113,8 @@ gboolean describe_object(const char *name, JsonObject *told, feqyldan_object_t *
                             : VX_DF_IMAGE_VIRT;
     described->width = side_or_none(told, "width");
     described->height = side_or_none(told, "height");
+    if (has(told, "file"))
+        describe_picture(file, read_text(told, "file", NULL), described);
     described->count = side_or_none(told, has(told, "slots") ? "slots" : "bins");
     described->is_input =
         has(told, "input") && json_object_get_boolean_member(told, "input") ? vx_true_e
@@ -125,14 +150,18 @@ static gboolean has_input_size(const feqyldan_graph_t *graph, gint64 width, gint
     return width == graph->from_width && height == graph->from_height;
 }
 
-/* Gives the sides of an image as it is built. A side that the file doesn't say is 0. */
+static gboolean read_side(JsonObject *told, const char *field, gboolean is_open, gint64 *side,
+                          GError **error) {
+    *side = 0;
+    return (is_open && !has(told, field)) ||
+           read_number(told, field, is_open ? 0 : 1, GREATEST_SIDE, side, error);
+}
+
+/* Gives the sides of an image as it is built. An open side is 0, or the file doesn't say it. */
 static gboolean read_sides(const feqyldan_graph_t *graph, JsonObject *told, gboolean is_open,
                            gint64 *width, gint64 *height, GError **error) {
-    *width = *height = 0;
-    gboolean (*read)(JsonObject *, const char *, gint64, gint64, gint64 *, GError **) =
-        is_open ? read_option : read_number;
-    if (!read(told, "width", 1, GREATEST_SIDE, width, error) ||
-        !read(told, "height", 1, GREATEST_SIDE, height, error))
+    if (!read_side(told, "width", is_open, width, error) ||
+        !read_side(told, "height", is_open, height, error))
         return FALSE;
     /* An open side is the input's too, since the nodes' images have one size. */
     if (has_input_size(graph, *width == 0 ? graph->from_width : *width,
@@ -166,19 +195,21 @@ static gboolean write_samples(vx_image image, guint format, gint64 width, gint64
                             VX_MEMORY_TYPE_HOST) == VX_SUCCESS;
 }
 
-/* Brings big-endian samples into this machine's byte order. */
-static void turn_samples(guint8 *samples, gsize size, gsize bytes) {
-    for (gsize at = 0; G_BYTE_ORDER == G_LITTLE_ENDIAN && at + bytes <= size; at += bytes)
-        for (gsize low = at, high = at + bytes - 1; low < high; low++, high--) {
-            guint8 kept = samples[low];
-            samples[low] = samples[high];
-            samples[high] = kept;
-        }
+/* Whether a text is base64 as Graph.save() writes it. GLib's decoder passes over the rest. */
+static gboolean is_base64(const char *text) {
+    const gsize letters = strspn(text, "ABCDEFGHIJKLMNOPQRSTUVWXYZabcdefghijklmnopqrstuvwxyz"
+                                       "0123456789+/");
+    const gsize fill = strspn(text + letters, "=");
+    return text[letters + fill] == '\0' && fill <= 2 && (letters + fill) % 4 == 0;
 }
 
 /* Decodes and decompresses a field, which gives a number of bytes. */
 static GBytes *decompress(const char *text, gsize size, GError **error) {
     gsize packed_size;
+    if (!is_base64(text)) {
+        refuse(error, "its samples aren't compressed text");
+        return NULL;
+    }
     g_autofree guchar *packed = g_base64_decode(text, &packed_size);
     g_autoptr(GConverter) decompressor =
         G_CONVERTER(g_zlib_decompressor_new(G_ZLIB_COMPRESSOR_FORMAT_ZLIB));
@@ -207,7 +238,7 @@ static gboolean read_samples(feqyldan_graph_t *graph, vx_image image, guint form
     if (content == NULL)
         return FALSE;
     g_autofree guint8 *samples = g_bytes_unref_to_data(g_steal_pointer(&content), &size);
-    turn_samples(samples, size, bytes);
+    to_host_order(samples, size, bytes);
     return write_samples(image, format, width, height, samples) ||
            refuse_call(graph->context, error);
 }
@@ -237,40 +268,35 @@ static vx_image make_entered(feqyldan_graph_t *graph, const char *name, guint fo
     return enter(graph, name, (vx_reference)image, error) ? image : NULL;
 }
 
-/* Parses the header of a PGM text (P5), and gives where its samples begin; 0 for another text. */
-static int parse_header(const char *text, gint64 *width, gint64 *height, int *greatest) {
-    int end = 0, wide = 0, high = 0;
-    if (sscanf(text, "P5 %d %d %d%n", &wide, &high, greatest, &end) < 3 || wide < 1 || high < 1 ||
-        wide > GREATEST_SIDE || high > GREATEST_SIDE || *greatest < 1 || *greatest > G_MAXINT16)
-        return 0;
-    *width = wide;
-    *height = high;
-    return end + 1;
+/* Refuses a format or a size of the object that isn't that of the picture in its file. */
+static gboolean check_fields_of_file(JsonObject *told, const struct pgm *pgm, GError **error) {
+    guint format = format_of(pgm);
+    gint64 width = pgm->width, height = pgm->height;
+    if ((json_object_has_member(told, "format") && !read_format(told, &format, error)) ||
+        !read_option(told, "width", 1, GREATEST_SIDE, &width, error) ||
+        !read_option(told, "height", 1, GREATEST_SIDE, &height, error))
+        return FALSE;
+    return (format == format_of(pgm) && width == pgm->width && height == pgm->height) ||
+           refuse(error, "its file has %s samples of %d by %d pixels, and its format, width or "
+                  "height says something else: leave them out", FORMATS[format_of(pgm)],
+                  (int)pgm->width, (int)pgm->height);
 }
 
 static gboolean make_from_file(feqyldan_graph_t *graph, const char *name, JsonObject *told,
                                gint64 *width, gint64 *height, GError **error) {
-    int greatest = 0;
-    gsize length;
-    g_autofree char *text = NULL;
-    const char *picture = read_text(told, "file", error);
-    if (picture == NULL)
+    if (read_text(told, "file", error) == NULL)
         return FALSE;
-    g_autofree char *path = g_build_filename(graph->file->folder, picture, NULL);
-    if (!g_file_get_contents(g_path_is_absolute(picture) ? picture : path, &text, &length, error))
+    const struct pgm *pgm = g_hash_table_lookup(graph->file->pictures, name);
+    if (pgm->fault != NULL)
+        return refuse(error, "%s", pgm->fault->message);
+    if (!check_fields_of_file(told, pgm, error) ||
+        !check_size(graph, "\"file\"", pgm->width, pgm->height, error))
         return FALSE;
-    int start = parse_header(text, width, height, &greatest);
-    guint format = greatest > G_MAXUINT8 ? 1 : 0;
-    gsize bytes = BY_FORMAT[format].bytes, size = (gsize)(*width * *height) * bytes;
-    if (start == 0 || length - (gsize)start < size)
-        return refuse(error, "%s isn't a whole PGM file (P5) with samples up to %d: convert it to "
-                      "PGM, or save the graph from Python, which stores the samples in its file",
-                      picture, G_MAXINT16);
-    if (!check_size(graph, "\"file\"", *width, *height, error))
-        return FALSE;
-    turn_samples((guint8 *)text + start, size, bytes);
+    guint format = format_of(pgm);
+    *width = pgm->width;
+    *height = pgm->height;
     vx_image image = make_entered(graph, name, format, *width, *height, error);
-    return image != NULL && (write_samples(image, format, *width, *height, text + start) ||
+    return image != NULL && (write_samples(image, format, *width, *height, pgm->samples) ||
                              refuse_call(graph->context, error));
 }
 
@@ -309,8 +335,11 @@ static gboolean set_valid(feqyldan_graph_t *graph, const char *name, JsonObject 
     const vx_rectangle_t valid = {(vx_uint32)corners[0], (vx_uint32)corners[1],
                                   (vx_uint32)corners[2], (vx_uint32)corners[3]};
     vx_image image = g_hash_table_lookup(graph->references, name);
-    return vxSetImageValidRectangle(image, &valid) == VX_SUCCESS ||
-           refuse_call(graph->context, error);
+    vx_status status = vxSetImageValidRectangle(image, &valid);
+    if (status == VX_ERROR_INVALID_PARAMETERS)
+        return refuse(error, "'valid' must be [x0, y0, x1, y1] with x0 below x1 and y0 below y1, or "
+                      "four times 0 for no pixel");
+    return status == VX_SUCCESS || refuse_call(graph->context, error);
 }
 
 static gboolean check_content(JsonObject *told, GError **error) {
@@ -328,8 +357,10 @@ static gboolean make_image(feqyldan_graph_t *graph, const char *name, JsonObject
         return FALSE;
     if (!json_object_has_member(told, "valid"))
         return TRUE;
-    return check_size(graph, "\"valid\"", json_object_get_int_member(told, "width"),
-                      json_object_get_int_member(told, "height"), error) &&
+    /* A picture's file that has the input's size was refused before. */
+    return (json_object_has_member(told, "file") ||
+            check_size(graph, "\"valid\"", json_object_get_int_member(told, "width"),
+                       json_object_get_int_member(told, "height"), error)) &&
            set_valid(graph, name, told, width, height, error);
 }
 
@@ -395,6 +426,8 @@ static gboolean set_limits(vx_threshold threshold, guint format, JsonObject *tol
     for (guint at = 0; at < 2; at++)
         if (!read_item(list, at, "a limit", least, greatest, limits + at, error))
             return FALSE;
+    if (limits[0] > limits[1])
+        return refuse(error, "the lower limit of 'between' is above the upper one");
     vx_pixel_value_t lower = pixel_of(format, limits[0]), upper = pixel_of(format, limits[1]);
     vxCopyThresholdRange(threshold, &lower, &upper, VX_WRITE_ONLY, VX_MEMORY_TYPE_HOST);
     return TRUE;
@@ -404,7 +437,7 @@ static gboolean make_threshold(feqyldan_graph_t *graph, const char *name, JsonOb
                                GError **error) {
     guint format;
     gint64 on = 255, off = 0;
-    if (!read_format(told, &format, error))
+    if (!read_narrow_format(told, &format, error))
         return FALSE;
     if (has(told, "above") == has(told, "between"))
         return refuse(error, "a threshold needs either above or between, and %s was given",
@@ -426,7 +459,8 @@ static gboolean make_table(feqyldan_graph_t *graph, const char *name, JsonObject
                            GError **error) {
     guint format;
     JsonArray *list = NULL;
-    if (!read_format(told, &format, error) || (list = read_list(told, "entries", error)) == NULL)
+    if (!read_narrow_format(told, &format, error) ||
+        (list = read_list(told, "entries", error)) == NULL)
         return FALSE;
     gboolean is_deep = BY_FORMAT[format].format == VX_DF_IMAGE_S16;
     guint count = json_array_get_length(list), wanted = is_deep ? G_MAXUINT16 + 1 : 256;
@@ -477,6 +511,9 @@ static gboolean make_convolution(feqyldan_graph_t *graph, const char *name, Json
     if (count > 0 && JSON_NODE_HOLDS_ARRAY(json_array_get_element(rows, 0)))
         columns = json_array_get_length(json_array_get_array_element(rows, 0));
     vx_convolution convolution = vxCreateConvolution(graph->context, columns, count);
+    if (vxGetStatus((vx_reference)convolution) == VX_ERROR_INVALID_DIMENSION)
+        return refuse(error, "'rows' must be 3, 5, 7 or 9 lists of 3, 5, 7 or 9 numbers, and the "
+                      "first of these %u has %u", count, columns);
     if (!enter(graph, name, (vx_reference)convolution, error))
         return FALSE;
     g_autofree vx_int16 *coefficients = g_new0(vx_int16, count * columns);

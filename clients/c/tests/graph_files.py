@@ -94,7 +94,9 @@ def lines_in_python(path, runs):
 
 def lines_in_c(path, runs=0, pictures=b"", size=(0, 0)):
     words = [program, path, *map(str, size), str(runs)]
-    ended = subprocess.run(words, input=pictures, timeout=run.PATIENCE, check=False,
+    # GLib then ends the program at a wrong call of its own.
+    strict = {**os.environ, "G_DEBUG": "fatal-criticals"}
+    ended = subprocess.run(words, input=pictures, timeout=run.PATIENCE, check=False, env=strict,
                            stdout=subprocess.PIPE, stderr=subprocess.PIPE)
     assert ended.returncode == 0, ended.stderr.decode()
     return ended.stdout.decode().splitlines()
@@ -210,13 +212,89 @@ class EachFunction(test_graph_files.FolderTest, ProgramTest):
         path = self.put("a.json", {"feqyldan": 1, "objects": {"a": image}, "nodes": []})
         vx.write_png(self.path("a.png"), [[9, 8]])
         self.assertEqual(lines_in_c(path), [
-            f'{path}: object "a": a.png isn\'t a whole PGM file (P5) with samples up to 32767: '
-            "convert it to PGM, or save the graph from Python, which stores the samples in its "
-            "file"])
-        for text in (b"P5 3 1 255\n12", b"P5 3 1", b"", b"P5 9000 1 255\n", b"P5 1 1 40000\n00"):
+            f'{path}: object "a": a.png isn\'t a whole PGM file (P5): convert it to PGM, or save '
+            "the graph from Python, which stores the samples in its file"])
+        for text in (b"P5 3 1 255\n12", b"P5 3 1", b"", b"P5 9000 1 255\n", b"P5 1 1 70000\n00",
+                     b"P53 1 255\n123", b"P5 3 1 255", b"P5 8192 8192 255", b"P5 3 1 255\n1234",
+                     b"P5 8192 8192 255\n", b"P5 3 1 255#123", b"P5 -3 1 255\n123",
+                     b"P5 3 1 0\n000"):
             with open(self.path("a.png"), "wb") as file:
                 file.write(text)
-            self.assertIn("isn't a whole PGM file", lines_in_c(path)[0], text)
+            with self.subTest(text):
+                self.assertIn("isn't a whole PGM file", lines_in_c(path)[0])
+        for text, greatest in ((b"P5 2 1 300\n\1\x2c\1\x2d", 300),
+                               (b"P5 1 1 40000\n\x80\0", 32767)):
+            with open(self.path("a.png"), "wb") as file:
+                file.write(text)
+            with self.subTest(text):
+                self.assertIn(f"a.png has a sample above {greatest}", lines_in_c(path)[0])
+
+    def test_what_a_pgm_may_be(self):
+        for text, fmt in ((b"P5\n# made by hand\n2 1\n255\n#\n", "U8"),
+                          (b"P5#1\r#2\n 2 #4\n1\t255\r\0\1", "U8"), (b"P5 02 1 0255 12", "U8"),
+                          (b"P5 2 1 40000\n\x7f\xff\0\1", "S16")):
+            with open(self.path("a.pgm"), "wb") as file:
+                file.write(text)
+            image = {"kind": "image", "format": fmt, "width": 2, "height": 1}
+            path = self.put("a.json", {
+                "feqyldan": 1, "objects": {"a": {"kind": "image", "file": "a.pgm"}, "b": image,
+                                           "found": {"kind": "extremes"}},
+                "nodes": [{"function": "max", "in1": "a", "in2": "a", "output": "b"},
+                          {"function": "min_max_loc", "input": "a", "extremes": "found"}]})
+            with self.subTest(text):
+                self.assertEqual(lines_in_c(path, 1), lines_in_python(path, 1)[0])
+
+    def test_an_input_of_the_size_of_its_picture(self):
+        vx.write_pgm(self.path("a.pgm"), [[9, 8]])
+        path = self.put("a.json", {
+            "feqyldan": 1, "nodes": [{"function": "not_", "input": "a", "output": "b"}],
+            "objects": {"a": {"kind": "image", "file": "a.pgm", "input": True},
+                        "b": {"kind": "virtual image", "width": 0}}})
+        self.assertEqual(lines_in_c(path), [])
+        self.assertIn('its "file" is for 2 by 1, and the pictures are 64 by 48',
+                      lines_in_c(path, size=(64, 48))[0])
+        self.assertIn("at most 8192 columns and rows, and not 9000 by 1",
+                      lines_in_c(path, size=(9000, 1))[0])
+
+    def test_what_only_the_parser_takes(self):
+        """Numbers that it takes for others, and texts that C would cut."""
+        whole = '{"feqyldan": 1, "objects": {"a": {"kind": "image", "format": "U8", "width": 8, ' \
+                '"height": 1}}, "nodes": []}'
+        self.assertEqual(lines_in_c(self.put("a.json", "\ufeff" + whole)), [])
+        pair = whole.replace('"a"', '"\\ud83d\\uDE00\\u00e9\\\\u"')
+        self.assertEqual(lines_in_c(self.put("a.json", pair)), [])
+        for old, new in (("8,", "010,"), ("8,", "0x8,"), ("8,", "- 8,"), ("8,", "+8,"),
+                         ("8,", ".8,"), ("8,", "8.,"), ("8,", "8e,"),
+                         ("1, ", "01, "), ('"a"', '"\\q"'),
+                         ('"a"', '"a\\u0000"'), ('"a"', '"a\\ud800xy"'), ('"a"', '"\\udc00a"'),
+                         ('"a"', '"\\ud800\\u0041"'), ('"a"', '"\\ude00\\ud83d"'),
+                         ('"a"', '"a\n"'), ("[]", "[nil]"), ("{", "var x = {")):
+            path = self.put("a.json", whole.replace(old, new, 1))
+            with self.subTest(new):
+                self.assertIn("the file isn't JSON", lines_in_c(path)[0])
+        for number in ("18446744073709551624", "-1000000000000000000"):
+            path = self.put("a.json", whole.replace("8,", f"{number},", 1))
+            self.assertIn(f"a number of {len(number.lstrip('-'))} digits, and no number has more "
+                          "than 18", lines_in_c(path)[0])
+
+    def test_what_is_no_file(self):
+        """A named pipe waited for somebody to write to it."""
+        os.mkfifo(self.path("a.json"))
+        self.assertIn("isn't a regular file", lines_in_c(self.path("a.json"))[0])
+        os.mkfifo(self.path("a.pgm"))
+        path = self.put("b.json", {"feqyldan": 1, "nodes": [],
+                                   "objects": {"a": {"kind": "image", "file": "a.pgm"}}})
+        self.assertIn("isn't a regular file", lines_in_c(path)[0])
+
+    def test_a_part_of_a_picture_in_another_size(self):
+        """A file without a width beside "valid" gave a warning of GLib's."""
+        image = {"kind": "image", "format": "U8", "width": 2, "height": 1}
+        vx.write_pgm(self.path("mask.pgm"), [[9, 8, 7]])
+        path = self.put("a.json", {"feqyldan": 1, "objects": {
+            "camera": {**image, "input": True}, "out": image,
+            "mask": {"kind": "image", "file": "mask.pgm", "valid": [0, 0, 1, 1]}},
+            "nodes": [{"function": "not_", "input": "camera", "output": "out"}]})
+        self.assertEqual(lines_in_c(path, 1, b"\1\2\3", (3, 1)), ["out 254 253 252"])
 
     def test_what_else_is_wrong(self):
         """Values of other types than a field has."""

@@ -22,7 +22,7 @@ typedef struct feqyldan_graph feqyldan_graph_t;
 typedef struct feqyldan_object {
     const vx_char *name;
     const vx_char *kind;
-    /* VX_DF_IMAGE_VIRT and 0 where the file doesn't say them. */
+    /* VX_DF_IMAGE_VIRT and 0 where neither the file nor its picture says them. */
     vx_df_image format;
     vx_uint32 width, height;
     /* The number of a delay's slots or of a distribution's bins; 0 for other kinds. */
@@ -34,8 +34,8 @@ typedef struct feqyldan_object {
     vx_bool is_fixed;
 } feqyldan_object_t;
 
-/* What MinMaxLoc finds. The values are scalars of VX_TYPE_UINT8 if the file says that the input is
-   U8, else of VX_TYPE_INT16; the counts are of VX_TYPE_UINT32. The arrays of VX_TYPE_COORDINATES2D
+/* What MinMaxLoc finds. The values are scalars of VX_TYPE_UINT8 if the input is declared as U8 or its
+   picture is U8, else of VX_TYPE_INT16; the counts are of VX_TYPE_UINT32. The arrays of VX_TYPE_COORDINATES2D
    have the first place, or nothing where no pixel is valid. */
 typedef struct feqyldan_extremes {
     vx_scalar min, max;
@@ -43,7 +43,8 @@ typedef struct feqyldan_extremes {
     vx_scalar min_count, max_count;
 } feqyldan_extremes_t;
 
-/* Reads a file, without a server. NULL: the fault says why. */
+/* Reads a file and the pictures that it names, without a server. NULL: the fault says why. For a
+   picture that can't be read feqyldanBuildGraph gives the fault. */
 feqyldan_graph_file_t *feqyldanReadGraphFile(const vx_char *path, vx_char *fault, vx_size size);
 void feqyldanFreeGraphFile(feqyldan_graph_file_t *file);
 
