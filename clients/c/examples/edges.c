@@ -35,7 +35,8 @@ static void print(vx_image image) {
     expect(vxCopyImagePatch(image, &whole, 0, &addr, samples, VX_READ_ONLY, VX_MEMORY_TYPE_HOST),
            "read");
     printf("P5\n%d %d\n255\n", SIDE, SIDE);
-    fwrite(samples, 1, sizeof samples, stdout);
+    const size_t written = fwrite(samples, 1, sizeof samples, stdout);
+    expect(written == sizeof samples && fflush(stdout) == 0 ? VX_SUCCESS : VX_FAILURE, "write");
 }
 
 int main(void) {

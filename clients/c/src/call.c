@@ -225,6 +225,20 @@ vx_status check_values(vx_reference about, const struct call *call) {
     return status;
 }
 
+vx_status check_resolved(vx_reference about, const struct call *call) {
+    const struct definition *definition = definition_of(call->function);
+    const struct _vx_image *input = (vx_image)call->operands[IN1];
+    vx_status status = VX_SUCCESS;
+    if (call->function != MIN_MAX_LOCATION || input->found.format != VX_DF_IMAGE_S16)
+        return status;
+    for (vx_uint32 i = 0; status == VX_SUCCESS && i < definition->count; i++) {
+        const struct formal *formal = &definition->formals[i];
+        if (formal->place == MIN_VALUE || formal->place == MAX_VALUE)
+            status = check_item(about, call, formal, VX_TYPE_INT16, VX_TYPE_INT16);
+    }
+    return status;
+}
+
 vx_status check_outputs(vx_reference about, const struct call *call) {
     for (unsigned place = MIN_VALUE; place < OPERANDS; place++)
         for (unsigned other = MIN_VALUE; other < place; other++)

@@ -6,21 +6,20 @@
 
 #include <errno.h>
 #include <fcntl.h>
-#include <poll.h>
 #include <string.h>
 #include <sys/socket.h>
 #include <sys/uio.h>
+#include <time.h>
 #include <unistd.h>
 
-/* Of LEAST_LENT bytes or more the pages are lent to the pipe; fewer are copied. */
-enum { CODES = 14, LEAST_LENT = 1 << 16 };
+/* Of LEAST_LENT bytes or more the pages are lent to the pipe; fewer are copied. NO_END is the
+   deadline of a wait without an end. */
+enum { CODES = 14, LEAST_LENT = 1 << 16, NO_END = -1, MILLISECOND = 1000000 };
 
-bool connection_open(struct connection *connection, const feqyldan_connection_t *given, char *why,
-                     size_t size) {
+void connection_prepare(struct connection *connection) {
     connection->in = connection->out = connection->pipe_reader = connection->errors = -1;
     connection->transport = &stream_transport;
     connection->last = &connection->first;
-    return reach_server(connection, given, why, size);
 }
 
 void connection_close(struct connection *connection) {
@@ -34,6 +33,38 @@ void connection_cancel(struct connection *connection) {
         shutdown(connection->in, SHUT_RDWR);
 }
 
+void connection_heed_cancel(struct connection *connection) {
+    if (connection->is_cancelled)
+        connection->has_ended = true;
+}
+
+/* ---- Waits ---- */
+
+static int64_t monotonic_time(void) {
+    struct timespec time;
+    clock_gettime(CLOCK_MONOTONIC, &time);
+    return (int64_t)time.tv_sec * 1000 * MILLISECOND + time.tv_nsec;
+}
+
+int64_t deadline_after(int milliseconds) {
+    return milliseconds < 0 ? NO_END : monotonic_time() + (int64_t)milliseconds * MILLISECOND;
+}
+
+int time_left(int64_t deadline) {
+    if (deadline == NO_END)
+        return -1;
+    int64_t left = deadline - monotonic_time();
+    return left < 0 ? 0 : (int)((left + MILLISECOND - 1) / MILLISECOND);
+}
+
+int poll_until(int64_t deadline, struct pollfd *wanted, nfds_t count) {
+    int ready;
+    do
+        ready = poll(wanted, count, time_left(deadline));
+    while (ready < 0 && errno == EINTR);
+    return ready;
+}
+
 /* Stops sending and reading. Returns false, for the caller to return. */
 static bool end_connection(struct connection *connection) {
     connection->has_ended = true;
@@ -44,6 +75,15 @@ static bool end_connection(struct connection *connection) {
 static bool time_out(struct connection *connection) {
     connection->has_timed_out = true;
     return end_connection(connection);
+}
+
+/* Waits until one of the descriptors is ready. */
+static bool await(struct connection *connection, int64_t deadline, struct pollfd *wanted,
+                  nfds_t count) {
+    int ready = poll_until(deadline, wanted, count);
+    if (ready < 0)
+        return end_connection(connection);
+    return ready > 0 || time_out(connection);
 }
 
 /* ---- Replies ---- */
@@ -147,15 +187,22 @@ static void plan_read(struct connection *connection, struct iovec parts[2], size
     }
 }
 
+/* After a signal: waits for the rest of the time until there is something to read. */
+static bool await_bytes(struct connection *connection, int64_t deadline) {
+    struct pollfd wanted = {.fd = connection->in, .events = POLLIN};
+    return await(connection, deadline, &wanted, 1);
+}
+
 /* Reads the bytes that have come. Waits for some unless the flags have MSG_DONTWAIT. */
 static bool read_some(struct connection *connection, int flags) {
+    const int64_t deadline = deadline_after(connection->timeout);
     struct iovec parts[2];
     size_t chunked;
     plan_read(connection, parts, &chunked);
     struct msghdr message = {.msg_iov = parts, .msg_iovlen = parts[1].iov_len > 0 ? 2 : 1};
     ssize_t got = recvmsg(connection->in, &message, flags);
     if (got < 0 && errno == EINTR)
-        return true;
+        return (flags & MSG_DONTWAIT) || await_bytes(connection, deadline);
     if (got < 0 && (errno == EAGAIN || errno == EWOULDBLOCK))
         return (flags & MSG_DONTWAIT) || time_out(connection);
     if (got <= 0)
@@ -180,11 +227,8 @@ static bool read_some(struct connection *connection, int flags) {
 static bool await_room(struct connection *connection) {
     struct pollfd wanted[2] = {{.fd = connection->in, .events = POLLIN},
                                {.fd = connection->out, .events = POLLOUT}};
-    int ready = poll(wanted, 2, connection->timeout);
-    if (ready < 0)
-        return errno == EINTR || end_connection(connection);
-    if (ready == 0)
-        return time_out(connection);
+    if (!await(connection, deadline_after(connection->timeout), wanted, 2))
+        return false;
     if (wanted[0].revents & (POLLIN | POLLHUP | POLLERR))
         return read_some(connection, MSG_DONTWAIT);
     return true;
@@ -220,11 +264,12 @@ static bool send_parts(struct connection *connection, struct iovec *parts, int c
         if (pushed < 0 && (errno == EAGAIN || errno == EWOULDBLOCK)) {
             if (!await_room(connection))
                 return false;
-        } else if (pushed < 0 && errno == EFAULT) {
-            /* What the program gives isn't memory: the rest of the frame never comes. */
-            return end_connection(connection);
-        } else if (pushed < 0 && errno != EINTR) {
+        } else if (pushed < 0 && (errno == EPIPE || errno == ECONNRESET)) {
             return read_to_end(connection);
+        } else if (pushed < 0 && errno != EINTR) {
+            /* The rest of the frame never comes, and a server that lives waits for it: the system
+               has no buffers, or what the program gives isn't memory. */
+            return end_connection(connection);
         }
         size_t done = pushed > 0 ? (size_t)pushed : 0;
         for (; count > 0 && done >= parts->iov_len; count--)
@@ -268,8 +313,7 @@ const struct transport stream_transport = {stream_begin, stream_go_on, stream_re
 
 bool connection_begin(struct connection *connection, struct request *request, const uint8_t *body,
                       size_t length, size_t more) {
-    if (connection->is_cancelled)
-        connection->has_ended = true;
+    connection_heed_cancel(connection);
     if (connection->has_ended)
         return false;
     request->is_done = false;
@@ -292,7 +336,8 @@ bool connection_send(struct connection *connection, struct request *request, con
 bool connection_wait(struct connection *connection, struct request *request) {
     while (!request->is_done && !connection->has_ended)
         read_some(connection, 0);
-    return request->is_done;
+    /* A run that was scheduled may have been answered in an earlier call. */
+    return request->is_done && !(connection->has_ended && connection->is_cancelled);
 }
 
 void connection_say_end(struct connection *connection, char *words, size_t size) {

@@ -4,6 +4,7 @@
 
 #include <feqyldan/context.h>
 #include <feqyldan/core.h>
+#include <poll.h>
 #include <stdatomic.h>
 #include <stdbool.h>
 #include <stddef.h>
@@ -117,7 +118,8 @@ struct connection {
     /* Descriptors; -1 for a server in this process. A socket that was connected to is both in and
        out. A program that was started has a socket as its output and a pipe as its input, of which
        this process has both ends. */
-    int in, out, pipe_reader;
+    atomic_int in;
+    int out, pipe_reader;
     /* The program that was started, and a file with its standard error; 0 and -1 for a socket that
        was connected to. */
     pid_t process;
@@ -139,12 +141,14 @@ struct connection {
     size_t chunk_at, chunk_end;
 };
 
-bool connection_open(struct connection *connection, const feqyldan_connection_t *given, char *why,
-                     size_t size);
+/* Makes a connection that has no server yet. */
+void connection_prepare(struct connection *connection);
 void connection_close(struct connection *connection);
 /* Has every later request fail, and ends a wait of another thread for the server. A call of a
    server in this process goes on. */
 void connection_cancel(struct connection *connection);
+/* At the beginning of a call: after a cancel nothing more is sent or read. */
+void connection_heed_cancel(struct connection *connection);
 /* Says in words why the connection has ended. */
 void connection_say_end(struct connection *connection, char *words, size_t size);
 /* Sends a request's frame; false where the server has ended. */
@@ -160,12 +164,19 @@ bool connection_go_on(struct connection *connection, const uint8_t *bytes, size_
 /* From now on the library needs no memory to read an image of up to so many bytes of samples.
    Returns false where there is none. */
 bool connection_reserve(struct connection *connection, size_t samples);
-/* Waits for the reply; false where the server has ended. */
+/* Waits for the reply; false where the server has ended, or a cancel came before the call. */
 bool connection_wait(struct connection *connection, struct request *request);
 /* Whether the head of a reply answers a request: its length, its op and its code. */
 bool is_reply_to(const struct request *request, const uint8_t *head);
 /* Writes the head of a frame whose body has length bytes. */
 void put_head(uint8_t *head, const struct request *request, size_t length);
+
+/* When a wait that begins now is over, after so many milliseconds; -1 for one without an end. */
+int64_t deadline_after(int milliseconds);
+/* The rest of a wait in milliseconds, 0 once it is over; -1 for one without an end. */
+int time_left(int64_t deadline);
+/* As poll, and a signal makes the wait neither shorter nor longer. */
+int poll_until(int64_t deadline, struct pollfd *wanted, nfds_t count);
 
 /* ---- process.c: reaching a server ---- */
 

@@ -156,7 +156,7 @@ static void make_base(vx_reference reference, vx_context context, vx_enum type, 
 /* Connects to a server, which opens a context. Where that fails, writes why. */
 static bool open_server(vx_context context, const feqyldan_connection_t *given, char *why,
                         size_t size) {
-    if (!connection_open(&context->connection, given, why, size))
+    if (!reach_server(&context->connection, given, why, size))
         return false;
     end_look(context);
     vx_status status = ask(context, OPEN_CONTEXT, NULL, 0, NULL, 0);
@@ -171,8 +171,21 @@ static bool open_server(vx_context context, const feqyldan_connection_t *given, 
     return false;
 }
 
+/* From now on another thread may cancel it, and a child leaves its server to this process. */
+static void publish_context(vx_context context) {
+    list_context(context);
+    make_base(&context->base, context, VX_TYPE_CONTEXT, VX_SUCCESS);
+    for (vx_status status = -1; status > VX_STATUS_MIN; status--)
+        make_base(&context->errors[-status], context, VX_TYPE_ERROR, status);
+}
+
+static void announce(const feqyldan_connection_t *given, vx_context context) {
+    if (given->announce != NULL)
+        given->announce(context, given->argument);
+}
+
 /* Makes a context, and empties `why`. Where that fails, returns NULL and writes why. */
-static vx_context open_context(const feqyldan_connection_t *given, char *why, size_t size) {
+static vx_context make_context(const feqyldan_connection_t *given, char *why, size_t size) {
     snprintf(why, size, "out of memory");
     vx_context context = calloc(1, sizeof *context);
     if (context == NULL)
@@ -182,18 +195,26 @@ static vx_context open_context(const feqyldan_connection_t *given, char *why, si
         free(context);
         return NULL;
     }
-    context->base.context = context;
     context->border.mode = VX_BORDER_UNDEFINED;
     context->border_policy = VX_BORDER_POLICY_DEFAULT_TO_UNDEFINED;
+    connection_prepare(&context->connection);
+    publish_context(context);
+    announce(given, context);
     if (!open_server(context, given, why, size)) {
-        free_context(context);
+        announce(given, NULL);
+        vxReleaseContext(&context);
         return NULL;
     }
-    list_context(context);
-    make_base(&context->base, context, VX_TYPE_CONTEXT, VX_SUCCESS);
-    for (vx_status status = -1; status > VX_STATUS_MIN; status--)
-        make_base(&context->errors[-status], context, VX_TYPE_ERROR, status);
     snprintf(why, size, "%s", "");
+    return context;
+}
+
+/* The same in a thread that may be cancelled: that waits, else what was made would be lost. */
+static vx_context open_context(const feqyldan_connection_t *given, char *why, size_t size) {
+    int cancel_state;
+    pthread_setcancelstate(PTHREAD_CANCEL_DISABLE, &cancel_state);
+    vx_context context = make_context(given, why, size);
+    pthread_setcancelstate(cancel_state, NULL);
     return context;
 }
 
@@ -232,8 +253,8 @@ void leave_context(vx_context context) {
 }
 
 void free_context(vx_context context) {
-    unlist_context(context);
     connection_close(&context->connection);
+    unlist_context(context);
     while (context->first != NULL) {
         vx_reference object = context->first;
         context->first = object->next;

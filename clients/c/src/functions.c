@@ -70,6 +70,7 @@ static vx_status run_call(vx_context context, struct call *call) {
     status = encode_call(&context->base, call, bytes);
     context->extremes = call->extremes;
     note_outputs(call);
+    context->runs++;
     if (status == VX_SUCCESS)
         status = send_images(&context->base, call);
     if (status == VX_SUCCESS)

@@ -193,9 +193,19 @@ PUBLIC vx_status VX_API_CALL vxRemoveNode(vx_node *node) {
     vx_context context = node == NULL ? NULL : enter(*node, VX_TYPE_NODE);
     if (context == NULL)
         return VX_ERROR_INVALID_REFERENCE;
+    vx_node removed = *node;
     vx_status status = VX_SUCCESS;
-    if ((*node)->graph != NULL)
-        status = detach(*node);
+    if (removed->graph != NULL)
+        take_results(removed);
+    /* A log callback may have removed it. */
+    if (removed->graph != NULL)
+        status = withdraw(context, removed->graph->base.name, &removed->sent);
+    /* A node that the server keeps, for want of memory, stays. */
+    if (status != VX_SUCCESS && !context->connection.has_ended)
+        return leave(context, status);
+    removed->sent.number = 0;
+    if (removed->graph != NULL)
+        detach(removed);
     release(node, VX_TYPE_NODE);
     return leave(context, status);
 }

@@ -55,9 +55,11 @@ PUBLIC vx_status VX_API_CALL vxSwapImageHandle(vx_image image, void *const new_p
         return leave(context, VX_ERROR_INVALID_PARAMETERS);
     if (image->maps != NULL)
         return leave(context, VX_FAILURE);
+    /* Both arguments may be the same array. */
+    void *given = new_ptrs == NULL ? NULL : new_ptrs[0];
     if (prev_ptrs != NULL)
         prev_ptrs[0] = image->memory.first;
-    image->memory.first = new_ptrs == NULL ? NULL : new_ptrs[0];
+    image->memory.first = given;
     return leave(context, VX_SUCCESS);
 }
 
@@ -68,26 +70,40 @@ static vx_image handle_of(const struct call *call, const struct formal *formal) 
     return is_image && ((vx_image)operand)->is_handle ? (vx_image)operand : NULL;
 }
 
-/* Moves a call's images from handles, except those of a direction. */
+/* Moves a call's images from handles, except those of a direction: before a run its outputs, and
+   after it its inputs. Before a run the outputs have to have memory too: else what the run writes
+   would be lost, and the next run would add to sums a second time. */
 static vx_status move_images(vx_reference about, const struct call *call, vx_enum left_out,
                              vx_status (*move)(vx_image image)) {
     const struct definition *definition = definition_of(call->function);
     vx_status status = VX_SUCCESS;
     for (vx_uint32 i = 0; status == VX_SUCCESS && i < definition->count; i++) {
-        vx_image image = handle_of(call, &definition->formals[i]);
-        if (image == NULL || definition->formals[i].direction == left_out)
+        const struct formal *formal = &definition->formals[i];
+        vx_image image = handle_of(call, formal);
+        bool is_left_out = formal->direction == left_out;
+        if (image == NULL || (is_left_out && left_out == VX_INPUT))
             continue;
-        status = image->memory.first == NULL ? VX_ERROR_NOT_ALLOCATED : move(image);
-        if (image->memory.first == NULL)
-            tell(about, status,
+        if (image->memory.first == NULL) {
+            tell(about, VX_ERROR_NOT_ALLOCATED,
                  "%s is an image from a handle without memory: give it some by vxSwapImageHandle",
-                 definition->formals[i].name);
+                 formal->name);
+            return VX_ERROR_NOT_ALLOCATED;
+        }
+        if (!is_left_out)
+            status = move(image);
     }
     return status;
 }
 
+static vx_status send_once(vx_image image) {
+    const vx_uint64 run = image->base.context->runs;
+    vx_status status = image->sent_for == run ? VX_SUCCESS : send_memory(image);
+    image->sent_for = status == VX_SUCCESS ? run : image->sent_for;
+    return status;
+}
+
 vx_status send_images(vx_reference about, const struct call *call) {
-    return move_images(about, call, VX_OUTPUT, send_memory);
+    return move_images(about, call, VX_OUTPUT, send_once);
 }
 
 vx_status take_images(vx_reference about, const struct call *call) {

@@ -171,8 +171,9 @@ static vx_status set_valid(vx_image image, const vx_rectangle_t *rect) {
     uint8_t *at = put16(put16(put_image(body, image), rect->start_x), rect->start_y);
     put16(put16(at, rect->end_x), rect->end_y);
     note_computed(image);
-    image->is_widened = false;
-    return ask(image->base.context, SET_VALID, body, sizeof body, NULL, 0);
+    vx_status status = ask(image->base.context, SET_VALID, body, sizeof body, NULL, 0);
+    image->is_widened = image->is_widened && status != VX_SUCCESS;
+    return status;
 }
 
 void widen(vx_image image, const vx_rectangle_t *valid) {

@@ -53,6 +53,9 @@ void *make(vx_context context, vx_enum type, size_t size);
 void register_reference(vx_reference reference);
 /* From now on a child of this process leaves all listed contexts to it. */
 void watch_forks_once(void);
+/* Between these two no other thread forks. */
+void hold_forks_back(void);
+void let_forks_go_on(void);
 void list_context(vx_context context);
 void unlist_context(vx_context context);
 void unregister_reference(vx_reference reference);
@@ -104,10 +107,14 @@ struct _vx_context {
        in hand. */
     unsigned depth;
     bool has_unused;
+    /* Whether the thread of the outermost call may be cancelled, by pthread_cancel, after it. */
+    int cancel_state;
     /* Buffers for the next pictures. */
     struct buffer spares[SPARES];
     /* Whether an image is widened. */
     bool has_widened;
+    /* How many runs have begun, of graphs and of functions at once. */
+    vx_uint64 runs;
 };
 
 void free_context(vx_context context);
@@ -190,6 +197,8 @@ struct _vx_image {
     /* Whether it is an image from a handle, with the program's memory, or a uniform image. */
     bool is_handle, is_uniform;
     struct grid memory;
+    /* The number of the last run for which it was sent, 0 for none. */
+    vx_uint64 sent_for;
     vx_pixel_value_t uniform;
 };
 
@@ -353,6 +362,8 @@ struct call {
 vx_status check_call(vx_reference about, const struct call *call);
 /* The same without the references, which the program may have released since they were checked. */
 vx_status check_values(vx_reference about, const struct call *call);
+/* Checks the values of MinMaxLoc, once the format of its image is resolved: S16 takes VX_TYPE_INT16. */
+vx_status check_resolved(vx_reference about, const struct call *call);
 /* Checks that no two outputs are one scalar or array. */
 vx_status check_outputs(vx_reference about, const struct call *call);
 /* Checks that no required parameter is missing: VX_ERROR_NOT_SUFFICIENT. */
@@ -445,11 +456,14 @@ struct _vx_graph {
     bool lacks_node, misses_node;
     struct call missed;
     bool is_verified, is_scheduled;
+    /* Whether the reply to the scheduled run has come, and its status. */
+    bool is_awaited;
+    vx_status awaited;
     /* Whether it has changed since its run began. */
     bool has_changed;
     struct request run;
     struct parts parts;
-    /* Whether the current run has run a part. */
+    /* Whether the current run has run a part, or the whole graph. */
     bool has_begun;
     /* The names of the delays that age with it. The server may have dropped some of them. */
     vx_uint32 *delays;
@@ -481,6 +495,9 @@ vx_status withdraw(vx_context context, vx_uint32 graph, struct sent *sent);
 vx_status ask_verdict(vx_graph graph, vx_uint32 name, enum op op);
 /* Waits for a run that was scheduled, if there is one. */
 void settle(vx_graph graph);
+/* Waits for a scheduled run, and reads what a node wrote that the library keeps: the node is about
+   to be removed. */
+void take_results(vx_node node);
 
 /* ---- parts.c ---- */
 
@@ -523,6 +540,8 @@ void resolve_images(vx_graph graph);
 
 /* ---- handle.c: images from handles, before and after a run ---- */
 
+/* Sends the images that a call reads. The caller counts a run first. In a run each image is sent
+   once, however many nodes read it. */
 vx_status send_images(vx_reference about, const struct call *call);
 vx_status take_images(vx_reference about, const struct call *call);
 

@@ -37,7 +37,7 @@ static const struct formal *formal_of(const struct _vx_parameter *parameter) {
 
 /* Gives a reference to the value of a node's parameter; for a policy, to a new scalar. */
 static vx_status refer(const struct _vx_parameter *parameter, vx_reference *value) {
-    if (parameter->node == NULL)
+    if (parameter->node == NULL || parameter->node->graph == NULL)
         return VX_SUCCESS;
     const struct call *call = &parameter->node->call;
     unsigned place = formal_of(parameter)->place;

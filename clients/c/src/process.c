@@ -6,7 +6,6 @@
 #include <errno.h>
 #include <fcntl.h>
 #include <locale.h>
-#include <poll.h>
 #include <signal.h>
 #include <spawn.h>
 #include <stdlib.h>
@@ -23,17 +22,36 @@
 extern char **environ;
 
 /* END_TIME is how long a server may take to end after its input has ended, in milliseconds. It has
-   nothing to lose when it is killed. PIPE_BYTES is the capacity of the pipe: by default the pipes
-   of a user have 64 MiB together. GREATEST_TIMEOUT is in seconds. */
-enum { END_TIME = 1000, PIPE_BYTES = 1 << 19, GREATEST_TIMEOUT = 1000000 };
+   nothing to lose when it is killed. CONNECT_TIME is in milliseconds too. PIPE_BYTES is the
+   capacity of the pipe: by default the pipes of a user have 64 MiB together. GREATEST_TIMEOUT is
+   in seconds. */
+enum { END_TIME = 1000, CONNECT_TIME = 100, PIPE_BYTES = 1 << 19, GREATEST_TIMEOUT = 1000000 };
 
-static bool no_server(char *why, size_t size, const char *what, const char *path, int error) {
+static const char NAME_SERVER[] =
+    "; set FEQYLDAN_PROGRAM to a server, or FEQYLDAN_SOCKET to a socket";
+
+static bool not_connected(const feqyldan_connection_t *given, const char *path, int error,
+                          char *why, size_t size) {
     const char *advice = "";
-    if (error == ENOENT)
-        advice = "; set FEQYLDAN_PROGRAM to a server, or FEQYLDAN_SOCKET to a socket";
+    /* The environment can't help where the arguments decide. */
+    if (error == ENOENT && given->socket == NULL)
+        advice = NAME_SERVER;
     if (error == EAGAIN)
-        advice = ": too many programs wait for it; allow more time by FEQYLDAN_TIMEOUT";
-    snprintf(why, size, "can't %s %s: %s%s", what, path, strerror(error), advice);
+        advice = given->timeout == 0
+                     ? ": too many programs wait for it; allow more time by FEQYLDAN_TIMEOUT"
+                     : ": too many programs wait for it; allow more time";
+    snprintf(why, size, "can't connect to %s: %s%s", path, strerror(error), advice);
+    return false;
+}
+
+static bool not_started(const feqyldan_connection_t *given, const char *program, int error,
+                        char *why, size_t size) {
+    const char *advice = "";
+    if (error == ENOENT && given->program == NULL && !is_privileged())
+        advice = given->server == NULL ? NAME_SERVER : "; set FEQYLDAN_PROGRAM to a server";
+    if (error == EAGAIN)
+        advice = ": there are too many processes; end some, or allow more (ulimit -u)";
+    snprintf(why, size, "can't start %s: %s%s", program, strerror(error), advice);
     return false;
 }
 
@@ -81,33 +99,43 @@ static bool set_timeout(struct connection *connection, double given, char *why, 
     return true;
 }
 
-/* Limits how long a socket waits for a byte, and how long to be accepted. */
-static void limit_waits(struct connection *connection) {
-    const int timeout = connection->timeout;
-    const struct timeval limit = {timeout / 1000, timeout % 1000 * 1000};
-    if (timeout < 0)
-        return;
-    setsockopt(connection->in, SOL_SOCKET, SO_RCVTIMEO, &limit, sizeof limit);
-    setsockopt(connection->in, SOL_SOCKET, SO_SNDTIMEO, &limit, sizeof limit);
+/* Limits how long a call waits at a socket: SO_RCVTIMEO for a byte, SO_SNDTIMEO to be accepted. */
+static void limit_wait(int end, int option, int milliseconds) {
+    const struct timeval limit = {milliseconds / 1000, milliseconds % 1000 * 1000};
+    if (milliseconds >= 0)
+        setsockopt(end, SOL_SOCKET, option, &limit, sizeof limit);
 }
 
-static bool reach_socket(struct connection *connection, const char *path, char *why, size_t size) {
+/* Connects within the timeout, however many signals come. Returns 0 or an error. A cancel can't
+   wake the call, so it waits for CONNECT_TIME and is made again. */
+static int connect_in_time(const struct connection *connection, const struct sockaddr_un *address) {
+    const int64_t deadline = deadline_after(connection->timeout);
+    int left = connection->timeout;
+    for (; left != 0 && !connection->is_cancelled; left = time_left(deadline)) {
+        limit_wait(connection->in, SO_SNDTIMEO,
+                   left < 0 || left > CONNECT_TIME ? CONNECT_TIME : left);
+        if (connect(connection->in, (const struct sockaddr *)address, sizeof *address) == 0)
+            return 0;
+        if (errno != EINTR && errno != EAGAIN)
+            return errno;
+    }
+    return connection->is_cancelled ? ECANCELED : EAGAIN;
+}
+
+static bool reach_socket(struct connection *connection, const feqyldan_connection_t *given,
+                         char *why, size_t size) {
     struct sockaddr_un address = {.sun_family = AF_UNIX};
+    const char *path = given->socket != NULL ? given->socket : setting("FEQYLDAN_SOCKET");
     if (strlen(path) >= sizeof address.sun_path)
-        return no_server(why, size, "connect to", path, ENAMETOOLONG);
+        return not_connected(given, path, ENAMETOOLONG, why, size);
     strcpy(address.sun_path, path);
     connection->in = socket(AF_UNIX, SOCK_STREAM | SOCK_CLOEXEC, 0);
     if (connection->in < 0)
-        return no_server(why, size, "connect to", path, errno);
-    limit_waits(connection);
-    while (connect(connection->in, (struct sockaddr *)&address, sizeof address) != 0) {
-        if (errno == EINTR)
-            continue;
-        int error = errno;
-        close(connection->in);
-        connection->in = -1;
-        return no_server(why, size, "connect to", path, error);
-    }
+        return not_connected(given, path, errno, why, size);
+    limit_wait(connection->in, SO_RCVTIMEO, connection->timeout);
+    int error = connect_in_time(connection, &address);
+    if (error != 0)
+        return not_connected(given, path, error, why, size);
     connection->out = connection->in;
     return true;
 }
@@ -200,8 +228,11 @@ static int spawn_found(const char *program, struct ends theirs, pid_t *process) 
     if (environment == NULL)
         return ENOMEM;
     int error = spawn(program != NULL ? program : "feqyldan", environment, theirs, process);
-    if (error != 0 && program == NULL)
-        error = spawn("vx_main", environment, theirs, process);
+    if (error != 0 && program == NULL) {
+        int other = spawn("vx_main", environment, theirs, process);
+        /* That there is no vx_main doesn't say why the first one can't be started. */
+        error = other == ENOENT ? error : other;
+    }
     free(environment);
     return error;
 }
@@ -241,17 +272,17 @@ static int make_ends(int ends[5]) {
     return error;
 }
 
-static bool start(struct connection *connection, const char *named, char *why, size_t size) {
+/* Starts a program, or for NULL the first one that is found. Returns 0 or an error. */
+static int start_program(struct connection *connection, const char *program) {
     int ends[5];
-    const char *program = named != NULL ? named : "feqyldan or vx_main";
     int error = make_ends(ends);
     if (error != 0)
-        return no_server(why, size, "start", program, error);
-    error = spawn_found(named, (struct ends){ends[0], ends[3], ends[4]}, &connection->process);
+        return error;
+    error = spawn_found(program, (struct ends){ends[0], ends[3], ends[4]}, &connection->process);
     if (error != 0) {
         connection->process = 0;
         close_all(ends, 5);
-        return no_server(why, size, "start", program, error);
+        return error;
     }
     close(ends[3]);
     /* This process keeps the reading end of the pipe too, so that a write to an ended server never
@@ -260,10 +291,23 @@ static bool start(struct connection *connection, const char *named, char *why, s
     connection->out = ends[1];
     connection->in = ends[2];
     connection->errors = ends[4];
+    return 0;
+}
+
+static bool start(struct connection *connection, const feqyldan_connection_t *given, char *why,
+                  size_t size) {
+    const char *named = given->program != NULL ? given->program : named_program();
+    /* A child that got the ends before the connection has them wouldn't close them, and the server
+       would live as long as the child. */
+    hold_forks_back();
+    int error = start_program(connection, named);
+    let_forks_go_on();
+    if (error != 0)
+        return not_started(given, named != NULL ? named : "feqyldan or vx_main", error, why, size);
     fcntl(connection->out, F_SETFL, O_NONBLOCK);
     /* If that much isn't allowed, the pipe stays as it is. */
     fcntl(connection->out, F_SETPIPE_SZ, PIPE_BYTES);
-    limit_waits(connection);
+    limit_wait(connection->in, SO_RCVTIMEO, connection->timeout);
     return true;
 }
 
@@ -305,11 +349,11 @@ static enum way choose_way(const feqyldan_connection_t *given) {
         return PROCESS;
     if (setting("FEQYLDAN_SERVER") != NULL)
         return way_of(setting("FEQYLDAN_SERVER"));
+    if (setting("FEQYLDAN_PROGRAM") != NULL)
+        return PROCESS;
     if (setting("FEQYLDAN_CORE") != NULL)
         return CORE;
-    bool needs_process =
-        setting("FEQYLDAN_PROGRAM") != NULL || setting("FEQYLDAN_TIMEOUT") != NULL;
-    return needs_process ? PROCESS : FOUND;
+    return setting("FEQYLDAN_TIMEOUT") != NULL ? PROCESS : FOUND;
 }
 
 /* Opens the server in this process that was asked for. */
@@ -331,14 +375,12 @@ bool reach_server(struct connection *connection, const feqyldan_connection_t *gi
         return false;
     enum way way = choose_way(given);
     if (way == SOCKET)
-        return reach_socket(connection,
-                            given->socket != NULL ? given->socket : setting("FEQYLDAN_SOCKET"),
-                            why, size);
+        return reach_socket(connection, given, why, size);
     if (way == CORE)
         return open_wanted_core(connection, given, why, size);
     if (way == FOUND && find_core(&connection->core, why, size))
         return open_core(connection, why, size);
-    return start(connection, given->program != NULL ? given->program : named_program(), why, size);
+    return start(connection, given, why, size);
 }
 
 /* Reads until the server closes its output, or sends nothing for END_TIME. */
@@ -346,8 +388,7 @@ static void drain(int stream) {
     uint8_t unread[4096];
     struct pollfd wanted = {.fd = stream, .events = POLLIN};
     for (;;) {
-        int ready = poll(&wanted, 1, END_TIME);
-        if (ready == 0)
+        if (poll_until(deadline_after(END_TIME), &wanted, 1) <= 0)
             return;
         ssize_t count = recv(stream, unread, sizeof unread, MSG_DONTWAIT);
         if (count == 0 || (count < 0 && errno != EINTR && errno != EAGAIN))
@@ -368,24 +409,28 @@ static void await_process(pid_t process) {
         ;
 }
 
+/* The connection forgets descriptors before they are closed: else another thread that forks could
+   have the child close what got the number meanwhile. */
 static void close_descriptors(struct connection *connection) {
     int ends[] = {connection->in, connection->errors, connection->pipe_reader,
                   connection->out == connection->in ? -1 : connection->out};
-    close_all(ends, sizeof ends / sizeof *ends);
     connection->in = connection->errors = connection->pipe_reader = connection->out = -1;
+    close_all(ends, sizeof ends / sizeof *ends);
 }
 
 void end_server(struct connection *connection) {
     if (connection->process > 0) {
-        close(connection->pipe_reader);
-        close(connection->out);
+        int input[] = {connection->pipe_reader, connection->out};
         connection->pipe_reader = connection->out = -1;
+        close_all(input, sizeof input / sizeof *input);
         /* One that didn't answer in time may not end in time either. */
         if (connection->has_timed_out || connection->is_cancelled)
             kill(connection->process, SIGKILL);
         drain(connection->in);
         await_process(connection->process);
     }
+    /* Another process may have a copy of a socket for a while. */
+    shutdown(connection->in, SHUT_RDWR);
     close_descriptors(connection);
     connection->process = 0;
 }

@@ -1,4 +1,5 @@
 /* References: which are live, how many an object has, and what is destroyed with it. */
+#define _GNU_SOURCE
 #include "internal.h"
 
 #include <stdlib.h>
@@ -54,14 +55,33 @@ static void lock_registry(void) { pthread_mutex_lock(&registry.mutex); }
 
 static void unlock_registry(void) { pthread_mutex_unlock(&registry.mutex); }
 
-/* After a fork, in the child: the contexts and their servers stay the parent's. */
+/* Recursive, since the handler of a signal may fork in the thread that holds forks back. */
+static pthread_mutex_t forks = PTHREAD_RECURSIVE_MUTEX_INITIALIZER_NP;
+
+void hold_forks_back(void) { pthread_mutex_lock(&forks); }
+
+void let_forks_go_on(void) { pthread_mutex_unlock(&forks); }
+
+static void before_fork(void) {
+    hold_forks_back();
+    lock_registry();
+}
+
+static void after_fork(void) {
+    unlock_registry();
+    let_forks_go_on();
+}
+
+/* After a fork, in the child: the contexts and their servers stay the parent's. A recursive mutex
+   that was locked before the fork can't be unlocked after it. */
 static void leave_contexts(void) {
     for (vx_context context = registry.contexts; context != NULL; context = context->next)
         leave_context(context);
     unlock_registry();
+    forks = (pthread_mutex_t)PTHREAD_RECURSIVE_MUTEX_INITIALIZER_NP;
 }
 
-static void watch_forks(void) { pthread_atfork(lock_registry, unlock_registry, leave_contexts); }
+static void watch_forks(void) { pthread_atfork(before_fork, after_fork, leave_contexts); }
 
 void watch_forks_once(void) {
     static pthread_once_t once = PTHREAD_ONCE_INIT;
@@ -131,8 +151,12 @@ vx_context enter(const void *reference, vx_enum type) {
     if (context == NULL)
         return NULL;
     pthread_mutex_lock(&context->calls);
-    if (context->depth++ == 0)
+    if (context->depth++ == 0) {
+        /* A thread that is cancelled ends its call first: else the context would stay locked. */
+        pthread_setcancelstate(PTHREAD_CANCEL_DISABLE, &context->cancel_state);
         pthread_mutex_lock(&context->objects);
+        connection_heed_cancel(&context->connection);
+    }
     if (check(context, reference, type) == VX_SUCCESS)
         return context;
     leave(context, VX_SUCCESS);
@@ -142,10 +166,14 @@ vx_context enter(const void *reference, vx_enum type) {
 vx_status leave(vx_context context, vx_status status) {
     if (context->depth == 1 && context->has_unused)
         destroy_unused(context);
-    if (--context->depth == 0)
+    const bool is_outermost = --context->depth == 0;
+    const int cancel_state = context->cancel_state;
+    if (is_outermost)
         pthread_mutex_unlock(&context->objects);
     pthread_mutex_unlock(&context->calls);
     unuse(context);
+    if (is_outermost)
+        pthread_setcancelstate(cancel_state, NULL);
     return status;
 }
 
@@ -413,6 +441,8 @@ PUBLIC vx_status VX_API_CALL vxSetReferenceName(vx_reference ref, const vx_char 
         return VX_ERROR_INVALID_REFERENCE;
     if (name != NULL && strlen(name) >= sizeof ref->label)
         return leave(context, VX_ERROR_INVALID_PARAMETERS);
-    strcpy(ref->label, name == NULL ? "" : name);
+    /* The name may be within the old one. */
+    const vx_char *label = name == NULL ? "" : name;
+    memmove(ref->label, label, strlen(label) + 1);
     return leave(context, VX_SUCCESS);
 }

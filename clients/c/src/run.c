@@ -48,6 +48,27 @@ static vx_status send_node(vx_node node) {
     return status;
 }
 
+static bool has_open_format(const struct _vx_node *node) {
+    vx_image input = image_at(node, IN1);
+    return input != NULL && input->format == VX_DF_IMAGE_VIRT;
+}
+
+/* Checks the values of each MinMaxLoc whose image gets its format from another node. */
+static vx_status check_open_extremes(vx_graph graph) {
+    vx_status status = VX_SUCCESS;
+    bool is_resolved = false;
+    for (vx_node node = graph->first; status == VX_SUCCESS && node != NULL;
+         node = node->next_node) {
+        if (node->call.function != MIN_MAX_LOCATION || !has_open_format(node))
+            continue;
+        if (!is_resolved)
+            resolve_images(graph);
+        is_resolved = true;
+        node->status = status = check_resolved(&node->base, &node->call);
+    }
+    return status;
+}
+
 /* Sends all nodes of a graph, unless one of them couldn't be made. */
 static vx_status send_nodes(vx_graph graph) {
     if (graph->lacks_node || graph->misses_node) {
@@ -64,7 +85,7 @@ static vx_status send_nodes(vx_graph graph) {
         if (status == VX_SUCCESS)
             node->status = status = send_node(node);
     }
-    return status;
+    return status == VX_SUCCESS ? check_open_extremes(graph) : status;
 }
 
 /* Moves the images from handles of the nodes that the server has, by send_images or take_images. */
@@ -79,6 +100,7 @@ static vx_status move_handles(vx_graph graph,
 
 /* Brings the images that a run uses up to date on the server. */
 static vx_status send_inputs(vx_graph graph) {
+    graph->base.context->runs++;
     vx_status status = move_handles(graph, send_images);
     return status == VX_SUCCESS ? narrow_images(graph->base.context) : status;
 }
@@ -136,6 +158,8 @@ static vx_enum state_after(const struct _vx_graph *graph, vx_status status) {
 
 /* After a run: reads the outputs that the library keeps, and sets the state of the graph. */
 static vx_status end_run(vx_graph graph, vx_status status) {
+    /* If its outputs can't be read, the run has all the same changed what it writes. */
+    graph->has_begun = graph->has_begun || status == VX_SUCCESS;
     for (vx_node node = graph->first; node != NULL && status == VX_SUCCESS; node = node->next_node)
         if (node->sent.number != 0 && is_in_last_part(node))
             status = take_extremes(graph->base.context, &node->call);
@@ -149,19 +173,31 @@ static vx_status end_run(vx_graph graph, vx_status status) {
     return status;
 }
 
-/* Waits for a scheduled run. Adds a log entry where the server refused it. */
+/* Waits for a scheduled run, once. Adds a log entry where the server refused it. */
 static vx_status await_run(vx_graph graph) {
     vx_context context = graph->base.context;
-    graph->is_scheduled = false;
-    vx_status status = await_reply(context, &graph->run, true);
-    if (status != VX_SUCCESS && !context->connection.has_ended)
-        explain_verdict(graph, status);
-    return status;
+    if (graph->is_awaited)
+        return graph->awaited;
+    graph->is_awaited = true;
+    graph->awaited = await_reply(context, &graph->run, true);
+    if (graph->awaited != VX_SUCCESS && !context->connection.has_ended)
+        explain_verdict(graph, graph->awaited);
+    return graph->awaited;
 }
 
 void settle(vx_graph graph) {
     if (graph->is_scheduled)
         await_run(graph);
+    graph->is_scheduled = false;
+}
+
+void take_results(vx_node node) {
+    if (!node->graph->is_scheduled || node->sent.number == 0 ||
+        await_run(node->graph) != VX_SUCCESS)
+        return;
+    if (is_in_last_part(node))
+        take_extremes(node->base.context, &node->call);
+    take_images(&node->base, &node->call);
 }
 
 PUBLIC vx_status VX_API_CALL vxVerifyGraph(vx_graph graph) {
@@ -224,6 +260,7 @@ static vx_status start(vx_graph graph, vx_uint32 name) {
     if (!is_sent)
         return await_reply(context, &graph->run, false);
     graph->is_scheduled = true;
+    graph->is_awaited = false;
     graph->state = VX_GRAPH_STATE_RUNNING;
     return VX_SUCCESS;
 }
@@ -259,6 +296,8 @@ PUBLIC vx_status VX_API_CALL vxWaitGraph(vx_graph graph) {
         return VX_ERROR_INVALID_REFERENCE;
     if (!graph->is_scheduled)
         return leave(context, VX_FAILURE);
-    return leave(context, end_run(graph, await_run(graph)));
+    vx_status status = await_run(graph);
+    graph->is_scheduled = false;
+    return leave(context, end_run(graph, status));
 }
 

@@ -262,11 +262,19 @@ static void list_images(const struct _vx_node *node, char *words, size_t size) {
     }
 }
 
+/* Whether a node alone gets this status for its formats or its sizes. */
+static bool is_at_fault(const struct _vx_node *node, vx_status status) {
+    if (status == VX_ERROR_INVALID_FORMAT)
+        return !has_formats(node);
+    return has_formats(node) && !has_sizes(node);
+}
+
 static bool explain_images(vx_graph graph, vx_status status) {
     char images[VX_MAX_LOG_MESSAGE_LEN / 4], words[VX_MAX_LOG_MESSAGE_LEN / 2];
     resolve_images(graph);
+    /* The server looks at nodes in the order in which it got them, which may be another one. */
     vx_node node = graph->first;
-    while (node != NULL && has_formats(node) && has_sizes(node))
+    while (node != NULL && !is_at_fault(node, status))
         node = node->next_node;
     if (node == NULL)
         return false;

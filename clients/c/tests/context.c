@@ -1,10 +1,14 @@
-/* A connection by arguments, the words of a failure, and calls that another thread cancels. */
+/* A connection by arguments, the words of a failure, and calls and threads that another thread
+   cancels. */
 #define _XOPEN_SOURCE 700
 #include "server.h"
 
 #include <feqyldan/context.h>
 #include <pthread.h>
+#include <sys/socket.h>
+#include <sys/un.h>
 #include <time.h>
+#include <unistd.h>
 
 enum { SIDE = 2000 };
 
@@ -98,6 +102,90 @@ static void test_cancel(vx_bool writes) {
     CHECK(now() - start < 5);
 }
 
+struct images {
+    vx_context context;
+    vx_image in, out;
+};
+
+static void *run_and_end(void *images) {
+    const struct images *of = images;
+    EXPECT(VX_SUCCESS, vxuNot(of->context, of->in, of->out));
+    pthread_testcancel();
+    return NULL;
+}
+
+/* A thread that is cancelled while it waits for the server ends its call first. */
+static void test_cancelled_thread(void) {
+    const struct timespec pause = {.tv_nsec = 100000000};
+    pthread_t thread;
+    void *ended;
+    struct images images = {.context = make_context(NULL)};
+    images.in = vxCreateImage(images.context, SIDE, 1, VX_DF_IMAGE_U8);
+    images.out = vxCreateImage(images.context, SIDE, 1, VX_DF_IMAGE_U8);
+    CHECK(kill(server_process(), SIGSTOP) == 0);
+    CHECK(pthread_create(&thread, NULL, run_and_end, &images) == 0);
+    nanosleep(&pause, NULL);
+    CHECK(pthread_cancel(thread) == 0 && kill(server_process(), SIGCONT) == 0);
+    CHECK(pthread_join(thread, &ended) == 0 && ended == PTHREAD_CANCELED);
+    /* The context isn't locked. */
+    alarm(20);
+    EXPECT(VX_SUCCESS, vxuNot(images.context, images.in, images.out));
+    alarm(0);
+    EXPECT(VX_SUCCESS, vxReleaseContext(&images.context));
+}
+
+/* The wait for a run is a later call, even if the run was over before the cancel. */
+static void test_cancel_of_run(const char *server) {
+    vx_rectangle_t valid;
+    vx_context context = make_context(&(feqyldan_connection_t){.server = server});
+    vx_image in = vxCreateImage(context, 4, 4, VX_DF_IMAGE_U8);
+    vx_image out = vxCreateImage(context, 4, 4, VX_DF_IMAGE_U8);
+    vx_graph graph = vxCreateGraph(context);
+    EXPECT(VX_SUCCESS, STATUS(vxNotNode(graph, in, out)));
+    EXPECT(VX_SUCCESS, vxScheduleGraph(graph));
+    /* The reply to this comes after that to the run. */
+    EXPECT(VX_SUCCESS, vxGetValidRegionImage(out, &valid));
+    EXPECT(VX_SUCCESS, feqyldanCancel(context));
+    EXPECT(VX_FAILURE, vxWaitGraph(graph));
+    EXPECT(VX_SUCCESS, feqyldanGetFault(context, fault, sizeof fault));
+    CHECK(strcmp(fault, "the program cancelled the context: make a new one") == 0);
+    EXPECT(VX_SUCCESS, vxReleaseContext(&context));
+}
+
+struct announced {
+    int contexts, ends;
+    pthread_t other;
+};
+
+static void note(vx_context context, void *argument) {
+    struct announced *announced = argument;
+    announced->ends += context == NULL;
+    announced->contexts += context != NULL;
+    if (context != NULL)
+        CHECK(pthread_create(&announced->other, NULL, cancel_soon, context) == 0);
+}
+
+/* Makes a context at a socket of which nobody takes connections. A first one may fill its queue. */
+static void test_cancel_of_a_context_that_is_made(vx_bool is_full) {
+    struct announced announced = {0};
+    struct sockaddr_un address = {.sun_family = AF_UNIX};
+    const struct sockaddr *place = (const struct sockaddr *)&address;
+    snprintf(address.sun_path, sizeof address.sun_path, "%s-at", getenv("SERVER_PROCESS"));
+    unlink(address.sun_path);
+    int listener = socket(AF_UNIX, SOCK_STREAM, 0), first = socket(AF_UNIX, SOCK_STREAM, 0);
+    CHECK(bind(listener, place, sizeof address) == 0 && listen(listener, 0) == 0);
+    CHECK(!is_full || connect(first, place, sizeof address) == 0);
+    double start = now();
+    expect_refusal((feqyldan_connection_t){.socket = address.sun_path,
+                                           .announce = note, .argument = &announced},
+                   is_full ? "-at: Operation canceled" : "the program cancelled the context");
+    CHECK(now() - start < 5);
+    CHECK(pthread_join(announced.other, NULL) == 0);
+    CHECK(announced.contexts == 1 && announced.ends == 1);
+    close(listener);
+    close(first);
+}
+
 /* The arguments decide between the server in this process and another one. */
 static void test_arguments_with_core(void) {
     CHECK(setenv("FEQYLDAN_PROGRAM", "/nowhere", 1) == 0);
@@ -139,11 +227,16 @@ int main(void) {
     if (getenv("FEQYLDAN_CORE") != NULL) {
         test_arguments_with_core();
         test_cancel_with_core();
+        test_cancel_of_run("core");
         return 0;
     }
     test_arguments();
     test_faults();
     test_cancel(vx_false_e);
     test_cancel(vx_true_e);
+    test_cancelled_thread();
+    test_cancel_of_run("process");
+    test_cancel_of_a_context_that_is_made(vx_false_e);
+    test_cancel_of_a_context_that_is_made(vx_true_e);
     return 0;
 }

@@ -138,13 +138,17 @@ static void read_values(void) {
     EXPECT(VX_SUCCESS, vxCopyScalar(policy, &read, VX_READ_ONLY, VX_MEMORY_TYPE_HOST));
     CHECK(read == VX_CONVERT_POLICY_SATURATE);
     EXPECT(VX_SUCCESS, vxReleaseScalar(&policy));
-    vx_parameter first = vxGetParameterByIndex(node, 0);
+    vx_parameter first = vxGetParameterByIndex(node, 0), third = vxGetParameterByIndex(node, 2);
     EXPECT(VX_ERROR_NOT_SUPPORTED, vxQueryParameter(first, -1, &read, sizeof read));
     EXPECT(VX_ERROR_INVALID_PARAMETERS, vxQueryParameter(first, VX_PARAMETER_REF, NULL, 8));
     EXPECT(VX_SUCCESS, vxRemoveNode(&node));
     EXPECT(VX_SUCCESS, vxQueryParameter(first, VX_PARAMETER_REF, &value, sizeof value));
     CHECK(value == NULL);
+    value = (vx_reference)a;
+    EXPECT(VX_SUCCESS, vxQueryParameter(third, VX_PARAMETER_REF, &value, sizeof value));
+    CHECK(value == NULL);
     EXPECT(VX_ERROR_INVALID_NODE, vxSetParameterByReference(first, (vx_reference)a));
+    EXPECT(VX_SUCCESS, vxReleaseParameter(&third));
     EXPECT(VX_SUCCESS, vxReleaseParameter(&first));
     EXPECT(VX_ERROR_INVALID_REFERENCE, vxReleaseParameter(&first));
     CHECK(vxGetParameterByIndex(NULL, 0) == NULL);

@@ -86,8 +86,10 @@ static void swap_handles(vx_graph graph, vx_image in) {
         CHECK(result[3 * STRIDE + WIDTH - 1] == 20 + 2 * frame);
         CHECK(result[3 * STRIDE + WIDTH] == 0x5555);
         void *next[] = {frames[(frame + 1) % 2]}, *last[1];
-        ERROR_CHECK_STATUS(vxSwapImageHandle(in, next, last, 1));
-        CHECK(last[0] == frames[frame % 2]);
+        /* One array may give the new pointer and take the former one. */
+        void **former = frame % 2 ? next : last;
+        ERROR_CHECK_STATUS(vxSwapImageHandle(in, next, former, 1));
+        CHECK(former[0] == frames[frame % 2]);
     }
     ERROR_CHECK_STATUS(vxScheduleGraph(graph));
     ERROR_CHECK_STATUS(vxWaitGraph(graph));
@@ -113,6 +115,36 @@ static void map_handle(vx_graph graph, vx_image in) {
     EXPECT(VX_ERROR_NOT_ALLOCATED, vxMapImagePatch(in, &part, 0, &map, &addr, &where,
                                                    VX_READ_ONLY, VX_MEMORY_TYPE_HOST, 0));
     EXPECT(VX_ERROR_NOT_ALLOCATED, vxSetImagePixelValues(in, &value));
+}
+
+/* Nothing runs while an output has no memory: nothing is added to the sums. */
+static void lack_memory(void) {
+    const vx_rectangle_t corner = {0, 0, 1, 1};
+    const vx_imagepatch_addressing_t addr = by_rows(1, 1, 2);
+    void *memory[] = {frames[0]};
+    vx_int16 sum;
+    vx_image in = vxCreateImage(context, WIDTH, HEIGHT, VX_DF_IMAGE_U8);
+    vx_image sums = vxCreateImage(context, WIDTH, HEIGHT, VX_DF_IMAGE_S16);
+    vx_image out = in_memory(frames[0], 1, VX_DF_IMAGE_U8);
+    vx_graph graph = vxCreateGraph(context);
+    const vx_pixel_value_t value = {.U8 = 3};
+    ERROR_CHECK_STATUS(vxSetImagePixelValues(in, &value));
+    ERROR_CHECK_STATUS(STATUS(vxAccumulateImageNode(graph, in, sums)));
+    ERROR_CHECK_STATUS(STATUS(vxNotNode(graph, in, out)));
+    ERROR_CHECK_STATUS(vxVerifyGraph(graph));
+    ERROR_CHECK_STATUS(vxSwapImageHandle(out, NULL, NULL, 1));
+    EXPECT(VX_ERROR_NOT_ALLOCATED, vxScheduleGraph(graph));
+    EXPECT(VX_ERROR_NOT_ALLOCATED, vxProcessGraph(graph));
+    EXPECT(VX_ERROR_NOT_ALLOCATED, vxuNot(context, in, out));
+    ERROR_CHECK_STATUS(vxSwapImageHandle(out, memory, NULL, 1));
+    ERROR_CHECK_STATUS(vxProcessGraph(graph));
+    ERROR_CHECK_STATUS(vxCopyImagePatch(sums, &corner, 0, &addr, &sum, VX_READ_ONLY,
+                                        VX_MEMORY_TYPE_HOST));
+    CHECK(sum == 3 && frames[0][0] == 252);
+    ERROR_CHECK_STATUS(vxReleaseGraph(&graph));
+    ERROR_CHECK_STATUS(vxReleaseImage(&in));
+    ERROR_CHECK_STATUS(vxReleaseImage(&sums));
+    ERROR_CHECK_STATUS(vxReleaseImage(&out));
 }
 
 /* Functions in immediate mode, and one value for all pixels, which leaves the gaps. */
@@ -177,6 +209,7 @@ static void use_handles(void) {
     CHECK(type == VX_MEMORY_TYPE_HOST);
     swap_handles(graph, in);
     map_handle(graph, in);
+    lack_memory();
     write_handles();
     read_rows();
     refuse_handles();

@@ -308,6 +308,60 @@ static void run_functions(void) {
     CHECK(found[0] == COUNT);
 }
 
+/* Maps of a table, of an array and of counts. */
+static void map_others(void) {
+    const vx_uint8 item = 3;
+    vx_image input = filled(5), output = filled(0);
+    vx_lut lut;
+    vx_array array;
+    vx_distribution counts;
+    vx_map_id map;
+    vx_size stride;
+    void *found;
+    MAKE(lut, vxCreateLUT(context, VX_TYPE_UINT8, 256));
+    DO(vxMapLUT(lut, &map, &found, VX_READ_AND_WRITE, VX_MEMORY_TYPE_HOST, 0));
+    memset(found, 9, 256);
+    EXPECT(VX_SUCCESS, vxUnmapLUT(lut, map));
+    DO(vxuTableLookup(context, input, lut, output));
+    holds(output, 9);
+    MAKE(array, vxCreateArray(context, VX_TYPE_UINT8, 1));
+    EXPECT(VX_SUCCESS, vxAddArrayItems(array, 1, &item, 1));
+    DO(vxMapArrayRange(array, 0, 1, &map, &stride, &found, VX_READ_ONLY, VX_MEMORY_TYPE_HOST, 0));
+    CHECK(*(vx_uint8 *)found == item);
+    EXPECT(VX_SUCCESS, vxUnmapArrayRange(array, map));
+    MAKE(counts, vxCreateDistribution(context, 4, 0, 256));
+    DO(vxMapDistribution(counts, &map, &found, VX_READ_ONLY, VX_MEMORY_TYPE_HOST, 0));
+    CHECK(*(vx_uint32 *)found == 0);
+    EXPECT(VX_SUCCESS, vxUnmapDistribution(counts, map));
+}
+
+/* A node of a kernel, images of one value, and extremes at once. */
+static void make_others(void) {
+    const vx_pixel_value_t value = {.U8 = 4};
+    vx_image uniform, output = filled(0);
+    vx_kernel kernel;
+    vx_parameter parameter;
+    vx_graph graph;
+    vx_node node;
+    vx_scalar least, greatest;
+    vx_array places;
+    MAKE(uniform, vxCreateUniformImage(context, SIDE, SIDE, VX_DF_IMAGE_U8, &value));
+    DO(vxSetImagePixelValues(output, &value));
+    holds(output, 4);
+    MAKE(kernel, vxGetKernelByEnum(context, VX_KERNEL_NOT));
+    MAKE(parameter, vxGetKernelParameterByIndex(kernel, 0));
+    MAKE(graph, vxCreateGraph(context));
+    MAKE(node, vxCreateGenericNode(graph, kernel));
+    EXPECT(VX_SUCCESS, vxSetParameterByIndex(node, 0, (vx_reference)uniform));
+    EXPECT(VX_SUCCESS, vxSetParameterByIndex(node, 1, (vx_reference)output));
+    DO(vxProcessGraph(graph));
+    holds(output, 255 - 4);
+    MAKE(least, vxCreateScalar(context, VX_TYPE_UINT8, NULL));
+    MAKE(greatest, vxCreateScalar(context, VX_TYPE_UINT8, NULL));
+    MAKE(places, vxCreateArray(context, VX_TYPE_COORDINATES2D, 1));
+    DO(vxuMinMaxLoc(context, output, least, greatest, places, NULL, NULL, NULL));
+}
+
 /* All calls that take memory; how many allocations they make. */
 static int run_session(int refuse) {
     allocations = told = 0;
@@ -321,6 +375,8 @@ static int run_session(int refuse) {
     run_at_once_on_memory();
     run_parts();
     run_functions();
+    map_others();
+    make_others();
     EXPECT(VX_SUCCESS, vxReleaseContext(&context));
     bool may_be_silent = refuse == 0 || (feqyldan_open != NULL && !is_lasting);
     CHECK(told == (refuse == 0 ? 0 : 1) || (told == 0 && may_be_silent));

@@ -22,6 +22,7 @@ HERE = os.path.dirname(os.path.abspath(__file__))
 HOME = os.path.join(HERE, "..")
 sys.path.insert(0, os.path.join(HOME, "..", "python"))
 import feqyldan as vx  # noqa: E402
+from feqyldan import wire  # noqa: E402
 
 FLAGS = ["-std=c11", "-Wall", "-Wextra", "-Werror", "-pedantic", "-D_POSIX_C_SOURCE=200809L", "-g",
          "-O1", "-fno-sanitize-recover=all", "-pthread", "-I" + os.path.join(HOME, "include")]
@@ -50,6 +51,44 @@ for name in (b"", bytes((0, 0, 0, 1))):
     os.write(1, (4 + len(name)).to_bytes(4, "big") + bytes((0, 0, op, 0)) + name)
 os.read(0, 100000)
 print("lost", file=sys.stderr)
+"""
+# Opens a context, and doesn't end by itself.
+ENDLESS_SERVER = """#!/bin/sh
+printf '\\0\\0\\0\\4\\0\\0\\1\\0'
+exec sleep 60
+"""
+# Opens a context and ends, each of them when it is allowed by a file.
+STEPPING_SERVER = """#!/bin/sh
+: > "$STEPS/started"
+until [ -e "$STEPS/open" ]; do sleep 0.01; done
+printf '\\0\\0\\0\\4\\0\\0\\1\\0'
+cat > /dev/null
+: > "$STEPS/ending"
+until [ -e "$STEPS/end" ]; do sleep 0.01; done
+"""
+# Passes requests to the server, but answers the request of one place among those of its operation
+# with NO_MEMORY. REFUSED has the operations and the places.
+REFUSING_SERVER = """#!/usr/bin/env python3
+import os, subprocess, sys
+refused = [tuple(map(int, word.split(":"))) for word in os.environ["REFUSED"].split()]
+server = subprocess.Popen([os.environ["SERVER_PROGRAM"], *sys.argv[1:]], stdin=subprocess.PIPE,
+                          stdout=subprocess.PIPE)
+seen = {}
+def take(pipe):
+    head = pipe.read(4)
+    return head + pipe.read(int.from_bytes(head, "big"))
+while frame := take(sys.stdin.buffer):
+    op = frame[6]
+    seen[op] = seen.get(op, 0) + 1
+    if (op, seen[op]) in refused:
+        reply = b"\\0\\0\\0\\4" + frame[4:7] + b"\\1"
+    else:
+        server.stdin.write(frame)
+        server.stdin.flush()
+        reply = take(server.stdout)
+    sys.stdout.buffer.write(reply)
+    sys.stdout.buffer.flush()
+server.stdin.close()
 """
 FIRST_CXX = """#include <VX/vx.h>
 #include <VX/vxu.h>
@@ -156,6 +195,15 @@ def in_both_ways(test):
                     self.need_core()
                 test(self)
     return run_twice
+
+
+def program_of(name, text):
+    """The path of a program that is made of a script."""
+    path = os.path.join(folder, name)
+    with open(path, "w", encoding="utf-8") as script:
+        script.write(text)
+    os.chmod(path, 0o755)
+    return path
 
 
 def has_thread_sanitizer():
@@ -461,6 +509,17 @@ class Library(unittest.TestCase):
     def test_each_allocation_refused_is_told_and_the_call_can_be_made_anew(self):
         run("refused", *(f"-Wl,--wrap={name}" for name in TAKING_MEMORY))
 
+    def test_a_request_that_the_server_refuses_for_want_of_memory_changes_nothing(self):
+        program = os.path.join(folder, "refusing")
+        with open(program, "w", encoding="utf-8") as script:
+            script.write(REFUSING_SERVER)
+        os.chmod(program, 0o755)
+        # The first SetValid is the program's own.
+        refused = " ".join((f"{wire.WRITE_IMAGE}:2", f"{wire.READ_MIN_MAX}:1",
+                            f"{wire.REMOVE_NODE}:1", f"{wire.SET_VALID}:2"))
+        run("unchanged", env={"FEQYLDAN_PROGRAM": program, "REFUSED": refused,
+                              "SERVER_PROGRAM": os.environ["FEQYLDAN_PROGRAM"]})
+
     def test_each_allocation_refused_to_the_server_in_the_process_is_told(self):
         self.need_core()
         run("refused", *(f"-Wl,--wrap={name}" for name in TAKING_MEMORY), *LINKED, core("a"),
@@ -485,10 +544,7 @@ class Library(unittest.TestCase):
 
     def server_after(self, line):
         """The environment of a server before which a line of shell is run."""
-        program = os.path.join(folder, "starter")
-        with open(program, "w", encoding="utf-8") as script:
-            script.write(f'#!/bin/sh\n{line}\nexec "$SERVER_PROGRAM" "$@"\n')
-        os.chmod(program, 0o755)
+        program = program_of("starter", f'#!/bin/sh\n{line}\nexec "$SERVER_PROGRAM" "$@"\n')
         return {"FEQYLDAN_PROGRAM": program, "SERVER_PROGRAM": os.environ["FEQYLDAN_PROGRAM"]}
 
     def server_to_kill(self):
@@ -566,12 +622,21 @@ class Library(unittest.TestCase):
         run("scarce", env=self.server_after("ulimit -v 65536"))
 
     def test_a_server_that_ends_makes_each_call_fail(self):
-        server = os.path.join(folder, "ending_server")
-        with open(server, "w", encoding="utf-8") as script:
-            script.write(ENDING_SERVER)
-        os.chmod(server, 0o755)
-        said = run("ending", env={"FEQYLDAN_PROGRAM": server})
+        said = run("ending", env={"FEQYLDAN_PROGRAM": program_of("ending_server", ENDING_SERVER)})
         self.assertEqual(said, "the server has ended: lost\n" * 3)
+
+    def test_signals_make_no_timeout_longer_and_a_refused_write_ends_the_connection(self):
+        run("waiting", "-Wl,--wrap=sendmsg", env={
+            "FEQYLDAN_SOCKET": os.path.join(tempfile.mkdtemp(dir=folder), "socket"),
+            "ENDLESS_SERVER": program_of("endless_server", ENDLESS_SERVER)})
+
+    def test_a_child_has_no_part_of_a_context_that_another_thread_makes_or_releases(self):
+        run("forking", "-Wl,--wrap=posix_spawnp", env={
+            "FEQYLDAN_PROGRAM": program_of("stepping_server", STEPPING_SERVER),
+            "STEPS": tempfile.mkdtemp(dir=folder)})
+
+    def test_which_server_is_looked_for_and_what_helps_where_there_is_none(self):
+        run("reaching", "-Wl,--wrap=posix_spawnp")
 
     def test_without_a_server_there_is_no_context(self):
         path = build("ending")
@@ -699,6 +764,17 @@ class Library(unittest.TestCase):
             self.assertEqual(sorted(line.split()[-1] for line in listed.splitlines()
                                     if len(line.split()) == 3), sorted(declared), name)
 
+    def test_what_a_failed_step_of_make_wrote_is_not_taken_by_the_next_make(self):
+        installed()
+        home = os.path.join(folder, "copy", "c")
+        linked, make = os.path.join(home, "out", "feqyldan.o"), ["make", "-s", "-C", home]
+        self.assertTrue(os.path.exists(linked))
+        failed = subprocess.run([*make, "OBJCOPY=false", "-W", "src/log.c", "out/feqyldan.o"],
+                                stderr=subprocess.DEVNULL, check=False)
+        self.assertNotEqual(failed.returncode, 0)
+        self.assertFalse(os.path.exists(linked))
+        subprocess.run(make, check=True)
+
     def test_a_program_may_have_names_of_its_own(self):
         prefix, program = installed(), os.path.join(folder, "names")
         subprocess.run(["cc", *FLAGS, os.path.join(HERE, "names.c"),
@@ -750,6 +826,11 @@ class Library(unittest.TestCase):
         text = subprocess.run([example()], stdout=subprocess.PIPE, check=True).stdout
         self.assertTrue(text.startswith(b"P5\n256 256\n255\n"))
         self.assertEqual(set(text[15:]), {0, 255})
+
+    def test_the_example_fails_on_a_full_disk(self):
+        with open("/dev/full", "wb") as full:
+            ended = subprocess.run([example()], stdout=full, stderr=subprocess.PIPE, check=False)
+        self.assertEqual((ended.returncode, ended.stderr), (1, b"write: status -1\n"))
 
 
 if __name__ == "__main__":

@@ -185,6 +185,8 @@ static void ask_references(void) {
     EXPECT(VX_SUCCESS, vxSetReferenceName(kept, "output"));
     EXPECT(VX_SUCCESS, vxQueryReference(kept, VX_REFERENCE_NAME, &name, sizeof name));
     CHECK(strcmp(name, "output") == 0);
+    EXPECT(VX_SUCCESS, vxSetReferenceName(kept, name + 3));
+    CHECK(strcmp(name, "put") == 0);
     EXPECT(VX_SUCCESS, vxSetReferenceName(kept, NULL));
     EXPECT(VX_SUCCESS, vxQueryReference(kept, VX_REFERENCE_NAME, &name, sizeof name));
     CHECK(*name == '\0');

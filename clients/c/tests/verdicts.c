@@ -204,6 +204,46 @@ static void tell_links(void) {
     EXPECT(VX_SUCCESS, vxReleaseGraph(&graph));
 }
 
+/* The server looks at nodes in another order than the library, once one was sent anew. */
+static void tell_the_node_of_the_status(void) {
+    const vx_border_t border = {.mode = VX_BORDER_REPLICATE};
+    vx_image small = vxCreateImage(context, 4, 4, VX_DF_IMAGE_U8);
+    vx_graph graph = vxCreateGraph(context);
+    vx_node first = vxBox3x3Node(graph, u8, small), second = vxNotNode(graph, u8, s16);
+    SAYS(VX_ERROR_INVALID_DIMENSION, vxVerifyGraph(graph),
+         "node 0 (vxBox3x3Node): the images have to be of one size");
+    EXPECT(VX_SUCCESS, vxSetNodeAttribute(first, VX_NODE_BORDER, &border, sizeof border));
+    SAYS(VX_ERROR_INVALID_FORMAT, vxVerifyGraph(graph),
+         "node 1 (vxNotNode): the formats have to be U8 to U8");
+    CHECK(status_of(second) == VX_ERROR_INVALID_FORMAT);
+    EXPECT(VX_SUCCESS, vxReleaseGraph(&graph));
+    EXPECT(VX_SUCCESS, vxReleaseImage(&small));
+}
+
+/* An image whose format is open gets it from the node that writes it. */
+static void tell_extremes_of_open_images(void) {
+    vx_scalar bytes[] = {vxCreateScalar(context, VX_TYPE_UINT8, NULL),
+                         vxCreateScalar(context, VX_TYPE_UINT8, NULL)};
+    vx_scalar words[] = {vxCreateScalar(context, VX_TYPE_INT16, NULL),
+                         vxCreateScalar(context, VX_TYPE_INT16, NULL)};
+    vx_graph graph = vxCreateGraph(context);
+    vx_image open = vxCreateVirtualImage(graph, 0, 0, VX_DF_IMAGE_VIRT);
+    EXPECT(VX_SUCCESS, STATUS(vxSubtractNode(graph, u8, u8, VX_CONVERT_POLICY_WRAP, open)));
+    vx_node node = vxMinMaxLocNode(graph, open, bytes[0], words[1], NULL, NULL, NULL, NULL);
+    SAYS(VX_ERROR_INVALID_TYPE, vxVerifyGraph(graph),
+         "node 1 (vxMinMaxLocNode): minVal is a scalar of VX_TYPE_UINT8, and has to be of "
+         "VX_TYPE_INT16");
+    SAYS(VX_ERROR_INVALID_TYPE, vxProcessGraph(graph),
+         "node 1 (vxMinMaxLocNode): minVal is a scalar");
+    CHECK(status_of(node) == VX_ERROR_INVALID_TYPE);
+    EXPECT(VX_SUCCESS, vxSetParameterByIndex(node, 1, (vx_reference)words[0]));
+    EXPECT(VX_SUCCESS, vxProcessGraph(graph));
+    EXPECT(VX_SUCCESS, vxSetParameterByIndex(node, 2, (vx_reference)bytes[1]));
+    SAYS(VX_ERROR_INVALID_TYPE, vxScheduleGraph(graph),
+         "node 1 (vxMinMaxLocNode): maxVal is a scalar");
+    EXPECT(VX_SUCCESS, vxReleaseGraph(&graph));
+}
+
 /* Scalars and arrays are data of a graph too. */
 static void refuse_two_writers(void) {
     vx_scalar one = vxCreateScalar(context, VX_TYPE_UINT8, NULL);
@@ -354,6 +394,8 @@ int main(void) {
     pass_errors();
     tell_nodes();
     tell_links();
+    tell_the_node_of_the_status();
+    tell_extremes_of_open_images();
     refuse_two_writers();
     find_links_by_scalars();
     ask_virtual_images();

@@ -7,10 +7,13 @@
  * implementation of OpenVX.
  *
  * The environment says where the server is. FEQYLDAN_SOCKET is the path of a socket. Without it,
- * each context starts a program: FEQYLDAN_PROGRAM, or else `feqyldan` or `vx_main` from PATH.
- * FEQYLDAN_QUOTA limits the bytes of a context's samples on a program that it starts, and
- * FEQYLDAN_TIMEOUT the seconds for which the server may neither take nor send a byte while a call
- * waits. Several threads may use one context. A child of fork() can't use its parent's contexts.
+ * each context has a server of its own: the program FEQYLDAN_PROGRAM if that is set; else the
+ * server's library in this process if it is found; else `feqyldan` or `vx_main` from PATH.
+ * FEQYLDAN_SERVER chooses between the library and a program (docs/from_openvx.md).
+ * FEQYLDAN_QUOTA limits the bytes of a context's samples on a server of its own, and
+ * FEQYLDAN_TIMEOUT the seconds for which a program or a socket may neither take nor send a byte
+ * while a call waits. Several threads may use one context. A child of fork() can't use its
+ * parent's contexts.
  *
  * Every function may return these errors, which aren't repeated below:
  *

@@ -143,8 +143,9 @@ VX_API_ENTRY vx_status VX_API_CALL vxReleaseImage(vx_image *image);
 VX_API_ENTRY vx_status VX_API_CALL vxGetValidRegionImage(vx_image image, vx_rectangle_t *rect);
 
 /* Sets the valid rectangle; NULL is the whole image. The samples outside it become 0, and stay 0 if
-   they are made valid later. VX_ERROR_INVALID_PARAMETERS: it isn't a rectangle within the image.
-   VX_ERROR_OPTIMIZED_AWAY: the image is virtual. */
+   they are made valid later; those of an image from a handle stay as they are.
+   VX_ERROR_INVALID_PARAMETERS: it isn't a rectangle within the image. VX_ERROR_OPTIMIZED_AWAY: the
+   image is virtual. */
 VX_API_ENTRY vx_status VX_API_CALL vxSetImageValidRectangle(vx_image image,
                                                             const vx_rectangle_t *rect);
 

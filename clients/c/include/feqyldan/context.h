@@ -23,6 +23,11 @@ typedef struct feqyldan_connection {
        call of a server in this process can't be given up. So with a timeout a process is started,
        unless a socket is given, and "core" is refused. */
     vx_float64 timeout;
+    /* If this isn't NULL, it is called with the context before the library connects, so that
+       another thread can end the wait by feqyldanCancel. No other call may use the context before
+       it is made. If it can't be made, announce is called again, with NULL. */
+    void(VX_CALLBACK *announce)(vx_context context, void *argument);
+    void *argument;
 } feqyldan_connection_t;
 
 /* Makes a context as vxCreateContext does, and empties the fault. NULL: the fault says why in
@@ -37,7 +42,8 @@ VX_API_ENTRY vx_context VX_API_CALL feqyldanCreateContext(const feqyldan_connect
 VX_API_ENTRY vx_status VX_API_CALL feqyldanCancel(vx_context context);
 
 /* Copies the words of the context's last log entry, up to size - 1 bytes; empty where there was
-   none. After a failed call they say why it failed. This needs no log callback. */
+   none. After a failed call that adds an entry they say why it failed. Calls that add none, such as
+   vxCreateImage for a wrong format, leave those of an earlier one. This needs no log callback. */
 VX_API_ENTRY vx_status VX_API_CALL feqyldanGetFault(vx_context context, vx_char *fault,
                                                     vx_size size);
 
