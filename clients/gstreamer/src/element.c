@@ -10,6 +10,7 @@ GST_DEBUG_CATEGORY_STATIC(feqyldan_debug);
 #define FORMATS "{ GRAY8, GRAY16_LE }"
 #define CAPS "video/x-raw, format = (string) " FORMATS ", width = (int) [ 1, 8192 ], " \
              "height = (int) [ 1, 8192 ], framerate = (fraction) [ 0/1, MAX ]"
+enum { GREATEST_SIDE = 8192 };
 #define META "GstFeqyldanMeta"
 
 /* MOST_RESTARTS is how often a frame is tried again with a new server. Before all but the first the
@@ -18,12 +19,17 @@ enum { MOST_SERVERS = 64, MOST_RESTARTS = 3, RESTART_WAIT = 1 };
 enum { GRAPH = 1, OUTPUT, SERVER, TIMEOUT, SERVERS, GRAY16 };
 
 typedef struct {
-    GstVideoFilter base;
-    /* Properties. */
     gchar *graph, *output, *server;
     gdouble timeout;
     guint servers;
     Gray16 gray16;
+} Settings;
+
+typedef struct {
+    GstVideoFilter base;
+    /* The properties, which the object's lock guards; and their copy that the element runs with
+       from its start on. */
+    Settings properties, settings;
 
     Plan *plan;
     /* The stations, one for each server. Frame k of a stream is run by station k modulo their
@@ -53,8 +59,10 @@ typedef struct {
     Feqyldan *element;
     Station *station;
     guint64 number;
-    /* The output is NULL where the frame itself is pushed. */
+    /* The output is NULL where the frame itself is pushed. Otherwise the frame is released when it
+       has been run. */
     GstBuffer *in, *out;
+    GstClockTime pts, duration;
     GstStructure *results;
     GstFlowReturn flow;
     gboolean is_over;
@@ -75,20 +83,28 @@ static GType gray16_type(void) {
     return type;
 }
 
-/* Posts an error, unless there was one: what fails later fails because of the first. */
+static gboolean is_stopping(Feqyldan *self) { return g_atomic_int_get(&self->is_stopping); }
+
+/* Posts an error, unless there was one: what fails later fails because of the first. A stop lets
+   what is under way fail, which is no error. Words that were cut in a letter would be none for
+   Python. */
 static void post_error(Feqyldan *self, GQuark domain, gint code, const char *words) {
-    if (!g_atomic_int_compare_and_exchange(&self->has_failed, FALSE, TRUE))
+    if (is_stopping(self) ||
+        !g_atomic_int_compare_and_exchange(&self->has_failed, FALSE, TRUE))
         return;
-    gst_element_message_full(GST_ELEMENT(self), GST_MESSAGE_ERROR, domain, code, g_strdup(words),
-                             self->graph == NULL ? g_strdup("no graph file")
-                                                 : g_strdup_printf("graph file %s", self->graph),
+    const gchar *graph = self->settings.graph;
+    gst_element_message_full(GST_ELEMENT(self), GST_MESSAGE_ERROR, domain, code,
+                             g_utf8_make_valid(words, -1),
+                             graph == NULL ? g_strdup("no graph file")
+                                           : g_strdup_printf("graph file %s", graph),
                              __FILE__, G_STRFUNC, __LINE__);
 }
 
 /* The words of a fault, after the graph file's path. Some faults begin with it. */
 static char *with_path(const Feqyldan *self, const char *fault) {
-    return g_str_has_prefix(fault, self->graph) ? g_strdup(fault)
-                                                : g_strdup_printf("%s: %s", self->graph, fault);
+    const gchar *graph = self->settings.graph;
+    return g_str_has_prefix(fault, graph) ? g_strdup(fault)
+                                          : g_strdup_printf("%s: %s", graph, fault);
 }
 
 /* ---- Frames ---- */
@@ -98,17 +114,17 @@ static gboolean await_restart(Feqyldan *self, guint attempt) {
     const gint64 end = g_get_monotonic_time() + RESTART_WAIT * G_USEC_PER_SEC;
     gboolean is_early = attempt > 1;
     g_mutex_lock(&self->lock);
-    while (is_early && !g_atomic_int_get(&self->is_stopping))
+    while (is_early && !is_stopping(self))
         is_early = g_cond_wait_until(&self->stopping, &self->lock, end);
     g_mutex_unlock(&self->lock);
-    return !g_atomic_int_get(&self->is_stopping);
+    return !is_stopping(self);
 }
 
 /* Builds the station's graph on a new server, with a warning. */
-static gboolean restart(Job *job, guint attempt, char fault[FAULT_BYTES]) {
-    Station *station = job->station;
-    g_autofree char *words = with_path(job->element, fault);
-    GST_ELEMENT_WARNING(job->element, RESOURCE, FAILED,
+static vx_status restart(Feqyldan *self, Station *station, guint attempt,
+                         char fault[FAULT_BYTES]) {
+    g_autofree char *words = with_path(self, fault);
+    GST_ELEMENT_WARNING(self, RESOURCE, FAILED,
                         ("%s; starting a new server%s", words,
                          station->plan->has_memory ? ", where delays and sums begin anew" : ""),
                         ("attempt %u of %d", attempt, MOST_RESTARTS));
@@ -116,20 +132,70 @@ static gboolean restart(Job *job, guint attempt, char fault[FAULT_BYTES]) {
     return station_build(station, station->width, station->height, fault);
 }
 
+/* Checks that a frame in memory is what its caps say, or larger: then it is cropped. */
+static gboolean check_frame(const GstVideoInfo *info, GstBuffer *buffer,
+                            char fault[FAULT_BYTES]) {
+    const GstVideoMeta *meta = gst_buffer_get_video_meta(buffer);
+    const guint width = (guint)info->width, height = (guint)info->height;
+    const gsize size = gst_buffer_get_size(buffer);
+    if (meta == NULL && size < info->size)
+        g_snprintf(fault, FAULT_BYTES, "a frame has %" G_GSIZE_FORMAT " bytes, and its caps need %"
+                   G_GSIZE_FORMAT, size, info->size);
+    else if (meta != NULL && meta->format != info->finfo->format)
+        g_snprintf(fault, FAULT_BYTES, "a frame is %s by its caps, and %s by its GstVideoMeta",
+                   info->finfo->name, gst_video_format_to_string(meta->format));
+    else if (meta != NULL && (meta->width < width || meta->height < height))
+        g_snprintf(fault, FAULT_BYTES, "a frame is %u by %u by its caps, and %u by %u by its "
+                   "GstVideoMeta", width, height, meta->width, meta->height);
+    else
+        return TRUE;
+    return FALSE;
+}
+
+/* Checks where the rows are by a GstVideoMeta: GStreamer only checks that the first byte is in the
+   memory. The memory's own kind of map may say nothing about its bytes. */
+static gboolean check_rows(const GstVideoFrame *frame, const GstVideoInfo *info,
+                           char fault[FAULT_BYTES]) {
+    const GstMapInfo *map = &frame->map[0];
+    const gint64 stride = GST_VIDEO_FRAME_PLANE_STRIDE(frame, 0);
+    const gint64 row = (gint64)info->width * GST_VIDEO_INFO_COMP_PSTRIDE(info, 0);
+    const gint64 begin = (const guint8 *)GST_VIDEO_FRAME_PLANE_DATA(frame, 0) - map->data;
+    if (map->data == NULL ||
+        (stride >= row && begin + stride * (info->height - 1) + row <= (gint64)map->size))
+        return TRUE;
+    g_snprintf(fault, FAULT_BYTES, "by its GstVideoMeta a frame's rows of %" G_GINT64_FORMAT
+               " bytes are %" G_GINT64_FORMAT " bytes apart, from byte %" G_GINT64_FORMAT
+               " on: they must follow one another in its memory, which has %" G_GSIZE_FORMAT
+               " bytes", row, stride, begin, map->size);
+    return FALSE;
+}
+
+static gboolean map_frame(GstVideoFrame *frame, const GstVideoInfo *info, GstBuffer *buffer,
+                          GstMapFlags flags, char fault[FAULT_BYTES]) {
+    if (!check_frame(info, buffer, fault))
+        return FALSE;
+    if (!gst_video_frame_map(frame, info, buffer, flags)) {
+        g_snprintf(fault, FAULT_BYTES, "a frame's memory can't be %s",
+                   flags == GST_MAP_READ ? "read" : "written");
+        return FALSE;
+    }
+    if (check_rows(frame, info, fault))
+        return TRUE;
+    gst_video_frame_unmap(frame);
+    return FALSE;
+}
+
 static vx_status try_frame(Job *job, char fault[FAULT_BYTES]) {
     const GstVideoFilter *filter = GST_VIDEO_FILTER(job->element);
-    GstVideoFrame in, out;
-    if (!gst_video_frame_map(&in, &filter->in_info, job->in, GST_MAP_READ)) {
-        g_snprintf(fault, FAULT_BYTES, "a frame's memory can't be read");
+    GstVideoFrame in = {0}, out = {0};
+    if (!map_frame(&in, &filter->in_info, job->in, GST_MAP_READ, fault))
         return VX_ERROR_INVALID_PARAMETERS;
-    }
     gboolean is_mapped = job->out == NULL ||
-                         gst_video_frame_map(&out, &filter->out_info, job->out, GST_MAP_WRITE);
+                         map_frame(&out, &filter->out_info, job->out, GST_MAP_WRITE, fault);
     vx_status status = VX_ERROR_INVALID_PARAMETERS;
     if (is_mapped)
-        status = station_run(job->station, &in, job->out == NULL ? NULL : &out, fault);
-    else
-        g_snprintf(fault, FAULT_BYTES, "an output frame's memory can't be written");
+        status = station_run(job->station, &in, job->out == NULL ? NULL : &out, &job->results,
+                             fault);
     if (is_mapped && job->out != NULL)
         gst_video_frame_unmap(&out);
     gst_video_frame_unmap(&in);
@@ -144,14 +210,13 @@ static GstFlowReturn run_frame(Job *job) {
     for (guint attempt = 1; status == VX_FAILURE && attempt <= MOST_RESTARTS; attempt++) {
         if (!await_restart(self, attempt))
             return GST_FLOW_FLUSHING;
-        if (restart(job, attempt, fault))
+        status = restart(self, job->station, attempt, fault);
+        if (status == VX_SUCCESS)
             status = try_frame(job, fault);
     }
-    if (status == VX_SUCCESS) {
-        job->results = station_results(job->station);
+    if (status == VX_SUCCESS)
         return GST_FLOW_OK;
-    }
-    if (g_atomic_int_get(&self->is_stopping))
+    if (is_stopping(self))
         return GST_FLOW_FLUSHING;
     /* Without a graph the frames that still come end at once. */
     if (status == VX_FAILURE)
@@ -168,21 +233,34 @@ static void run_job(gpointer data, gpointer user_data) {
     /* A delay that still holds no frame gives results of nothing. */
     if (job->flow == GST_FLOW_OK && job->station->runs < self->plan->slots)
         job->flow = GST_BASE_TRANSFORM_FLOW_DROPPED;
+    /* An element upstream may have few buffers. */
+    if (job->out != NULL)
+        gst_clear_buffer(&job->in);
     g_mutex_lock(&self->lock);
     job->is_over = TRUE;
     g_cond_broadcast(&self->end);
     g_mutex_unlock(&self->lock);
 }
 
-/* Adds the times of a frame to its results. */
+/* Adds the times of a frame to its results. A segment of bytes says nothing about times. */
 static void add_times(Feqyldan *self, const Job *job, GstStructure *results) {
     const GstSegment *segment = &GST_BASE_TRANSFORM(self)->segment;
-    const GstClockTime pts = GST_BUFFER_PTS(job->in);
+    GstClockTime stream_time = GST_CLOCK_TIME_NONE, running_time = GST_CLOCK_TIME_NONE;
+    if (segment->format == GST_FORMAT_TIME) {
+        stream_time = gst_segment_to_stream_time(segment, GST_FORMAT_TIME, job->pts);
+        running_time = gst_segment_to_running_time(segment, GST_FORMAT_TIME, job->pts);
+    }
     gst_structure_set(results, "frame", G_TYPE_UINT64, job->number, "timestamp", G_TYPE_UINT64,
-                      pts, "duration", G_TYPE_UINT64, GST_BUFFER_DURATION(job->in), "stream-time",
-                      G_TYPE_UINT64, gst_segment_to_stream_time(segment, GST_FORMAT_TIME, pts),
-                      "running-time", G_TYPE_UINT64,
-                      gst_segment_to_running_time(segment, GST_FORMAT_TIME, pts), NULL);
+                      job->pts, "duration", G_TYPE_UINT64, job->duration, "stream-time",
+                      G_TYPE_UINT64, stream_time, "running-time", G_TYPE_UINT64, running_time,
+                      NULL);
+}
+
+/* The meta of another element, which was copied with the frame, isn't about this graph. */
+static void remove_meta(GstBuffer *buffer) {
+    GstCustomMeta *meta = gst_buffer_get_custom_meta(buffer, META);
+    if (meta != NULL)
+        gst_buffer_remove_meta(buffer, (GstMeta *)meta);
 }
 
 /* Takes the frame that is pushed out of a job, with its results as a message and a meta. */
@@ -192,6 +270,7 @@ static GstBuffer *take_output(Feqyldan *self, Job *job) {
         out = gst_buffer_make_writable(g_steal_pointer(&job->in));
     else
         job->out = NULL;
+    remove_meta(out);
     if (job->results == NULL)
         return out;
     GstCustomMeta *meta = gst_buffer_add_custom_meta(out, META);
@@ -246,6 +325,16 @@ static void discard(Feqyldan *self) {
     }
 }
 
+/* Copies a frame that is pushed itself, after later ones have come: a pool upstream may have fewer
+   buffers than frames are under way. */
+static GstBuffer *copy_frame(GstBuffer *frame) {
+    GstBuffer *copy = gst_buffer_copy_deep(frame);
+    if (copy == NULL)
+        return frame;
+    gst_buffer_unref(frame);
+    return copy;
+}
+
 static GstFlowReturn begin_job(Feqyldan *self, GstBuffer *in) {
     GstBaseTransform *transform = GST_BASE_TRANSFORM(self);
     GstBuffer *out = NULL;
@@ -256,9 +345,11 @@ static GstFlowReturn begin_job(Feqyldan *self, GstBuffer *in) {
             gst_buffer_unref(in);
             return flow;
         }
-    }
+    } else if (self->stations->len > 1)
+        in = copy_frame(in);
     Job *job = g_new0(Job, 1);
-    *job = (Job){.element = self, .in = in, .out = out, .number = self->frames};
+    *job = (Job){.element = self, .in = in, .out = out, .number = self->frames,
+                 .pts = GST_BUFFER_PTS(in), .duration = GST_BUFFER_DURATION(in)};
     job->station = g_ptr_array_index(self->stations, self->frames++ % self->stations->len);
     g_queue_push_tail(&self->jobs, job);
     if (self->threads == NULL)
@@ -276,7 +367,7 @@ static GstFlowReturn generate_output(GstBaseTransform *transform, GstBuffer **ou
         return GST_FLOW_OK;
     if (self->stations->len == 0) {
         gst_buffer_unref(in);
-        return GST_FLOW_NOT_NEGOTIATED;
+        return is_stopping(self) ? GST_FLOW_FLUSHING : GST_FLOW_NOT_NEGOTIATED;
     }
     GstFlowReturn flow = begin_job(self, in);
     if (flow != GST_FLOW_OK || g_queue_get_length(&self->jobs) < self->stations->len)
@@ -303,8 +394,9 @@ static GstCaps *other_caps(GstBaseTransform *transform, GstPadDirection directio
                            const Plan *plan) {
     const char *in = format_of(plan->input), *out = output_format(plan);
     const gboolean is_sink = direction == GST_PAD_SINK;
-    g_autoptr(GstCaps) limit =
-        gst_caps_new_simple("video/x-raw", "format", G_TYPE_STRING, is_sink ? in : out, NULL);
+    g_autoptr(GstCaps) limit = gst_caps_new_simple(
+        "video/x-raw", "format", G_TYPE_STRING, is_sink ? in : out, "width", GST_TYPE_INT_RANGE, 1,
+        GREATEST_SIDE, "height", GST_TYPE_INT_RANGE, 1, GREATEST_SIDE, NULL);
     if (plan->is_fixed)
         gst_caps_set_simple(limit, "width", G_TYPE_INT, (gint)plan->input->width, "height",
                             G_TYPE_INT, (gint)plan->input->height, NULL);
@@ -347,34 +439,36 @@ static GstCaps *transform_caps(GstBaseTransform *transform, GstPadDirection dire
     return both;
 }
 
-/* Accepts other raw video too, so that its caps come as an event: refuse_caps then says what is
-   wrong with them. Otherwise the program only learns "not-negotiated". */
+/* Accepts all caps of frames, so that they come as an event: refuse_caps then says what is wrong
+   with them. Otherwise the program only learns "not-negotiated". */
 static gboolean accept_caps(GstBaseTransform *transform, GstPadDirection direction, GstCaps *caps) {
-    if (direction == GST_PAD_SINK)
-        return g_str_equal(gst_structure_get_name(gst_caps_get_structure(caps, 0)), "video/x-raw");
-    return GST_BASE_TRANSFORM_CLASS(feqyldan_parent_class)->accept_caps(transform, direction, caps);
+    return direction == GST_PAD_SINK ||
+           GST_BASE_TRANSFORM_CLASS(feqyldan_parent_class)->accept_caps(transform, direction, caps);
 }
 
 /* Posts an error, and returns TRUE, if the graph's input doesn't take frames of these caps. */
 static gboolean refuse_caps(Feqyldan *self, GstCaps *caps) {
     const Plan *plan = self->plan;
+    GstVideoInfo info;
     g_autoptr(GstCaps) other =
         transform_caps(GST_BASE_TRANSFORM(self), GST_PAD_SINK, caps, NULL);
-    if (!gst_caps_is_empty(other))
+    if (!gst_caps_is_empty(other) && gst_video_info_from_caps(&info, caps))
         return FALSE;
-    const GstStructure *given = gst_caps_get_structure(caps, 0);
-    gint width = 0, height = 0;
-    gst_structure_get_int(given, "width", &width);
-    gst_structure_get_int(given, "height", &height);
     g_autofree char *size =
         plan->is_fixed ? g_strdup_printf("%u by %u", plan->input->width, plan->input->height)
                        : g_strdup("any size up to 8192 by 8192");
+    g_autofree char *given = gst_caps_to_string(caps);
     g_autofree char *words = g_strdup_printf(
-        "%s: its input \"%s\" takes %s of %s, and the frames are %s of %d by %d: convert them by "
-        "videoconvert and videoscale before the element", self->graph, plan->input->name,
-        format_of(plan->input), size, gst_structure_get_string(given, "format"), width, height);
+        "%s: its input \"%s\" takes video/x-raw, %s of %s, and the caps are %s: convert the frames "
+        "by videoconvert and videoscale before the element", self->settings.graph,
+        plan->input->name, format_of(plan->input), size, given);
     post_error(self, GST_STREAM_ERROR, GST_STREAM_ERROR_FORMAT, words);
     return TRUE;
+}
+
+/* Ends the waits for their servers. The object is locked. */
+static void cancel_stations(Feqyldan *self) {
+    g_ptr_array_foreach(self->stations, (GFunc)(void (*)(void))station_cancel, NULL);
 }
 
 static void stop_stations(Feqyldan *self) {
@@ -390,12 +484,37 @@ static void stop_stations(Feqyldan *self) {
 
 static void add_stations(Feqyldan *self) {
     GST_OBJECT_LOCK(self);
-    while (self->stations->len < self->servers)
-        g_ptr_array_add(self->stations, station_new(self->plan, self->server, self->timeout,
-                                                    self->gray16));
+    const Settings *settings = &self->settings;
+    while (self->stations->len < settings->servers)
+        g_ptr_array_add(self->stations, station_new(self->plan, settings->server, settings->timeout,
+                                                    settings->gray16));
+    /* A stop cancels the stations that it finds. */
+    if (is_stopping(self))
+        cancel_stations(self);
     GST_OBJECT_UNLOCK(self);
-    if (self->servers > 1 && self->threads == NULL)
-        self->threads = g_thread_pool_new(run_job, self, (gint)self->servers, TRUE, NULL);
+}
+
+/* Starts the threads. Some of them are enough. */
+static gboolean add_threads(Feqyldan *self) {
+    g_autoptr(GError) error = NULL;
+    if (self->settings.servers == 1 || self->threads != NULL)
+        return TRUE;
+    self->threads = g_thread_pool_new(run_job, self, (gint)self->settings.servers, TRUE, &error);
+    if (g_thread_pool_get_num_threads(self->threads) > 0)
+        return TRUE;
+    g_autofree char *words = with_path(self, error->message);
+    post_error(self, GST_CORE_ERROR, GST_CORE_ERROR_THREAD, words);
+    return FALSE;
+}
+
+/* Builds the graph on a station's server, or on new ones if it had one that has ended. */
+static vx_status build_on(Feqyldan *self, Station *station, guint width, guint height,
+                          char fault[FAULT_BYTES]) {
+    guint attempt = station->context == NULL ? MOST_RESTARTS : 0;
+    vx_status status = station_build(station, width, height, fault);
+    while (status == VX_FAILURE && attempt < MOST_RESTARTS && await_restart(self, ++attempt))
+        status = restart(self, station, attempt, fault);
+    return status;
 }
 
 /* Builds the graph on each server, so that delays and sums begin anew. */
@@ -403,7 +522,7 @@ static gboolean build(Feqyldan *self, gint width, gint height) {
     char fault[FAULT_BYTES];
     for (guint at = 0; at < self->stations->len; at++) {
         Station *station = g_ptr_array_index(self->stations, at);
-        if (station_build(station, (guint)width, (guint)height, fault))
+        if (build_on(self, station, (guint)width, (guint)height, fault) == VX_SUCCESS)
             continue;
         g_autofree char *words = with_path(self, fault);
         post_error(self, GST_RESOURCE_ERROR, GST_RESOURCE_ERROR_SETTINGS, words);
@@ -414,10 +533,10 @@ static gboolean build(Feqyldan *self, gint width, gint height) {
 
 static void set_latency(Feqyldan *self, const GstVideoInfo *info) {
     const gint numerator = GST_VIDEO_INFO_FPS_N(info), denominator = GST_VIDEO_INFO_FPS_D(info);
+    const GstClockTime seconds = (self->settings.servers - 1) * GST_SECOND;
     GST_OBJECT_LOCK(self);
-    self->latency = numerator == 0 ? 0
-                                   : gst_util_uint64_scale_int((self->servers - 1) * GST_SECOND,
-                                                               denominator, numerator);
+    self->latency =
+        numerator == 0 ? 0 : gst_util_uint64_scale_int(seconds, denominator, numerator);
     GST_OBJECT_UNLOCK(self);
     gst_element_post_message(GST_ELEMENT(self), gst_message_new_latency(GST_OBJECT(self)));
 }
@@ -432,12 +551,43 @@ static gboolean set_info(GstVideoFilter *filter, GstCaps *in_caps, GstVideoInfo 
     if (self->stations->len > 0 && gst_video_info_is_equal(in_info, &filter->in_info))
         return TRUE;
     add_stations(self);
-    if (build(self, GST_VIDEO_INFO_WIDTH(in_info), GST_VIDEO_INFO_HEIGHT(in_info))) {
+    if (add_threads(self) &&
+        build(self, GST_VIDEO_INFO_WIDTH(in_info), GST_VIDEO_INFO_HEIGHT(in_info))) {
         set_latency(self, in_info);
         return TRUE;
     }
     stop_stations(self);
-    return FALSE;
+    /* If caps were refused during a stop, an element upstream would post an error. */
+    return is_stopping(self);
+}
+
+/* ---- Buffers ---- */
+
+/* Asks for more buffers: else a pool of few would run out while frames are under way. */
+static void raise_pool(GstQuery *query, guint more) {
+    GstBufferPool *pool;
+    guint size, least, most;
+    if (gst_query_get_n_allocation_pools(query) == 0)
+        return;
+    gst_query_parse_nth_allocation_pool(query, 0, &pool, &size, &least, &most);
+    gst_query_set_nth_allocation_pool(query, 0, pool, size, least + more,
+                                      most == 0 ? 0 : most + more);
+    gst_clear_object(&pool);
+}
+
+/* Where downstream's pool refuses so many, the base class takes another one. */
+static gboolean decide_allocation(GstBaseTransform *transform, GstQuery *query) {
+    raise_pool(query, ((Feqyldan *)transform)->settings.servers);
+    return GST_BASE_TRANSFORM_CLASS(feqyldan_parent_class)->decide_allocation(transform, query);
+}
+
+static gboolean propose_allocation(GstBaseTransform *transform, GstQuery *decided,
+                                   GstQuery *query) {
+    if (!GST_BASE_TRANSFORM_CLASS(feqyldan_parent_class)
+             ->propose_allocation(transform, decided, query))
+        return FALSE;
+    raise_pool(query, ((Feqyldan *)transform)->settings.servers + 1);
+    return TRUE;
 }
 
 /* ---- Events, queries, states ---- */
@@ -472,6 +622,11 @@ static gboolean query(GstBaseTransform *transform, GstPadDirection direction, Gs
     Feqyldan *self = (Feqyldan *)transform;
     gboolean is_live;
     GstClockTime least, most;
+    /* This query is serialized with the frames, so its thread may push them. When the pad is
+       flushing, another thread drops them. */
+    if (GST_QUERY_TYPE(asked) == GST_QUERY_DRAIN &&
+        !GST_PAD_IS_FLUSHING(GST_BASE_TRANSFORM_SINK_PAD(transform)))
+        drain(self);
     if (!GST_BASE_TRANSFORM_CLASS(feqyldan_parent_class)->query(transform, direction, asked))
         return FALSE;
     if (direction != GST_PAD_SRC || GST_QUERY_TYPE(asked) != GST_QUERY_LATENCY)
@@ -485,19 +640,39 @@ static gboolean query(GstBaseTransform *transform, GstPadDirection direction, Gs
     return TRUE;
 }
 
+static void clear_settings(Settings *settings) {
+    g_free(settings->graph);
+    g_free(settings->output);
+    g_free(settings->server);
+}
+
+/* A program may set properties while threads run with them. */
+static void take_settings(Feqyldan *self) {
+    clear_settings(&self->settings);
+    GST_OBJECT_LOCK(self);
+    self->settings = self->properties;
+    self->settings.graph = g_strdup(self->properties.graph);
+    self->settings.output = g_strdup(self->properties.output);
+    self->settings.server = g_strdup(self->properties.server);
+    GST_OBJECT_UNLOCK(self);
+}
+
 static gboolean start(GstBaseTransform *transform) {
     Feqyldan *self = (Feqyldan *)transform;
+    const Settings *settings = &self->settings;
     char fault[FAULT_BYTES] = "the property graph isn't set: give the path of a graph file";
+    take_settings(self);
     self->frames = 0;
     g_atomic_int_set(&self->is_stopping, FALSE);
     g_atomic_int_set(&self->has_failed, FALSE);
-    if (self->graph != NULL)
-        set_plan(self, plan_read(self->graph, self->output, fault));
-    if (self->plan != NULL && (self->servers == 1 || !self->plan->has_memory))
+    if (settings->graph != NULL)
+        set_plan(self, plan_read(settings->graph, settings->output, fault));
+    if (self->plan != NULL && (settings->servers == 1 || !self->plan->has_memory))
         return TRUE;
     if (self->plan != NULL)
         g_snprintf(fault, FAULT_BYTES, "%s: servers is %u, and a graph with delays or sums needs "
-                   "servers=1: its results depend on earlier frames", self->graph, self->servers);
+                   "servers=1: its results depend on earlier frames", settings->graph,
+                   settings->servers);
     set_plan(self, NULL);
     post_error(self, GST_RESOURCE_ERROR, GST_RESOURCE_ERROR_SETTINGS, fault);
     return FALSE;
@@ -519,7 +694,7 @@ static GstStateChangeReturn change_state(GstElement *element, GstStateChange cha
         g_mutex_unlock(&self->lock);
         /* A server that hangs would hold the streaming thread until the timeout. */
         GST_OBJECT_LOCK(self);
-        g_ptr_array_foreach(self->stations, (GFunc)(void (*)(void))station_cancel, NULL);
+        cancel_stations(self);
         GST_OBJECT_UNLOCK(self);
     }
     return GST_ELEMENT_CLASS(feqyldan_parent_class)->change_state(element, change);
@@ -528,41 +703,44 @@ static GstStateChangeReturn change_state(GstElement *element, GstStateChange cha
 /* ---- Properties ---- */
 
 static void set_property(GObject *object, guint id, const GValue *value, GParamSpec *spec) {
-    Feqyldan *self = (Feqyldan *)object;
-    gchar **texts[] = {NULL, &self->graph, &self->output, &self->server};
+    Settings *properties = &((Feqyldan *)object)->properties;
+    gchar **texts[] = {NULL, &properties->graph, &properties->output, &properties->server};
+    GST_OBJECT_LOCK(object);
     if (id <= SERVER) {
         g_free(*texts[id]);
         *texts[id] = g_value_dup_string(value);
     } else if (id == TIMEOUT)
-        self->timeout = g_value_get_double(value);
+        properties->timeout = g_value_get_double(value);
     else if (id == SERVERS)
-        self->servers = g_value_get_uint(value);
+        properties->servers = g_value_get_uint(value);
     else if (id == GRAY16)
-        self->gray16 = (Gray16)g_value_get_enum(value);
+        properties->gray16 = (Gray16)g_value_get_enum(value);
     else
         G_OBJECT_WARN_INVALID_PROPERTY_ID(object, id, spec);
+    GST_OBJECT_UNLOCK(object);
 }
 
 static void get_property(GObject *object, guint id, GValue *value, GParamSpec *spec) {
-    Feqyldan *self = (Feqyldan *)object;
-    const gchar *const texts[] = {NULL, self->graph, self->output, self->server};
+    const Settings *properties = &((Feqyldan *)object)->properties;
+    GST_OBJECT_LOCK(object);
+    const gchar *const texts[] = {NULL, properties->graph, properties->output, properties->server};
     if (id <= SERVER)
         g_value_set_string(value, texts[id]);
     else if (id == TIMEOUT)
-        g_value_set_double(value, self->timeout);
+        g_value_set_double(value, properties->timeout);
     else if (id == SERVERS)
-        g_value_set_uint(value, self->servers);
+        g_value_set_uint(value, properties->servers);
     else if (id == GRAY16)
-        g_value_set_enum(value, (gint)self->gray16);
+        g_value_set_enum(value, (gint)properties->gray16);
     else
         G_OBJECT_WARN_INVALID_PROPERTY_ID(object, id, spec);
+    GST_OBJECT_UNLOCK(object);
 }
 
 static void finalize(GObject *object) {
     Feqyldan *self = (Feqyldan *)object;
-    g_free(self->graph);
-    g_free(self->output);
-    g_free(self->server);
+    clear_settings(&self->properties);
+    clear_settings(&self->settings);
     g_ptr_array_unref(self->stations);
     g_mutex_clear(&self->lock);
     g_cond_clear(&self->end);
@@ -583,9 +761,10 @@ static void install_properties(GObjectClass *object) {
                                             "image that the graph writes", NULL, flags));
     g_object_class_install_property(
         object, SERVER, g_param_spec_string("server", "Server", "The path of the server's program, "
-                                            "or of a Unix socket; or core, for a server in this "
-                                            "process. Default: FEQYLDAN_SOCKET, FEQYLDAN_PROGRAM, "
-                                            "or feqyldan on PATH", NULL, flags));
+                                            "or of a Unix socket; core, for a server in this "
+                                            "process; or process, for one that is started. "
+                                            "Default: FEQYLDAN_SOCKET, FEQYLDAN_PROGRAM, or "
+                                            "feqyldan on PATH", NULL, flags));
     g_object_class_install_property(
         object, TIMEOUT, g_param_spec_double("timeout", "Timeout", "The seconds for which the "
                                              "server may neither take nor send a byte; then a new "
@@ -622,6 +801,8 @@ static void feqyldan_class_init(FeqyldanClass *class) {
     transform->accept_caps = accept_caps;
     transform->sink_event = sink_event;
     transform->query = query;
+    transform->decide_allocation = decide_allocation;
+    transform->propose_allocation = propose_allocation;
     transform->generate_output = generate_output;
     GST_VIDEO_FILTER_CLASS(class)->set_info = set_info;
     GST_VIDEO_FILTER_CLASS(class)->transform_frame = transform_frame;

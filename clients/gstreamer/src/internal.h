@@ -39,10 +39,12 @@ const char *format_of(const feqyldan_object_t *object);
 
 typedef enum { CLAMP_16, HALVE_16, WRAP_16 } Gray16;
 
-/* Converts a frame to S16 samples without gaps. */
-void to_signed(const GstVideoFrame *frame, Gray16 rule, gint16 *samples);
+/* Converts a frame to S16 samples without gaps. The size is that of the caps: the frame may have
+   more in memory. */
+void to_signed(const GstVideoFrame *frame, guint width, guint height, Gray16 rule,
+               gint16 *samples);
 /* Converts S16 samples in a frame, in place. */
-void to_unsigned(GstVideoFrame *frame, Gray16 rule);
+void to_unsigned(GstVideoFrame *frame, guint width, guint height, Gray16 rule);
 
 /* ---- station.c: a server with the graph ---- */
 
@@ -69,19 +71,17 @@ enum { DEFAULT_TIMEOUT = 10 };
    for what the environment says. A timeout below 0 isn't given. */
 Station *station_new(const Plan *plan, const char *server, gdouble timeout, Gray16 gray16);
 void station_free(Station *station);
-/* Builds the graph for frames of a size, on the station's server if that still runs, or on a new
-   one. Delays and sums begin anew. */
-gboolean station_build(Station *station, guint width, guint height, char fault[FAULT_BYTES]);
+/* Builds the graph for frames of a size, on the station's server, or on a new one if it has none.
+   Delays and sums begin anew. VX_FAILURE: the server can't be reached, has ended or is late. */
+vx_status station_build(Station *station, guint width, guint height, char fault[FAULT_BYTES]);
 /* Ends the server. */
 void station_close(Station *station);
 /* Lets a call of another thread end, and each later one of this station. */
 void station_cancel(Station *station);
-/* Runs the graph on a frame. Writes the output, unless that is NULL. VX_FAILURE: the server has
-   ended or is late. */
+/* Runs the graph on a frame. Writes the output, unless that is NULL. Gives the distributions and
+   extremes by their names, unless the graph has none. VX_FAILURE: the server has ended or is
+   late. */
 vx_status station_run(Station *station, const GstVideoFrame *in, GstVideoFrame *out,
-                      char fault[FAULT_BYTES]);
-/* Returns the distributions and extremes of the last run by their names; NULL if the graph has
-   none. */
-GstStructure *station_results(Station *station);
+                      GstStructure **results, char fault[FAULT_BYTES]);
 
 #endif

@@ -52,8 +52,12 @@ static gboolean choose_output(Plan *plan, const char *name, char fault[FAULT_BYT
     if (outputs == 1)
         return TRUE;
     g_autofree char *names = list_outputs(plan);
-    g_snprintf(fault, FAULT_BYTES, "it writes the images %s: choose one by output=NAME, or output=-"
-               " for the frame itself", names);
+    if (*names == '\0')
+        g_snprintf(fault, FAULT_BYTES, "it writes no image, and output is \"%s\": leave it out, so "
+                   "that the frame itself is pushed", name);
+    else
+        g_snprintf(fault, FAULT_BYTES, "it writes the images %s: choose one by output=NAME, or "
+                   "output=- for the frame itself", names);
     return FALSE;
 }
 
@@ -68,6 +72,31 @@ static gboolean check_formats(const Plan *plan, char fault[FAULT_BYTES]) {
     g_snprintf(fault, FAULT_BYTES, "its image \"%s\" is U32, which GStreamer has no grey format "
                "for: choose a U8 or S16 image", deep->name);
     return FALSE;
+}
+
+/* Frames leave in the size in which they come. */
+static gboolean check_output_size(const Plan *plan, char fault[FAULT_BYTES]) {
+    const feqyldan_object_t *input = plan->input, *output = plan->output;
+    if (output == NULL || (output->width == input->width && output->height == input->height))
+        return TRUE;
+    g_snprintf(fault, FAULT_BYTES, "its image \"%s\" is %u by %u, and its input %u by %u: choose an "
+               "image of the input's size", output->name, output->width, output->height,
+               input->width, input->height);
+    return FALSE;
+}
+
+/* The results of a frame have fields of their own beside these objects. */
+static gboolean check_names(const Plan *plan, char fault[FAULT_BYTES]) {
+    static const char *const FIELDS[] = {"frame", "timestamp", "duration", "stream-time",
+                                         "running-time", NULL};
+    for (const feqyldan_object_t *object = plan->objects; object < plan->objects + plan->count;
+         object++)
+        if (object->is_output && !is_image(object) && g_strv_contains(FIELDS, object->name)) {
+            g_snprintf(fault, FAULT_BYTES, "its %s \"%s\" has the name of another field of the "
+                       "results: give it another name", object->kind, object->name);
+            return FALSE;
+        }
+    return TRUE;
 }
 
 static void note_memory(Plan *plan) {
@@ -93,7 +122,7 @@ Plan *plan_read(const char *path, const char *output, char fault[FAULT_BYTES]) {
     plan->file = file;
     plan->objects = feqyldanGetObjects(file, &plan->count);
     if (choose_input(plan, words) && choose_output(plan, output, words) &&
-        check_formats(plan, words)) {
+        check_formats(plan, words) && check_output_size(plan, words) && check_names(plan, words)) {
         note_memory(plan);
         return plan;
     }

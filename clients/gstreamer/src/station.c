@@ -9,6 +9,17 @@ static gboolean is_socket(const char *path) {
     return stat(path, &state) == 0 && S_ISSOCK(state.st_mode);
 }
 
+static void set_context(Station *station, vx_context context) {
+    g_mutex_lock(&station->lock);
+    station->context = context;
+    if (context != NULL && station->is_cancelled)
+        feqyldanCancel(context);
+    g_mutex_unlock(&station->lock);
+}
+
+/* The context is there before its server answers, so that a cancel can end that wait too. */
+static void note_context(vx_context context, void *station) { set_context(station, context); }
+
 Station *station_new(const Plan *plan, const char *server, gdouble timeout, Gray16 gray16) {
     Station *station = g_new0(Station, 1);
     station->plan = plan;
@@ -25,6 +36,8 @@ Station *station_new(const Plan *plan, const char *server, gdouble timeout, Gray
         station->connection.timeout = timeout;
     else
         station->connection.timeout = is_core ? 0 : DEFAULT_TIMEOUT;
+    station->connection.announce = note_context;
+    station->connection.argument = station;
     g_mutex_init(&station->lock);
     return station;
 }
@@ -34,14 +47,6 @@ void station_free(Station *station) {
     g_free(station->samples);
     g_mutex_clear(&station->lock);
     g_free(station);
-}
-
-static void set_context(Station *station, vx_context context) {
-    g_mutex_lock(&station->lock);
-    station->context = context;
-    if (context != NULL && station->is_cancelled)
-        feqyldanCancel(context);
-    g_mutex_unlock(&station->lock);
 }
 
 static void drop_graph(Station *station) {
@@ -72,37 +77,41 @@ static void explain(Station *station, char fault[FAULT_BYTES]) {
 }
 
 static gboolean connect_server(Station *station, char fault[FAULT_BYTES]) {
-    if (station->context != NULL)
-        return TRUE;
-    set_context(station, feqyldanCreateContext(&station->connection, fault, FAULT_BYTES));
-    return station->context != NULL;
+    return station->context != NULL ||
+           feqyldanCreateContext(&station->connection, fault, FAULT_BYTES) != NULL;
 }
 
-static gboolean build_graph(Station *station, char fault[FAULT_BYTES]) {
+/* The reader of graph files says in words alone why it fails. Whether it is the server's end shows
+   at one more request. */
+static gboolean has_ended(Station *station) {
+    vx_graph graph = vxCreateGraph(station->context);
+    const gboolean is_over = vxGetStatus((vx_reference)graph) == VX_FAILURE;
+    vxReleaseGraph(&graph);
+    return is_over;
+}
+
+static vx_status build_graph(Station *station, char fault[FAULT_BYTES]) {
     drop_graph(station);
     if (!connect_server(station, fault))
-        return FALSE;
+        return VX_FAILURE;
     station->graph = feqyldanBuildGraph(station->plan->file, station->context, station->width,
                                         station->height, fault, FAULT_BYTES);
     if (station->graph == NULL)
-        return FALSE;
-    if (vxVerifyGraph(feqyldanGetGraph(station->graph)) == VX_SUCCESS)
-        return TRUE;
-    explain(station, fault);
-    drop_graph(station);
-    return FALSE;
+        return has_ended(station) ? VX_FAILURE : VX_ERROR_INVALID_GRAPH;
+    vx_status status = vxVerifyGraph(feqyldanGetGraph(station->graph));
+    if (status != VX_SUCCESS)
+        explain(station, fault);
+    return status;
 }
 
-gboolean station_build(Station *station, guint width, guint height, char fault[FAULT_BYTES]) {
-    const gboolean had_server = station->context != NULL;
+vx_status station_build(Station *station, guint width, guint height, char fault[FAULT_BYTES]) {
     station->width = width;
     station->height = height;
     station->samples = g_renew(gint16, station->samples, (gsize)width * height);
-    if (build_graph(station, fault))
-        return TRUE;
-    /* The server may have ended since the last frame. */
-    station_close(station);
-    return had_server && build_graph(station, fault);
+    vx_status status = build_graph(station, fault);
+    if (status != VX_SUCCESS)
+        station_close(station);
+    return status;
 }
 
 /* Copies all samples between an image of the graph and rows in memory. */
@@ -123,7 +132,7 @@ static vx_status write_frame(Station *station, const GstVideoFrame *in) {
     if (input->format == VX_DF_IMAGE_U8 || station->gray16 == WRAP_16)
         return copy(station, input, GST_VIDEO_FRAME_PLANE_STRIDE(in, 0),
                     GST_VIDEO_FRAME_PLANE_DATA(in, 0), VX_WRITE_ONLY);
-    to_signed(in, station->gray16, station->samples);
+    to_signed(in, station->width, station->height, station->gray16, station->samples);
     return copy(station, input, (gint)(station->width * sizeof(gint16)), station->samples,
                 VX_WRITE_ONLY);
 }
@@ -133,36 +142,21 @@ static vx_status read_frame(Station *station, GstVideoFrame *out) {
     vx_status status = copy(station, output, GST_VIDEO_FRAME_PLANE_STRIDE(out, 0),
                             GST_VIDEO_FRAME_PLANE_DATA(out, 0), VX_READ_ONLY);
     if (status == VX_SUCCESS && output->format == VX_DF_IMAGE_S16)
-        to_unsigned(out, station->gray16);
-    return status;
-}
-
-vx_status station_run(Station *station, const GstVideoFrame *in, GstVideoFrame *out,
-                      char fault[FAULT_BYTES]) {
-    if (station->graph == NULL) {
-        g_snprintf(fault, FAULT_BYTES, "its server has ended");
-        return VX_ERROR_NOT_ALLOCATED;
-    }
-    vx_status status = write_frame(station, in);
-    if (status == VX_SUCCESS)
-        status = vxProcessGraph(feqyldanGetGraph(station->graph));
-    if (status == VX_SUCCESS && out != NULL)
-        status = read_frame(station, out);
-    if (status == VX_SUCCESS)
-        station->runs++;
-    else
-        explain(station, fault);
+        to_unsigned(out, station->width, station->height, station->gray16);
     return status;
 }
 
 /* ---- Results ---- */
 
-static void add_counts(Station *station, const feqyldan_object_t *object, GstStructure *results) {
+static vx_status add_counts(Station *station, const feqyldan_object_t *object,
+                            GstStructure *results) {
     vx_uint32 counts[256];
     GValue list = G_VALUE_INIT, item = G_VALUE_INIT;
-    if (vxCopyDistribution((vx_distribution)feqyldanFindObject(station->graph, object->name),
-                           counts, VX_READ_ONLY, VX_MEMORY_TYPE_HOST) != VX_SUCCESS)
-        return;
+    vx_status status =
+        vxCopyDistribution((vx_distribution)feqyldanFindObject(station->graph, object->name),
+                           counts, VX_READ_ONLY, VX_MEMORY_TYPE_HOST);
+    if (status != VX_SUCCESS)
+        return status;
     g_value_init(&list, GST_TYPE_ARRAY);
     g_value_init(&item, G_TYPE_UINT);
     for (vx_uint32 bin = 0; bin < object->count; bin++) {
@@ -170,6 +164,7 @@ static void add_counts(Station *station, const feqyldan_object_t *object, GstStr
         gst_value_array_append_value(&list, &item);
     }
     gst_structure_take_value(results, object->name, &list);
+    return VX_SUCCESS;
 }
 
 static gint value_of(vx_scalar scalar) {
@@ -210,17 +205,39 @@ static void add_extremes(Station *station, const feqyldan_object_t *object,
     gst_structure_free(found);
 }
 
-GstStructure *station_results(Station *station) {
+static vx_status read_results(Station *station, GstStructure **found) {
     const Plan *plan = station->plan;
-    GstStructure *results = gst_structure_new_empty("feqyldan");
-    for (const feqyldan_object_t *object = plan->objects; object < plan->objects + plan->count;
-         object++)
+    g_autoptr(GstStructure) results = gst_structure_new_empty("feqyldan");
+    vx_status status = VX_SUCCESS;
+    for (const feqyldan_object_t *object = plan->objects;
+         object < plan->objects + plan->count && status == VX_SUCCESS; object++)
         if (object->is_output && strcmp(object->kind, "distribution") == 0)
-            add_counts(station, object, results);
+            status = add_counts(station, object, results);
         else if (object->is_output && strcmp(object->kind, "extremes") == 0)
             add_extremes(station, object, results);
-    if (gst_structure_n_fields(results) > 0)
-        return results;
-    gst_structure_free(results);
-    return NULL;
+    if (status == VX_SUCCESS && gst_structure_n_fields(results) > 0)
+        *found = g_steal_pointer(&results);
+    return status;
+}
+
+/* ---- Frames ---- */
+
+vx_status station_run(Station *station, const GstVideoFrame *in, GstVideoFrame *out,
+                      GstStructure **results, char fault[FAULT_BYTES]) {
+    if (station->graph == NULL) {
+        g_snprintf(fault, FAULT_BYTES, "its server has ended");
+        return VX_ERROR_NOT_ALLOCATED;
+    }
+    vx_status status = write_frame(station, in);
+    if (status == VX_SUCCESS)
+        status = vxProcessGraph(feqyldanGetGraph(station->graph));
+    if (status == VX_SUCCESS && out != NULL)
+        status = read_frame(station, out);
+    if (status == VX_SUCCESS)
+        status = read_results(station, results);
+    if (status == VX_SUCCESS)
+        station->runs++;
+    else
+        explain(station, fault);
+    return status;
 }

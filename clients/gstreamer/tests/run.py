@@ -74,19 +74,23 @@ def frames_of(count, width, height, kind="uint8"):
 class Line:
     """A pipeline of an appsrc, the element and an appsink."""
 
-    def __init__(self, element, width, height, fmt="GRAY8", after=""):
+    def __init__(self, element, width, height, fmt="GRAY8", after="", starts=True):
         self.count, self.fmt = 0, fmt
         self.pipeline = Gst.parse_launch(
             f"appsrc name=in format=time caps={caps(fmt, width, height)} ! feqyldan name=t "
             f"{element} ! {after} appsink name=out sync=false")
         self.source, self.sink = map(self.pipeline.get_by_name, ("in", "out"))
-        self.pipeline.set_state(Gst.State.PLAYING)
+        if starts:
+            self.start()
 
     def __enter__(self):
         return self
 
     def __exit__(self, *_):
         self.pipeline.set_state(Gst.State.NULL)
+
+    def start(self):
+        self.pipeline.set_state(Gst.State.PLAYING)
 
     def push(self, frame, stride=None, offset=0):
         """Pushes a frame; with a stride, its layout is in a GstVideoMeta."""
@@ -104,6 +108,20 @@ class Line:
             GstVideo.buffer_add_video_meta_full(
                 buffer, 0, GstVideo.VideoFormat.from_string(self.fmt), width, height, 1,
                 [offset, 0, 0, 0], [step, 0, 0, 0])
+        return self.source.emit("push-buffer", buffer)
+
+    def push_bytes(self, *memories, layout=None):
+        """Pushes a frame in memories of these bytes. The layout is the format, the offset and the
+        stride of a GstVideoMeta."""
+        buffer = Gst.Buffer.new()
+        for content in filter(None, memories):
+            buffer = buffer.append(Gst.Buffer.new_wrapped(content))
+        if layout is not None:
+            fmt, offset, stride = layout
+            caps = self.source.get_property("caps").get_structure(0)
+            GstVideo.buffer_add_video_meta_full(
+                buffer, 0, GstVideo.VideoFormat.from_string(fmt), caps.get_value("width"),
+                caps.get_value("height"), 1, [offset, 0, 0, 0], [stride, 0, 0, 0])
         return self.source.emit("push-buffer", buffer)
 
     def resize(self, width, height):
@@ -153,22 +171,23 @@ class Line:
 
 
 # Requests, by their numbers on the wire.
-OPEN_CONTEXT, ADD_NODE, PROCESS_GRAPH = 1, 20, 23
+OPEN_CONTEXT, READ_DISTRIBUTION, ADD_NODE, PROCESS_GRAPH = 1, 15, 20, 23
 
 
 class Door(socketserver.ThreadingUnixStreamServer):
     """
     A socket that starts a server for each connection. The connections end one after another at
-    these requests, before the server gets them; further ones go on.
+    these requests, before the server gets them, or get no answer; further ones go on.
     """
 
     daemon_threads, request_queue_size = True, 64
 
-    def __init__(self, path, *last):
+    def __init__(self, path, *last, is_silent=False):
         with contextlib.suppress(FileNotFoundError):
             os.unlink(path)
         super().__init__(path, None)
         self.last, self.connections, self.ended = list(last), [], 0
+        self.is_silent, self.is_closed = is_silent, threading.Event()
         threading.Thread(target=self.serve_forever, args=(0.01,), daemon=True).start()
 
     def finish_request(self, request, client_address):
@@ -179,16 +198,19 @@ class Door(socketserver.ThreadingUnixStreamServer):
             while head := client.read(4):
                 frame = client.read(int.from_bytes(head, "big"))
                 if frame[2] == last:
+                    self.ended += 1
+                    if self.is_silent:
+                        self.is_closed.wait()
                     break
                 server.stdin.write(head + frame)
                 server.stdin.flush()
                 head = server.stdout.read(4)
                 client.write(head + server.stdout.read(int.from_bytes(head, "big")))
                 client.flush()
-        self.ended += 1
 
     def close(self):
         """Refuses connections, and ends those that are open."""
+        self.is_closed.set()
         self.shutdown()
         self.server_close()
         for connection in self.connections:
@@ -264,6 +286,12 @@ def measured(context, width, height):
     return graph, camera
 
 
+def counted(context, width, height):
+    camera, graph = context.image(vx.U8, width, height), context.graph()
+    graph.histogram(camera, context.distribution(256, name="counts"))
+    return graph, camera
+
+
 def motion(context, width, height):
     camera, moved = (context.image(vx.U8, width, height, name=name) for name in ("camera", "moved"))
     smooth, graph = context.delay(camera, 2, name="smooth"), context.graph()
@@ -314,6 +342,36 @@ class Frames(ElementTest):
                 self.same(self.run_line(f"graph={self.path('a.json')} output={output}", frames),
                           self.in_python(self.path("a.json"), frames, output)[1:])
 
+    def test_an_input_that_its_picture_describes(self):
+        """Its format and size are those of the picture in the file."""
+        frames = frames_of(2, 33, 7)
+        vx.write_pgm(self.path("a.pgm"), frames[0])
+        path = self.put("a.json", {
+            "feqyldan": 1, "nodes": [{"function": "not_", "input": "a", "output": "b"}],
+            "objects": {"a": {"kind": "image", "file": "a.pgm", "input": True},
+                        "b": {"kind": "image", "format": "U8", "width": 33, "height": 7}}})
+        self.same(self.run_line(f"graph={path}", frames), [255 - frame for frame in frames])
+
+    def test_a_picture_that_is_replaced(self):
+        """A new server gets the picture that was there at the start."""
+        (good, frame), name = frames_of(2, 8, 8), self.path("good.pgm")
+        image = {"kind": "image", "format": "U8", "width": 8, "height": 8}
+        path = self.put("a.json", {
+            "feqyldan": 1, "objects": {"a": {**image, "input": True}, "out": image,
+                                       "good": {"kind": "image", "file": "good.pgm"}},
+            "nodes": [{"function": "xor", "in1": "a", "in2": "good", "output": "out"}]})
+        for other in (frame, frames_of(1, 9, 9)[0], None):
+            vx.write_pgm(name, good)
+            with self.subTest(other is None or other.shape), Line(f"graph={path}", 8, 8) as line:
+                line.push(frame)
+                self.same([line.pull()], [frame ^ good])
+                os.unlink(name)
+                if other is not None:
+                    vx.write_pgm(name, other)
+                os.kill(self.servers()[0], signal.SIGKILL)
+                line.push(frame)
+                self.same([line.pull()], [frame ^ good])
+
     def test_strides_and_offsets(self):
         for fmt, graph, kind in (("GRAY8", vx.U8, "uint8"), ("GRAY16_LE", vx.S16, "uint16")):
             path = self.save("a.json", copied(graph), 61, 50)
@@ -329,6 +387,50 @@ class Frames(ElementTest):
                              ("halve", [frame & 0xFFFE for frame in frames]), ("wrap", frames)):
             with self.subTest(rule):
                 self.same(self.run_line(f"graph={path} gray16={rule}", frames, "GRAY16_LE"), wanted)
+
+    def test_frames_whose_memory_is_not_what_is_said(self):
+        """Samples beyond the memory would be those of something else, or none."""
+        for fmt, graph, kind in (("GRAY8", vx.U8, "uint8"), ("GRAY16_LE", vx.S16, "uint16")):
+            path, size = self.save("a.json", copied(graph), 8, 8), numpy.dtype(kind).itemsize
+            row, whole = 8 * size, 64 * size
+            after = f" on: they must follow one another in its memory, which has {whole} bytes"
+            other = {"GRAY8": "GRAY16_LE", "GRAY16_LE": "GRAY8"}[fmt]
+            for layout, words in (
+                    ((fmt, 0, 99), f"rows of {row} bytes are 99 bytes apart, from byte 0{after}"),
+                    ((fmt, 1, row), f"{row} bytes apart, from byte 1{after}"),
+                    ((fmt, 0, row - 1), f"{row - 1} bytes apart, from byte 0{after}"),
+                    ((fmt, whole - row, -row), f"-{row} bytes apart, from byte {whole - row}"),
+                    ((other, 0, row), f"a frame is {fmt} by its caps, and {other} by its Gst")):
+                with self.subTest(words), Line(f"graph={path}", 8, 8, fmt) as line:
+                    line.push_bytes(bytes(whole), layout=layout)
+                    self.assertIn(words, line.error())
+            for count in (0, whole - 1):
+                with self.subTest(count), Line(f"graph={path}", 8, 8, fmt) as line:
+                    line.push_bytes(bytes(count))
+                    self.assertEqual(line.error(), f"{path}: a frame has {count} bytes, and its "
+                                                   f"caps need {whole}")
+
+    def test_a_frame_in_two_memories(self):
+        """GStreamer joins them where no meta has the layout, and else has the first one alone."""
+        path, frame = self.save("a.json", copied(vx.U8), 8, 8), frames_of(1, 8, 8)[0]
+        half = frame[:4].tobytes(), frame[4:].tobytes()
+        with Line(f"graph={path}", 8, 8) as line:
+            line.push_bytes(*half)
+            self.same([line.pull()], [frame])
+            line.push_bytes(*half, layout=("GRAY8", 0, 8))
+            self.assertIn("in its memory, which has 32 bytes", line.error())
+
+    def test_a_meta_of_another_size_than_the_caps(self):
+        """A larger frame is cropped, and a smaller one is refused."""
+        for fmt, graph, kind in (("GRAY8", vx.U8, "uint8"), ("GRAY16_LE", vx.S16, "uint16")):
+            path = self.save("a.json", copied(graph), 8, 8)
+            large, small = (frames_of(1, side, side, kind)[0] >> 1 for side in (16, 4))
+            with self.subTest(fmt), Line(f"graph={path}", 8, 8, fmt) as line:
+                line.push(large, 16 * large.itemsize)
+                self.same([line.pull()], [large[:8, :8]])
+                line.push(small, 4 * small.itemsize)
+                self.assertEqual(line.error(), f"{path}: a frame is 8 by 8 by its caps, and 4 by 4 "
+                                               "by its GstVideoMeta")
 
     def test_the_first_pipeline_of_the_document(self):
         """It writes the samples that `python3 -m feqyldan run` writes for that frame."""
@@ -380,12 +482,35 @@ class Results(ElementTest):
             self.assertTrue(structure.has_field("results"))
 
     def test_a_graph_without_an_image_passes_the_frame(self):
-        def make(context, width, height):
-            camera, graph = context.image(vx.U8, width, height), context.graph()
-            graph.histogram(camera, context.distribution(256, name="counts"))
-            return graph, camera
-        path, frames = self.save("a.json", make, 9, 9), frames_of(3, 20, 10)
+        path, frames = self.save("a.json", counted, 9, 9), frames_of(3, 20, 10)
         self.same(self.run_line(f"graph={path}", frames), frames)
+
+    def test_the_meta_is_of_the_last_element(self):
+        before, frame = self.save("a.json", measured, 50, 40), frames_of(1, 50, 40)[0]
+        for make, fields in ((counted, ["counts"]), (six, [])):
+            path = self.save("b.json", make, 50, 40)
+            with self.subTest(fields), Line(f"graph={before} output=-", 50, 40,
+                                            after=f"feqyldan graph={path} ! ") as line:
+                line.push(frame)
+                buffer = line.sample().get_buffer()
+                meta = buffer.get_custom_meta("GstFeqyldanMeta")
+                # The results are a part of it, as long as it is there.
+                structure = meta and meta.get_structure()
+                results = structure and structure.get_value("results")
+                self.assertEqual([name for name in ("counts", "extremes")
+                                  if results and results.has_field(name)], fields)
+
+    def test_times_of_a_stream_of_bytes(self):
+        path = self.save("a.json", counted, 40, 50)
+        with open(self.path("frames"), "wb") as file:
+            file.write(bytes(4000))
+        run = subprocess.run(
+            ["gst-launch-1.0", "-m", "filesrc", f"location={self.path('frames')}", "blocksize=2000",
+             "!", caps("GRAY8", 40, 50), "!", "feqyldan", f"graph={path}", "!", "fakesink"],
+            check=True, stdout=subprocess.PIPE, text=True, timeout=PATIENCE)
+        times = re.findall(r"frame=.*stream-time=\(guint64\)(\d+), running-time=\(guint64\)(\d+)",
+                           run.stdout)
+        self.assertEqual(times, [(str(2 ** 64 - 1),) * 2] * 2)
 
 
 class Faults(ElementTest):
@@ -410,13 +535,25 @@ class Faults(ElementTest):
             a={"input": True}, m={"format": "S16"}, n={"format": "S16"})
         both = self.write("e.json", [{"function": "and_", "in1": "a", "in2": "b", "output": "m"}],
                           a={"input": True}, b={"input": True}, m={})
+        large = self.write("l.json", [{"function": "not_", "input": "b", "output": "m"},
+                                      {"function": "not_", "input": "a", "output": "n"}],
+                           a={"input": True}, b={"width": 20}, m={"width": 20}, n={})
+        few = self.save("f.json", counted, 320, 240)
+        named = self.put("n.json", {
+            "feqyldan": 1, "nodes": [{"function": "histogram", "input": "a",
+                                      "distribution": "frame"}],
+            "objects": {"a": {"kind": "image", "format": "U8", "width": 9, "height": 9,
+                              "input": True}, "frame": {"kind": "distribution", "bins": 2}}})
         for element, words in (
                 ("", "the property graph isn't set"), ("graph=/none.json", "/none.json: "),
+                (f"graph={large} output=m", '"m" is 20 by 9, and its input 9 by 9'),
+                (f"graph={named}", '"frame" has the name of another field'),
                 (f"graph={missing} output=-", f"{missing}: node 1: there is no object 'zz'"),
                 (f"graph={cycle} output=m", f"{cycle}: "), (f"graph={deep}", '"m" is U32'),
                 (f"graph={sobel}", "writes the images m, n: choose one by output="),
                 (f"graph={both}", "it has 2 images with"),
                 (f"graph={path} output=camera", "writes the images marks: choose"),
+                (f"graph={few} output=n", 'it writes no image, and output is "n": leave it out'),
                 (f"graph={path} server=/none", "can't start /none: No such file"),
                 (f"graph={path} server=/bin/false", "the server has ended"),
                 (f"graph={path} server=/bin/cat timeout=0.0001", "the timeout is 0.0001"),
@@ -432,12 +569,23 @@ class Faults(ElementTest):
                 "camera": {**image, "input": True}, "out": image,
                 "clean": {**image, "samples": "eJxjYAAAAAIAAQ=="}},
             "nodes": [{"function": "and_", "in1": "camera", "in2": "clean", "output": "out"}]})
-        for fmt, width, words in (("GRAY8", 3, "takes GRAY8 of 2 by 1, and the frames are GRAY8 of "
-                                   "3 by 1"), ("GRAY16_LE", 2, "the frames are GRAY16_LE of 2"),
-                                  ("BGR", 2, "the frames are BGR of 2 by 1")):
-            with self.subTest(words), Line(f"graph={path}", width, 1, fmt) as line:
-                line.push(numpy.zeros((1, width), "uint8"))
-                self.assertIn(words, line.error())
+        simple, size = self.save("b.json", six, 320, 240), "any size up to 8192 by 8192"
+        for graph, fits, asked in (
+                (path, "2 by 1", "video/x-raw, format=(string)GRAY8, width=(int)3, height=(int)1"),
+                (path, "2 by 1", "video/x-raw, format=(string)BGR, width=(int)2, height=(int)1"),
+                (simple, size, "video/x-raw, format=(string)GRAY8, width=(int)9000, height=(int)1"),
+                (simple, size, "video/x-raw, format=(string)GRAY8, width=(int)9"),
+                (simple, size, "video/x-raw(memory:DMABuf), format=(string)GRAY8, width=(int)9, "
+                 "height=(int)9"),
+                (simple, size, "video/x-bayer, format=(string)bggr")):
+            with self.subTest(asked), Line(f"graph={graph}", 2, 1, starts=False) as line:
+                line.source.set_property("caps", Gst.Caps.from_string(asked))
+                line.start()
+                line.push(numpy.zeros((1, 2), "uint8"))
+                self.assertEqual(
+                    line.error(), f'{graph}: its input "camera" takes video/x-raw, GRAY8 of {fits},'
+                    f" and the caps are {asked}: convert the frames by videoconvert and videoscale "
+                    "before the element")
 
     def test_caps_that_an_element_upstream_asks_for(self):
         """The error is that element's own, and a line of the log says what the graph takes."""
@@ -449,10 +597,18 @@ class Faults(ElementTest):
             stdout=subprocess.PIPE, text=True, stderr=subprocess.STDOUT,
             env={**os.environ, "GST_DEBUG": "feqyldan:3", "GST_DEBUG_NO_COLOR": "1"})
         self.assertRegex(run.stdout, r"caps refused: the sink pad takes video/x-raw, "
-                                     r"format=\S*GRAY8, and the caps there are video/x-raw, "
+                                     r"format=\S*GRAY8, .*, and the caps there are video/x-raw, "
                                      r"format=\S*GRAY16_LE")
         self.assertEqual(re.findall("ERROR: from element .*/(.*?):", run.stdout),
                          ["GstVideoTestSrc"])
+
+    def test_an_error_that_is_too_long(self):
+        """A letter of two bytes that is cut isn't one."""
+        for count in (1, 2):
+            path = self.put("a.json", {"feqyldan": 1, "nodes": [], "objects": {
+                "a": {"kind": "x" * count + "\u00e9" * 2000}}})
+            with self.subTest(count), Line(f"graph={path}", 8, 8) as line:
+                self.assertRegex(line.error(), "x\u00e9+.?$")
 
     def test_the_details_of_an_error_without_a_graph_file(self):
         with Line("", 320, 240) as line:
@@ -509,21 +665,25 @@ class Faults(ElementTest):
                 self.assertEqual(line.messages(Gst.MessageType.ERROR), [])
 
 
-class Restarts(ElementTest):
-    """Servers whose replacements fail too."""
+class DoorTest(ElementTest):
+    """Servers behind a socket."""
 
     def setUp(self):
         super().setUp()
         self.frames = frames_of(3, 64, 48)
         self.graph = self.save("a.json", six, 64, 48)
 
-    def door(self, *last):
-        door = Door(self.path("door"), *last)
+    def door(self, *last, **kind):
+        door = Door(self.path("door"), *last, **kind)
         self.addCleanup(door.close)
         return door
 
-    def line(self, more=""):
-        return Line(f"graph={self.graph} server={self.path('door')} {more}", 64, 48)
+    def line(self, more="", **kind):
+        return Line(f"graph={self.graph} server={self.path('door')} {more}", 64, 48, **kind)
+
+
+class Restarts(DoorTest):
+    """Servers whose replacements fail too."""
 
     def warnings(self, line):
         return [message.parse_warning()[0].message
@@ -581,6 +741,34 @@ class Restarts(ElementTest):
                 for words in refused:
                     self.assertIn("can't connect to", words)
 
+    def test_new_caps_while_the_socket_is_away(self):
+        door, small = self.door(), frames_of(1, 32, 24)
+        wanted = self.in_python(self.graph, self.frames[:1], "marks")
+        wanted += self.in_python(self.save("b.json", six, 32, 24), small, "marks")
+        with self.line() as line:
+            line.push(self.frames[0])
+            found = [line.pull()]
+            door.close()
+            line.resize(32, 24)
+            line.push(small[0])
+            time.sleep(0.5)
+            self.door()
+            self.same(found + line.pull_all(), wanted)
+            self.assertIn("the server has ended", self.warnings(line)[0])
+
+    def test_a_server_that_ends_before_its_results_are_read(self):
+        self.graph = self.save("a.json", measured, 64, 48)
+        wanted = self.in_python(self.graph, self.frames, "marks")
+        self.door(READ_DISTRIBUTION)
+        with self.line() as line:
+            for frame in self.frames:
+                line.push(frame)
+            self.same(line.pull_all(), wanted)
+            said = line.messages(Gst.MessageType.WARNING | Gst.MessageType.ELEMENT)
+            self.assertEqual([message.has_name("feqyldan") and
+                              sum(message.get_structure().get_value("counts"))
+                              for message in said], [False] + [64 * 48] * 3)
+
     def test_a_pipeline_that_stops_while_the_element_waits(self):
         for servers in (1, 2):
             door = self.door(*[PROCESS_GRAPH] * 9)
@@ -595,6 +783,61 @@ class Restarts(ElementTest):
                 self.assertLess(time.monotonic() - start, 0.5)
                 self.assertEqual(len(self.warnings(line)), servers)
                 self.assertEqual(line.messages(Gst.MessageType.ERROR), [])
+
+
+class Stops(DoorTest):
+    """Pipelines that stop while the element builds its graph on a server that says nothing."""
+
+    def stop(self, line):
+        start = time.monotonic()
+        line.pipeline.set_state(Gst.State.READY)
+        self.assertLess(time.monotonic() - start, 4)
+        error = line.pipeline.get_bus().pop_filtered(Gst.MessageType.ERROR)
+        self.assertIsNone(error and error.parse_error())
+
+    def test_at_a_socket_of_which_nobody_takes_connections(self):
+        for first in (0, 1):
+            with self.subTest(first), socket.socket(socket.AF_UNIX) as listener, \
+                    socket.socket(socket.AF_UNIX) as other:
+                with contextlib.suppress(FileNotFoundError):
+                    os.unlink(self.path("door"))
+                listener.bind(self.path("door"))
+                listener.listen(0)
+                # It fills the queue.
+                if first:
+                    other.connect(self.path("door"))
+                with self.line("timeout=9") as line:
+                    line.push(self.frames[0])
+                    time.sleep(0.3)
+                    self.stop(line)
+
+    def test_at_a_request_of_the_graph(self):
+        for servers in (1, 2):
+            door = self.door(*[ADD_NODE] * 9, is_silent=True)
+            with self.subTest(servers), self.line(f"timeout=9 servers={servers}") as line:
+                line.push(self.frames[0])
+                while door.ended < 1:
+                    time.sleep(0.01)
+                self.stop(line)
+                self.assertEqual(len(door.connections), 1)
+
+    def test_before_the_first_caps(self):
+        door, caps_came = self.door(ADD_NODE, is_silent=True), threading.Event()
+
+        def stop_at_caps(pad, info):
+            if info.get_event().type == Gst.EventType.CAPS:
+                caps_came.set()
+                while pad.get_parent_element().next_state != Gst.State.READY:
+                    time.sleep(0.01)
+                time.sleep(0.2)
+            return Gst.PadProbeReturn.OK
+        with self.line("timeout=9", starts=False) as line:
+            line.pipeline.get_by_name("t").get_static_pad("sink").add_probe(
+                Gst.PadProbeType.EVENT_DOWNSTREAM, stop_at_caps)
+            line.start()
+            caps_came.wait()
+            self.stop(line)
+            self.assertEqual(door.ended, 0)
 
 
 class Streams(ElementTest):
@@ -648,6 +891,23 @@ class Streams(ElementTest):
             with self.subTest(servers):
                 self.same(self.run_line(f"graph={path} servers={servers}", frames), wanted)
 
+    def test_a_drain_query_pushes_the_frames_under_way(self):
+        path, frames = self.save("a.json", six, 64, 48), frames_of(2, 64, 48)
+        with Line(f"graph={path} servers=4", 64, 48) as line:
+            pad, found = line.pipeline.get_by_name("t").get_static_pad("sink"), []
+
+            # An appsink answers it when its frames are taken.
+            def drain():
+                while len(found) < len(frames):
+                    pad.query(Gst.Query.new_drain())
+                    time.sleep(0.01)
+            for frame in frames:
+                line.push(frame)
+            threading.Thread(target=drain, daemon=True).start()
+            for _ in frames:
+                found.append(line.pull(5))
+            self.same(found, self.in_python(path, frames, "marks"))
+
     def test_the_server_in_the_process(self):
         library = c_tests.run.core("so")
         if not os.path.exists(library):
@@ -663,6 +923,34 @@ class Streams(ElementTest):
                     found = [line.pull()]
                     self.assertEqual(self.servers(), [])
                     self.same(found + line.pull_all(), wanted)
+
+    def test_properties_that_are_set_while_the_element_runs(self):
+        """They are for its next start: a new server is the same program, and a delay has one."""
+        path, frames = self.save("a.json", motion, 64, 48), frames_of(4, 64, 48)
+        small = frames_of(4, 32, 24)
+        wanted = self.in_python(path, frames[:2], "moved")[1:]
+        wanted += self.in_python(path, frames[2:], "moved")[1:]
+        wanted += self.in_python(self.save("b.json", motion, 32, 24), small, "moved")[1:]
+        with Line(f"graph={path} server={PROGRAM}", 64, 48) as line:
+            for frame in frames[:2]:
+                line.push(frame)
+            found = [line.pull()]
+            element = line.pipeline.get_by_name("t")
+            for name, value in (("graph", "/none.json"), ("server", "/none"), ("servers", 2)):
+                element.set_property(name, value)
+                self.assertEqual(element.get_property(name), value)
+            os.kill(self.servers()[0], signal.SIGKILL)
+            for frame in frames[2:]:
+                line.push(frame)
+            line.resize(32, 24)
+            for frame in small:
+                line.push(frame)
+            self.same(found + line.pull_all(), wanted)
+            warning, = line.messages(Gst.MessageType.WARNING)
+            self.assertTrue(warning.parse_warning()[0].message.startswith(f"{path}: the server"))
+            line.pipeline.set_state(Gst.State.READY)
+            line.start()
+            self.assertIn("/none.json: ", line.error())
 
     def test_which_server_is_refused(self):
         path = self.save("a.json", six, 320, 240)
@@ -732,18 +1020,40 @@ class Plugin(ElementTest):
         for name in ("graph", "output", "server", "timeout", "servers", "gray16"):
             self.assertRegex(run.stdout, rf"\n  {name} +: \S+ \S+")
 
-    def harness(self, *flags):
-        """The path of the program with a GstHarness."""
-        path = os.path.join(folder, "harness")
-        subprocess.run(["cc", "-g", *flags, os.path.join(HERE, "harness.c"), "-o", path,
-                        *c_tests.flags_of("gstreamer-check-1.0")], check=True)
+    def build(self, name, package, *flags):
+        """The path of a test program."""
+        path = os.path.join(folder, name)
+        subprocess.run(["cc", "-g", *flags, os.path.join(HERE, f"{name}.c"), "-o", path,
+                        *c_tests.flags_of(package)], check=True)
         return path
+
+    def harness(self, *flags):
+        return self.build("harness", "gstreamer-check-1.0", *flags)
 
     def test_a_harness(self):
         path = self.save("a.json", motion, 32, 24)
         said = subprocess.run([self.harness(), f"feqyldan graph={path}"], check=True,
                               stdout=subprocess.PIPE, text=True, timeout=PATIENCE).stdout
         self.assertEqual(said.split(), ["none", "0", "0", "255", "255", "none", "0"])
+
+    def test_where_no_thread_can_be_made(self):
+        path = self.save("a.json", six, 32, 24)
+        said = subprocess.run(
+            [self.harness("-DNO_THREADS"), f"feqyldan graph={path} servers=2"], check=True,
+            stdout=subprocess.PIPE, text=True, timeout=PATIENCE).stdout
+        self.assertEqual(said.split(), ["not-negotiated"] * 7)
+
+    def test_pools_of_few_buffers(self):
+        path, program = self.save("a.json", six, 64, 48), self.build("pools", "gstreamer-video-1.0")
+        line = (f"videotestsrc num-buffers=9 ! {caps('GRAY8', 64, 48)} ! feqyldan name=t "
+                f"graph={path} servers=4")
+        for words in ([f"{line} ! fakesink", "src"], [f"{line} ! fakesink", "src", "strict"],
+                      [f"{line} ! fakesink", "sink"], [f"{line} output=- ! fakesink", "src"],
+                      [f"{line} output=- ! fakesink", "sink"]):
+            with self.subTest(words[1:]):
+                run = subprocess.run([program, *words], check=True, stdout=subprocess.PIPE,
+                                     text=True, timeout=PATIENCE)
+                self.assertEqual(run.stdout, "eos\n")
 
     def test_valgrind_is_silent(self):
         if shutil.which("valgrind") is None:

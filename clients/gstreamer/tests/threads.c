@@ -1,5 +1,5 @@
 /* Runs pipelines that have the element "t", while the main thread seeks and stops them and
-   another one queries the element.
+   another one queries the element and sets a property of it.
    Prints errors. The element and the C library are linked in, so that the sanitizer of threads sees
    what they read and write: threads "videotestsrc ! feqyldan name=t graph=six.json ! fakesink". */
 #include <gst/gst.h>
@@ -74,6 +74,13 @@ static void query(GstElement *element, const char *name) {
     gst_object_unref(pad);
 }
 
+static void set_again(GstElement *element) {
+    char *graph;
+    g_object_get(element, "graph", &graph, NULL);
+    g_object_set(element, "graph", graph, NULL);
+    g_free(graph);
+}
+
 static gint is_over;
 
 /* Asks an element while others run, start and stop it. */
@@ -81,6 +88,7 @@ static gpointer ask(gpointer element) {
     while (!g_atomic_int_get(&is_over)) {
         query(element, "sink");
         query(element, "src");
+        set_again(element);
         g_usleep(STEP_MICROSECONDS / 4);
     }
     return NULL;
