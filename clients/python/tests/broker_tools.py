@@ -21,10 +21,10 @@ sys.path[:0] = [HERE, PACKAGE, os.path.join(HERE, "..", "..", "..", "tools")]
 import feqyldan as vx  # noqa: E402
 from feqyldan import program, wire  # noqa: E402
 from plain_server import HOLD, WHO_ASKED  # noqa: E402
+from program import PROGRAM  # noqa: E402
 
 if os.environ.get("FEQYLDAN_CORE"):
     raise unittest.SkipTest("FEQYLDAN_CORE is set: a door and a broker have servers of their own")
-PROGRAM = os.environ.get("FEQYLDAN_PROGRAM")
 
 
 def found_library() -> Optional[str]:
@@ -45,6 +45,13 @@ REAL: List[str] = []
 LATE = 60.0
 # The client number that programs send, unless a test says otherwise.
 CLIENT = 7
+
+
+def listens_at(path: str) -> bool:
+    """Returns whether a program listens at a socket: the file is there somewhat earlier."""
+    with open("/proc/net/unix", encoding="utf-8", errors="replace") as file:
+        found = [line.split() for line in file]
+    return any(words[3] == "00010000" and words[-1] == path for words in found)
 
 
 class Program:

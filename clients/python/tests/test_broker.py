@@ -85,7 +85,7 @@ class Frames(BrokerTest):
         """Those whose time grows with their frames, and those on few samples."""
         here, there = socket.socketpair()
         with here, there:
-            incoming = Incoming(2**20, Total(2**20), Descriptors(True))
+            incoming = Incoming(2**20, Total(2**20), Descriptors())
 
             def is_quick(frame: bytes) -> bool:
                 there.sendall(frame)

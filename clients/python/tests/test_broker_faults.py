@@ -12,6 +12,7 @@ import signal
 import socket
 import struct
 import subprocess
+import sys
 import tempfile
 import time
 import unittest
@@ -19,17 +20,69 @@ from typing import Any, List, Tuple
 from unittest import mock
 
 from broker_tools import (
-    LATE, Broker, BrokerTest, Door, Program, files_of, peak_bytes, plain, success)
+    LATE, Broker, BrokerTest, Door, Program, files_of, listens_at, peak_bytes, plain, success)
 from feqyldan import wire
 from feqyldan.broker.incoming import SHARED_TURN_BYTES
 from feqyldan.service import descriptors, listener
+from feqyldan.service.admission import ACCEPT_PAUSE
+from feqyldan.service.front import Front
 from feqyldan.service.lines import Unusable
 from plain_server import HOLD, MANY_BYTES, WAIT
 
+# Lets the system watch no further descriptor while a file exists, as if the user had as many in
+# epoll as allowed.
+WATCHES_NO_MORE = """
+import os
+from feqyldan.service.events import Events
+watch, watch_end = Events.watch, Events.watch_end
+def unless_full(method):
+    def watch(self, descriptor, wanted, *words):
+        if wanted and descriptor not in self.handlers and os.path.exists({!r}):
+            raise OSError(28, "no space for a watch")
+        method(self, descriptor, wanted, *words)
+    return watch
+Events.watch, Events.watch_end = map(unless_full, (Events.watch, Events.watch_end))
+"""
+# Has no memory for another watched descriptor at the first try, while a file exists.
+NEEDS_MEMORY_TO_WATCH = """
+import os
+from feqyldan.service.events import Events
+class Handlers(dict):
+    tried = None
+    def __setitem__(self, descriptor, handler):
+        if os.path.exists({!r}) and descriptor not in self and descriptor != self.tried:
+            self.tried = descriptor
+            raise MemoryError
+        super().__setitem__(descriptor, handler)
+begin = Events.__init__
+def begin_without(self, *words):
+    begin(self, *words)
+    self.handlers = Handlers()
+Events.__init__ = begin_without
+"""
 # Seconds that closing a descriptor takes, and seconds within which other programs must have their
 # answers.
 LINGER, SOON = 60, 20.0
 SHORT = wire.QUERY_IMAGE
+# Listens at both sockets of a command's words, and hands them over to it, as systemd does, when the
+# socket's path has .go after it.
+HANDS_OVER = """
+import os, socket, sys, time
+words, held = sys.argv[1:], []
+for option in ("--socket", "--status"):
+    held.append(socket.socket(socket.AF_UNIX))
+    held[-1].bind(words[words.index(option) + 1])
+    held[-1].listen(50)
+while not os.path.exists(words[words.index("--socket") + 1] + ".go"):
+    time.sleep(0.01)
+for k, sock in enumerate(held):
+    os.dup2(sock.fileno(), 100 + k)
+for k in range(2):
+    os.dup2(100 + k, 3 + k)
+    os.close(100 + k)
+os.environ.update(LISTEN_FDS="2", LISTEN_PID=str(os.getpid()))
+os.execvp(words[0], words)
+"""
 
 
 def refusing() -> bool:
@@ -127,6 +180,44 @@ class Descriptors(BrokerTest):
             self.assertTrue(broker.wait_for(lambda: files_of(broker.process.pid) < files))
             self.assertEqual(broker.stop(), 0)
 
+    def test_they_are_closed_elsewhere_on_connections_from_before_it_began(self) -> None:
+        """Linux can't refuse those that were sent to a socket before its new owner asked for it:
+        those of a connection, of one that is turned away, and of one that asks for the state."""
+        for self.kind in (Broker, Door):
+            broker = self.begin_any("--connections", "2", tells_state=True,
+                                    before=(sys.executable, "-c", HANDS_OVER))
+            self.assertTrue(broker.wait_for(lambda: accepts(broker.status_path)))
+            honest, program, away = (self.connect(broker) for _ in range(3))
+            with socket.socket(socket.AF_UNIX) as asker:
+                asker.connect(broker.status_path)
+                for sock, data in ((program.sock, plain(1) * 2), (away.sock, plain(1)),
+                                   (asker, b"x")):
+                    lingering = Lingering(3)
+                    self.addCleanup(lingering.close)
+                    lingering.send(sock, data)
+                with open(f"{broker.path}.go", "w"):
+                    pass
+                honest.sock.settimeout(SOON)
+                self.assertEqual(honest.ask(plain(1)), success(1))
+                self.is_answered(broker, honest)
+            for sock in (program.sock, away.sock):
+                sock.close()
+            self.is_answered(broker, honest)
+            self.assertEqual(broker.stop(), 0)
+
+    def test_no_connection_comes_before_they_are_refused(self) -> None:
+        listens: List[int] = []
+
+        def refuse(sock: socket.socket) -> bool:
+            listens.append(sock.getsockopt(socket.SOL_SOCKET, socket.SO_ACCEPTCONN))
+            return True
+
+        with tempfile.TemporaryDirectory() as folder, \
+                mock.patch.object(listener, "refuse", refuse):
+            listener.listen_at(os.path.join(folder, "socket"),
+                               0o600).close(descriptors.Descriptors())
+        self.assertEqual(listens, [0])
+
     def test_they_wait_in_a_connection_that_was_never_accepted(self) -> None:
         """They don't delay the end of a broker or a door."""
         for self.kind in (Broker, Door):
@@ -168,6 +259,27 @@ class EarlySignals(unittest.TestCase):
                 self.assertEqual(os.listdir(broker.folder.name), ["log"])
 
 
+# Gets a signal when it closes its sockets.
+WITH_LATE_SIGNAL = """
+import os, signal
+from feqyldan.service.front import Front
+close = Front.close
+def close_after_a_signal(self):
+    for number in (signal.SIGTERM, signal.SIGINT, signal.SIGHUP):
+        os.kill(os.getpid(), number)
+    close(self)
+Front.close = close_after_a_signal
+"""
+
+
+class LateSignals(BrokerTest):
+    def test_while_the_sockets_are_closed(self) -> None:
+        for self.kind in (Broker, Door):
+            broker = self.begin(tells_state=True, prelude=WITH_LATE_SIGNAL)
+            self.assertEqual(broker.stop(), 0)
+            self.assertEqual(os.listdir(broker.folder.name), ["log"])
+
+
 class StandardError(BrokerTest):
     """Lines on standard error never wait for their reader."""
 
@@ -207,7 +319,7 @@ class StandardError(BrokerTest):
         for self.kind in (Broker, Door):
             with open("/dev/full", "w") as full:
                 broker = self.begin_any(stderr=full, tells_state=True)
-            self.assertTrue(broker.wait_for(lambda: os.path.exists(broker.status_path)))
+            self.assertTrue(broker.wait_for(lambda: listens_at(broker.status_path)))
             for _ in range(30):
                 self.bad(broker)
             self.assertEqual(self.connect(broker).ask(plain(50)), success(50))
@@ -364,7 +476,7 @@ def listen_together(path: str, barrier: Any, heard: Any, is_over: Any) -> None:
     else:
         heard.put("listens")
         is_over.wait()
-        listening.close(descriptors.Descriptors(listening.refuses_descriptors))
+        listening.close(descriptors.Descriptors())
 
 
 class Beginning(BrokerTest):
@@ -392,6 +504,54 @@ class Beginning(BrokerTest):
                 refused = f"another program listens at {path}: end it, or choose another path"
                 self.assertEqual(said, [refused] * 2 + ["listens"])
             self.assertEqual(os.listdir(folder), [])
+
+    def test_the_end_removes_no_other_program_s_socket(self) -> None:
+        """Not even if its file has the number that the file of the one that ends had."""
+        with tempfile.TemporaryDirectory() as folder:
+            path, nothing = os.path.join(folder, "socket"), descriptors.Descriptors()
+            first = listener.listen_at(path, 0o600)
+            first.close(nothing)
+            other = listener.listen_at(path, 0o600)
+            # As at the end of a broker or a door, after the grace.
+            first.close(nothing)
+            self.assertTrue(accepts(path))
+            other.close(nothing)
+            self.assertEqual(os.listdir(folder), [])
+
+    def test_nothing_is_left_where_the_group_is_refused(self) -> None:
+        with tempfile.TemporaryDirectory() as folder:
+            with mock.patch("os.chown", side_effect=PermissionError(1, "not permitted")):
+                with self.assertRaisesRegex(Unusable, "can't listen at .*: not permitted"):
+                    listener.listen_at(os.path.join(folder, "socket"), 0o600, 5)
+            self.assertEqual(os.listdir(folder), [])
+
+    @unittest.skipIf(os.geteuid(), "root alone gives a file to any group")
+    def test_no_link_at_the_path_leads_to_another_file_s_group(self) -> None:
+        with tempfile.TemporaryDirectory() as folder:
+            path, other = os.path.join(folder, "socket"), os.path.join(folder, "other")
+            with open(other, "w"):
+                pass
+
+            def bind(_sock: socket.socket, path: str) -> None:
+                os.symlink(other, path)
+
+            before = os.stat(other).st_gid
+            with mock.patch.multiple(socket.socket, bind=bind, listen=mock.DEFAULT):
+                listener.listen_at(path, 0o600, before + 1).sock.close()
+            self.assertEqual(os.stat(other).st_gid, before)
+
+    def test_a_path_that_cant_be_tried_or_locked(self) -> None:
+        with tempfile.TemporaryDirectory() as folder:
+            path, directory = os.path.join(folder, "s" * 107), os.open(folder, os.O_RDONLY)
+            self.addCleanup(os.close, directory)
+            with socket.socket(socket.AF_UNIX) as stale:
+                stale.bind(f"/proc/self/fd/{directory}/{'s' * 107}"[:107])
+            os.rename(os.path.join(folder, os.listdir(folder)[0]), path)
+            with self.assertRaisesRegex(Unusable, "can't listen at .*: AF_UNIX path too long"):
+                listener.listen_at(path, 0o600)
+            with mock.patch("fcntl.flock", side_effect=OSError(95, "not supported")):
+                with self.assertRaisesRegex(Unusable, r"can't lock .*\.lock: not supported"):
+                    listener.listen_at(path, 0o600)
 
     def test_a_lock_that_is_held(self) -> None:
         with tempfile.TemporaryDirectory() as folder:
@@ -432,6 +592,54 @@ class Beginning(BrokerTest):
         programs = [self.connect(broker) for _ in range(40)]
         self.assertEqual([program.ask(plain(1)) for program in programs], [success(1)] * 40)
         self.assertNotIn("Too many open files", broker.words())
+
+    def test_what_cant_be_watched_ends_alone(self) -> None:
+        for self.kind in (Broker, Door):
+            with tempfile.TemporaryDirectory() as folder:
+                full = os.path.join(folder, "full")
+                broker = self.begin("--connections", "2", tells_state=True,
+                                    prelude=WATCHES_NO_MORE.format(full))
+                honest = self.connect(broker)
+                self.assertEqual(honest.ask(plain(1)), success(1))
+                with open(full, "w"):
+                    self.assertTrue(self.connect(broker).has_ended())
+                    self.assertTrue(broker.says("can't be watched: [Errno 28]"))
+                with socket.socket(socket.AF_UNIX) as asks:
+                    asks.connect(broker.status_path)
+                    self.assertEqual(asks.recv(1), b"")
+                self.assertEqual(honest.ask(plain(50)), success(50))
+                os.unlink(full)
+                self.assertTrue(broker.wait_for(
+                    lambda: broker.state()["connections"]["open"] == 1))
+                self.assertEqual(self.connect(broker).ask(plain(1)), success(1))
+                with open(full, "w"):
+                    # One that is turned away.
+                    self.assertTrue(self.connect(broker).has_ended())
+                self.assertEqual(honest.ask(plain(50)), success(50))
+                os.unlink(full)
+                self.assertGreater(broker.state()["uptime_seconds"], 0)
+
+    def test_no_memory_to_watch_a_connection_is_no_end(self) -> None:
+        """Neither of one that asks for the state: the reserve has some."""
+        with tempfile.TemporaryDirectory() as folder:
+            full = os.path.join(folder, "full")
+            broker = self.begin(tells_state=True, prelude=NEEDS_MEMORY_TO_WATCH.format(full))
+            with open(full, "w"):
+                pass
+            self.assertEqual(self.connect(broker).ask(plain(1)), success(1))
+            self.assertEqual(broker.state()["connections"]["open"], 1)
+
+    def test_a_listening_socket_that_cant_be_watched_is_tried_again(self) -> None:
+        front = mock.Mock(now=5.0, accepts_from=0.0, is_listening=False)
+        front.may_listen.return_value = True
+        front.pause = lambda error: Front.pause(front, error)
+        front.events.watch.side_effect = OSError(28, "no space for a watch")
+        Front.listen_or_not(front)
+        self.assertEqual((front.is_listening, front.accepts_from), (False, 5.0 + ACCEPT_PAUSE))
+        front.events.watch.side_effect = None
+        for front.now, listens in ((5.5, False), (6.0, True)):
+            Front.listen_or_not(front)
+            self.assertEqual(front.is_listening, listens)
 
     def test_no_loop_spins_where_no_file_is_left(self) -> None:
         """Not even if more connections ask for the state than there are files."""

@@ -18,12 +18,15 @@ import threading
 import time
 import traceback
 import unittest
+from types import SimpleNamespace
 from typing import Any, Callable, Dict, Iterable, Iterator, List, Set, Tuple
 from unittest import mock
 
 from broker_tools import (
-    CLIENT, LATE, PROGRAM, REAL, Broker, BrokerTest, Program, needs_library, passes_longest)
+    CLIENT, LATE, PROGRAM, REAL, Broker, BrokerTest, Program, listens_at, needs_library,
+    passes_longest)
 from documents import programs_in
+from program import closing_each
 from feqyldan import wire
 import feqyldan as vx
 
@@ -204,7 +207,7 @@ class Crowd(BrokerTest):
         """Serves all of them, and checks what each reports of its replies."""
         broker = self.begin_any(*self.OPTIONS, *options, command=[str(PROGRAM), "serve"],
                                 tells_state=True, **keywords)
-        self.assertTrue(broker.wait_for(lambda: os.path.exists(broker.status_path)))
+        self.assertTrue(broker.wait_for(lambda: listens_at(broker.status_path)))
         processes = multiprocessing.get_context("fork")
         is_over = processes.Event()
         roles = [role for role, count in HOSTILE.items() for _ in range(count)]
@@ -300,18 +303,33 @@ class ThePackage(BrokerTest):
         """By the programs in docs/deploying.md and docs/python.md: each picture is answered once
         and in order, also where the broker is killed, or told to end, in between. They end with
         their pictures."""
-        program: Dict[str, Any] = {"vx": vx, "Callable": Callable, "Iterable": Iterable,
-                                   "Iterator": Iterator}
-        exec(programs_in("docs", "deploying.md")["When a server ends"][0], program)
-        exec(programs_in("docs", "python.md")["A robot that survives the end of a server"][0],
-             program)
-
-        def station(path: str, build: Any, pictures: Any) -> Iterator[Any]:
-            program["build"] = build
-            return iter(program["station"](path, pictures))
-
-        for run in (station, program["robot"]):
+        for run, pauses in self.programs():
             self.run_through_ends(run)
+            self.assertEqual(pauses, [1, 1])
+
+    def test_a_context_that_no_server_serves(self) -> None:
+        """The same programs give up where each connection is closed, as by systemd if none is
+        free: the early one and the new one."""
+        for run, pauses in self.programs():
+            with closing_each() as (path, came), self.assertRaises(vx.ServerEnded):
+                list(run(path, lambda _: self.fail("it has no context"), iter([b"1234"])))
+            self.assertEqual((len(came), pauses), (2, []))
+
+    def programs(self) -> Iterator[Tuple[Callable[..., Iterator[Any]], List[float]]]:
+        """Yields the program of each document, and the pauses that it makes."""
+        for document, heading in (("deploying.md", "When a server ends"),
+                                  ("python.md", "A robot that survives the end of a server")):
+            pauses: List[float] = []
+            program: Dict[str, Any] = {"vx": vx, "Callable": Callable, "Iterable": Iterable,
+                                       "Iterator": Iterator,
+                                       "time": SimpleNamespace(sleep=pauses.append)}
+            exec(programs_in("docs", document)[heading][0], program)
+
+            def station(path: str, build: Any, pictures: Any) -> Iterator[Any]:
+                program["build"] = build
+                return iter(program["station"](path, pictures))
+
+            yield program.get("robot", station), pauses
 
     def run_through_ends(self, run: Callable[..., Iterator[Any]]) -> None:
         broker = self.begin(command=REAL, tells_state=True)

@@ -1,6 +1,8 @@
 """The broker's servers, its start and end, and what it reports to an operator: with a plain server
 (plain_library.py), and with the server's library if there is one."""
 
+import contextlib
+import ctypes
 import json
 import os
 import re
@@ -12,6 +14,7 @@ import struct
 import subprocess
 import sys
 import tempfile
+import threading
 import unittest
 from collections import deque
 from typing import IO, Any, Dict, Union
@@ -23,10 +26,11 @@ from broker_tools import (
 from feqyldan import wire
 import feqyldan as vx
 from feqyldan.service import machine
+from feqyldan.service.manager import Manager
 from feqyldan.service.options import part_of_memory
 from feqyldan.broker.command_line import servers_unless_told
 from feqyldan.broker.memory import MEMORY_PART
-from feqyldan.broker.server import ARRIVAL_TURNS, Server
+from feqyldan.broker.server import ARRIVAL_TURNS, OK, SHORT_REPLY, TOO_SHORT, Library, Server
 from plain_server import HOLD, MANY_BYTES, REFUSE, WHO_ASKED
 
 # What a line says of this program's connections.
@@ -235,6 +239,24 @@ plain_library.PlainLibrary.connect = lambda self: None if next(refused) else con
         self.assertEqual([program.ask(plain(50)) for _ in range(3)],
                          [refusal, refusal, success(50)])
 
+    def test_no_memory_for_a_reply_whose_length_is_known_is_no_end(self) -> None:
+        """A long reply takes a second call, for which the server may have no memory."""
+        refusal = wire.reply_frame(CLIENT, wire.READ_DISTRIBUTION, wire.NO_MEMORY)
+        with mock.patch("feqyldan.broker.server.Core") as core:
+            library = Library("", 1, 1)
+        for size in (SHORT_REPLY + 1, 1_000_000):
+            lengths = iter((size, len(refusal)))
+
+            def serve(*words: Any) -> int:
+                library.length.value = next(lengths)
+                if library.length.value > SHORT_REPLY:
+                    return TOO_SHORT
+                ctypes.memmove(words[6], refusal, len(refusal))
+                return OK
+
+            core().serve.side_effect = serve
+            self.assertEqual(library.answer(1, b"frame", memoryview(b""), size), refusal)
+
     def test_the_reserve_is_for_what_asks_for_it(self) -> None:
         ended = subprocess.run([sys.executable, "-c", USES_RESERVE], timeout=LATE,
                                stdout=subprocess.PIPE, env={**os.environ, "PYTHONPATH": PACKAGE})
@@ -388,12 +410,13 @@ class Status(BrokerTest):
         head, _, body = self.page(broker, "/status").partition("\r\n\r\n")
         self.assertEqual(json.loads(body)["requests"], 1)
         self.assertTrue(self.page(broker, "/other").startswith("HTTP/1.0 404 "))
+        self.assertTrue(self.page(broker, "/status", "POST").startswith("HTTP/1.0 405 "))
 
-    def page(self, broker: Broker, path: str) -> str:
+    def page(self, broker: Broker, path: str, method: str = "GET") -> str:
         with socket.socket(socket.AF_UNIX, socket.SOCK_STREAM) as sock:
             sock.settimeout(LATE)
             sock.connect(broker.status_path)
-            sock.sendall(f"GET {path} HTTP/1.1\r\nHost: here\r\n\r\n".encode())
+            sock.sendall(f"{method} {path} HTTP/1.1\r\nHost: here\r\n\r\n".encode())
             return all_of(sock).decode()
 
     def test_who_asks_and_says_nothing_is_ended(self) -> None:
@@ -492,6 +515,15 @@ class Beginning(BrokerTest):
         self.assertEqual(self.begin_any(path="/no/such/folder/socket").status(), 2)
         self.assertEqual(self.begin_any(path="/tmp/" + "x" * 200).status(), 2)
 
+    def test_too_few_threads_end_it_with_words(self) -> None:
+        broker = self.begin_any("--servers", "256", tells_state=True, before=(
+            "sh", "-c", 'ulimit -s 8192 && ulimit -v 1000000 && exec "$@"', "sh"))
+        self.assertEqual(broker.status(), 2)
+        self.assertIn("feqyldan broker: can't start a thread for each of 256 servers: ",
+                      broker.words())
+        self.assertNotIn("Traceback", broker.words())
+        self.assertEqual(os.listdir(broker.folder.name), ["log"])
+
     def test_what_is_refused_is_refused_with_words(self) -> None:
         for options, words in (
                 (("--longest", "5"), "--longest is refused: a request can't be interrupted"),
@@ -525,6 +557,44 @@ class Beginning(BrokerTest):
                 "FEQYLDAN_CORE": "libfeqyldan-core.so.0", "LD_LIBRARY_PATH": folder})
             self.assertEqual(self.connect(broker).ask(wire.open_context(CLIENT)),
                              success(wire.OPEN_CONTEXT))
+
+    def test_what_others_send_a_service_manager_keeps_no_sign_of_life_away(self) -> None:
+        with tempfile.TemporaryDirectory() as folder, socket.socket(
+                socket.AF_UNIX, socket.SOCK_DGRAM) as taker, socket.socket(
+                socket.AF_UNIX, socket.SOCK_DGRAM) as flood:
+            path = os.path.join(folder, "notify")
+            taker.bind(path)
+            taker.settimeout(LATE)
+            with mock.patch.dict(os.environ, {"NOTIFY_SOCKET": path, "WATCHDOG_USEC": "2000000"}):
+                manager = Manager()
+
+            def fill() -> None:
+                flood.setblocking(False)
+                with contextlib.suppress(BlockingIOError):
+                    while True:
+                        flood.sendto(b"x", path)
+
+            # One that the manager takes no message of is sent again at once.
+            fill()
+            for _ in range(2):
+                manager.is_alive()
+                self.assertEqual(manager.told_at, 0.0)
+            # One that has to wait for another one's message is sent after it.
+            taken = threading.Timer(0.2, taker.recv, [9])
+            taken.start()
+            with mock.patch("feqyldan.service.manager.START_WAIT", LATE):
+                manager.is_listening()
+            taken.join()
+            taker.setblocking(False)
+            with self.assertRaises(BlockingIOError):
+                found = []
+                while True:
+                    found.append(taker.recv(9))
+            self.assertEqual(found[-1], b"READY=1")
+            manager.is_alive()
+            self.assertEqual(taker.recv(10), b"WATCHDOG=1")
+            manager.is_alive()
+            self.assertGreater(manager.told_at, 0.0)
 
     def test_a_service_manager_is_told_when_it_listens(self) -> None:
         with tempfile.TemporaryDirectory() as folder, socket.socket(socket.AF_UNIX,

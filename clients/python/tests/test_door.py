@@ -3,8 +3,10 @@
 its path."""
 
 import concurrent.futures
+import contextlib
 import os
 import re
+import select
 import signal
 import socket
 import stat
@@ -12,6 +14,7 @@ import struct
 import subprocess
 import sys
 import tempfile
+import threading
 import time
 import unittest
 import unittest.mock
@@ -22,16 +25,19 @@ from broker_tools import (
     files_of, plain, runs, success)
 import feqyldan as vx
 from feqyldan import program, wire
-from feqyldan.door.program import chosen
+from feqyldan.door.program import Program as ServerProgram, chosen
+from feqyldan.door.server import set_time
+from feqyldan.door.starter import Starter
 from feqyldan.door.starting import NICE
 from feqyldan.door.trial import TRIAL_SECONDS
 from feqyldan.door.waiting import USERS, Waiting
-from feqyldan.service.admission import Owner
+from feqyldan.service.admission import MOST_TOLD, Accepted, Admission, Owner
 from feqyldan.service.descriptors import Descriptors
 from feqyldan.service.events import Events
-from feqyldan.service.lines import Unusable
+from feqyldan.service.lines import LINES_OF_A_USER, Lines, Unusable
 from feqyldan.service.listener import listen_at
-from feqyldan.service.visitors import StatusSocket, Visitors
+from feqyldan.service.peers import Peer, Ranges
+from feqyldan.service.visitors import VISITORS_AT_ONCE, StatusSocket, Visitors
 from plain_server import EXIT, HOLD, MANY_BYTES, MISTAKE, WHO_ASKED
 
 # A door that looks for no events while the file `pause` of a folder exists. It makes the file
@@ -64,6 +70,12 @@ class Way:
         time.sleep(1)
 door.Programs(1, lambda context: lambda: None, Way(), 0.01).ended()
 print(multiprocessing.active_children())
+"""
+# A program whose name isn't in any encoding.
+NAMES_ITSELF = """
+import ctypes, sys
+ctypes.CDLL(None).prctl(15, b"\\xff", 0, 0, 0)
+sys.stdin.read()
 """
 needs_program = unittest.skipUnless(PROGRAM, "FEQYLDAN_PROGRAM doesn't name the server's program")
 
@@ -299,6 +311,22 @@ class Ends(DoorTest):
         asker.sock.close()
         self.assertTrue(again.wait_for(lambda: not runs(server)))
 
+    def test_nothing_is_said_where_the_door_is_killed(self) -> None:
+        """Not even if it hasn't read that a server has ended."""
+        door = self.begin(tells_state=True)
+        self.assertEqual(self.connect(door).ask(plain(1)), success(1))
+        server, starter = self.server_of(door), door.starter
+        door.process.send_signal(signal.SIGSTOP)
+        os.kill(server, signal.SIGKILL)
+        self.assertTrue(door.wait_for(lambda: not os.path.exists(f"/proc/{server}")))
+        time.sleep(0.1)
+        door.process.kill()
+        door.process.wait()
+        end = time.monotonic() + LATE
+        while runs(starter) and time.monotonic() < end:
+            time.sleep(0.01)
+        self.assertNotIn("Traceback", door.words())
+
     def test_programs_go_on_where_the_process_that_starts_servers_is_killed(self) -> None:
         door = self.begin()
         asker = self.connect(door)
@@ -307,6 +335,101 @@ class Ends(DoorTest):
         self.assertEqual(door.status(), 2)
         self.assertIn("the process that starts the servers has ended", door.words())
         self.assertEqual(asker.ask(plain(50)), success(50))
+
+
+class OneEnd(unittest.TestCase):
+    def test_a_wait_whose_time_is_over_is_none(self) -> None:
+        starter = Starter.__new__(Starter)
+        starter.sock, other = socket.socketpair()
+        with starter.sock, other:
+            late = threading.Timer(1.0, other.send, [b"x"])
+            late.start()
+            self.assertEqual(starter.wait(select.POLLIN, -1e-6), 0)
+            late.join()
+
+    def test_the_shortest_time_is_not_without_end(self) -> None:
+        here, there = socket.socketpair()
+        with here, there:
+            for seconds, told in ((1e-9, (0, 1)), (0.25, (0, 250_000)), (1e6, (1_000_000, 0))):
+                with unittest.mock.patch.object(socket.socket, "setsockopt") as called:
+                    set_time(here, socket.SO_RCVTIMEO, seconds)
+                self.assertEqual(struct.unpack("@ll", called.call_args[0][2]), told)
+
+
+class Admissions(unittest.TestCase):
+    """Whom the connections of the users in a user's range count for."""
+
+    def setUp(self) -> None:
+        events, lines = Events(), Lines("test")
+        self.addCleanup(events.close)
+        self.admission = Admission(2, 64, Accepted(), lines, events, Descriptors())
+        self.addCleanup(self.admission.turned_away.end_all)
+        said = unittest.mock.patch.object(lines, "say")
+        self.say = said.start()
+        self.addCleanup(said.stop)
+
+    def turn_away(self, owner: Owner) -> socket.socket:
+        here, there = socket.socketpair()
+        self.addCleanup(there.close)
+        self.admission.turn_away(here, owner, "why")
+        return here
+
+    def test_a_process_may_be_several_users(self) -> None:
+        owners = [Owner(5, 100_000 + k, 7) for k in range(3)]
+        for owner in owners[:2]:
+            self.assertIsNone(self.admission.reason_against(owner))
+            self.admission.let_in(owner)
+        self.assertEqual(self.admission.reason_against(owners[2]),
+                         "it has 2 connections, the limit (--per-process)")
+        self.assertIsNone(self.admission.reason_against(Owner(5, 8, 8)))
+        self.assertEqual(self.admission.present, 2)
+        for owner in owners[:2]:
+            self.admission.let_out(owner)
+        self.assertEqual((self.admission.present, dict(self.admission.processes)), (0, {}))
+
+    def test_those_of_a_range_push_none_of_another_user_out(self) -> None:
+        honest = self.turn_away(Owner(4, 8, 8))
+        for k in range(VISITORS_AT_ONCE + 5):
+            self.turn_away(Owner(5, 100_000 + k, 7))
+        self.assertIn(honest, self.admission.turned_away.present)
+        self.assertEqual(len(self.admission.turned_away.present), VISITORS_AT_ONCE)
+
+    def test_nor_where_they_ask_for_the_state(self) -> None:
+        events, descriptors = Events(), Descriptors()
+        self.addCleanup(events.close)
+        with tempfile.TemporaryDirectory() as folder, socket.socket(socket.AF_UNIX) as asker:
+            path, ranges = os.path.join(folder, "status"), os.path.join(folder, "subuid")
+            with open(ranges, "w") as file:
+                file.write("7:100000:9\n")
+            status = StatusSocket(listen_at(path, 0o600), events, descriptors, dict, str,
+                                  Ranges(ranges))
+            asker.connect(path)
+            with unittest.mock.patch("feqyldan.service.visitors.peer_of",
+                                     return_value=Peer(5, 100_003, 0)):
+                status.accept(0)
+            self.assertEqual([one.user for one in status.visitors.present.values()], [7])
+            status.close()
+
+    def test_so_many_processes_are_remembered(self) -> None:
+        self.admission.told.update(Owner(k, 7, 7) for k in range(MOST_TOLD))
+        self.turn_away(Owner(MOST_TOLD, 7, 7))
+        self.turn_away(Owner(MOST_TOLD, 7, 7))
+        self.say.assert_called_once_with(f"process {MOST_TOLD} of user 7 is turned away: why")
+        self.assertLessEqual(len(self.admission.told), MOST_TOLD)
+
+
+class Logs(unittest.TestCase):
+    def test_one_user_fills_no_log(self) -> None:
+        """Nor does it keep the lines about others away."""
+        lines = Lines("test")
+        with unittest.mock.patch.object(lines, "write") as write, \
+                unittest.mock.patch("time.monotonic", side_effect=range(1000, 3000)):
+            for _ in range(1000):
+                lines.say_of(7, "of user 7")
+            lines.say_of(8, "of user 8")
+        written = [call[0][0] for call in write.call_args_list]
+        self.assertEqual(written, ["of user 7"] * LINES_OF_A_USER + [
+            f"{1000 - LINES_OF_A_USER} lines are left out here", "of user 8"])
 
 
 class Turns(unittest.TestCase):
@@ -442,6 +565,9 @@ class Limits(DoorTest):
             lines = dict(line.rstrip("\n").split(":\t", 1) for line in file if ":\t" in line)
         self.assertEqual((lines["Uid"], lines["Gid"], lines["Groups"].strip()),
                          ("1234\t" * 3 + "1234", "4321\t" * 3 + "4321", ""))
+        with open(f"/proc/{server['process']}/limits") as file:
+            line = next(line for line in file if line.startswith("Max processes"))
+        self.assertEqual(line.split()[2:4], ["0", "0"])
 
     def test_so_many_files_as_connections(self) -> None:
         """Under a low limit on open files the door says so, or serves all of its connections."""
@@ -516,6 +642,23 @@ class Programs(DoorTest):
             os.unlink(path)
             self.assertEqual(self.connect(door).ask(plain(1)), success(1))
 
+    @unittest.skipIf(os.geteuid(), "root alone starts servers as other users")
+    def test_a_program_that_root_alone_may_run_fails_its_trial(self) -> None:
+        """A connection's user couldn't run it."""
+        with tempfile.TemporaryDirectory() as folder:
+            os.chmod(folder, 0o755)
+            path = os.path.join(folder, "program")
+            self.write(path, "#!/bin/sh\nexec cat\n")
+            door = self.begin("--user-of-peer", command=[path])
+            self.write(path, "#!/bin/sh\nexec cat\n")
+            os.chmod(path, 0o700)
+            door.process.send_signal(signal.SIGHUP)
+            self.assertTrue(door.says(f"keeps {path} after SIGHUP: {path} can't be started as "
+                                      "another user (--user-of-peer): [Errno 13]"))
+            again = self.begin_any("--user-of-peer", command=[path])
+            self.assertEqual(again.status(), 2)
+            self.assertIn("let all users execute it", again.words())
+
     def test_a_trial_that_hangs_delays_nobody(self) -> None:
         with tempfile.TemporaryDirectory() as folder:
             path = os.path.join(folder, "program")
@@ -530,6 +673,29 @@ class Programs(DoorTest):
             self.assertTrue(door.says("still runs 10 s after the end of its input"))
             self.assertEqual(self.connect(door).ask(plain(1)), success(1))
             self.assertTrue(door.wait_for(lambda: len(door.children()) == 2))
+
+    def test_no_trial_is_left_where_the_door_ends(self) -> None:
+        """Also if the process that starts the servers has been slow."""
+        with tempfile.TemporaryDirectory() as folder:
+            path = os.path.join(folder, "program")
+            self.write(path, f"#!/bin/sh\nexec {' '.join(PLAIN)}\n")
+            door = self.begin(command=[path])
+            self.write(path, "#!/bin/sh\nexec sleep 1000\n")
+            door.process.send_signal(signal.SIGHUP)
+            self.assertTrue(door.wait_for(lambda: door.children() != []))
+            trial, = door.children()
+            starter = door.starter
+            os.kill(starter, signal.SIGSTOP)
+            door.process.terminate()
+            self.assertTrue(door.says("ends because of SIGTERM"))
+            time.sleep(0.2)
+            with contextlib.suppress(ProcessLookupError):
+                os.kill(starter, signal.SIGCONT)
+            self.assertEqual(door.status(), 0)
+            is_left = runs(trial)
+            if is_left:
+                os.kill(trial, signal.SIGKILL)
+            self.assertFalse(is_left)
 
     def test_a_package_s_starter_is_asked_once(self) -> None:
         """The door starts the program that the starter would start."""
@@ -546,9 +712,28 @@ class Programs(DoorTest):
                 self.assertIn(os.path.relpath(path, os.path.realpath(folder)),
                               [os.path.relpath(each, folder) for each in program.in_folder(
                                   os.path.join(folder, "lib", "feqyldan"))][:1])
+            # As the starter does without the faster build.
+            os.unlink(os.path.join(folder, "lib", "feqyldan", program.FASTER))
+            self.assertEqual(os.path.basename(chosen([starter])[0]), program.PLAIN)
             with self.assertRaisesRegex(Unusable,
                                         "there is no program /no/such/program that can be run"):
                 chosen(["/no/such/program"])
+
+    def test_a_path_in_no_encoding(self) -> None:
+        """The server refuses words that aren't UTF-8, and gets none for its path."""
+        with tempfile.TemporaryDirectory() as folder:
+            path = os.path.join(folder, os.fsdecode(b"\xff"))
+            os.symlink(sys.executable, path)
+            door = self.begin(command=[path, *PLAIN[1:]], tells_state=True)
+            self.assertEqual(self.connect(door).ask(plain(1)), success(1))
+            with open(f"/proc/{self.server_of(door)}/cmdline", "rb") as file:
+                self.assertEqual(file.read().split(b"\0")[:2],
+                                 [os.path.join(folder, "?").encode(), PLAIN[1].encode()])
+
+    def test_a_program_that_goes_while_the_door_begins_is_no_crash(self) -> None:
+        with unittest.mock.patch("feqyldan.door.program.chosen", return_value=["/no/such"]):
+            with self.assertRaisesRegex(Unusable, "can't read /no/such: No such file"):
+                ServerProgram(["/no/such"])
 
     def test_what_cant_begin_ends_with_status_2(self) -> None:
         for options in (("--mode", "0800"), ("--connections", "0"), ("--memory", "1000"),
@@ -560,6 +745,18 @@ class Programs(DoorTest):
                          {"path": "/no/such/folder/socket"}, {"path": "/tmp/" + "x" * 200}):
             with self.subTest(keywords=keywords):
                 self.assertEqual(self.begin_any(**keywords).status(), 2)
+
+    def test_no_process_to_start_servers_ends_it_with_words(self) -> None:
+        door = self.begin_any(tells_state=True, prelude="""
+import subprocess
+def refuse(*_, **__):
+    raise BlockingIOError(11, "no more processes")
+subprocess.Popen = refuse
+""")
+        self.assertEqual(door.status(), 2)
+        self.assertEqual(door.words(), "feqyldan door: can't start the process that starts the "
+                                       "servers: [Errno 11] no more processes\n")
+        self.assertEqual(os.listdir(door.folder.name), ["log"])
 
 
 class Telling(DoorTest):
@@ -590,6 +787,21 @@ class Telling(DoorTest):
         # Nobody sees requests.
         self.assertNotIn("requests", state)
 
+    def test_a_server_s_name_may_have_any_bytes(self) -> None:
+        door = self.begin(command=[sys.executable, "-c", NAMES_ITSELF], tells_state=True)
+        self.connect(door)
+        self.assertTrue(door.wait_for(lambda: bool(door.children())))
+        process, = door.children()
+
+        def has_its_name() -> bool:
+            with open(f"/proc/{process}/comm", "rb") as file:
+                return file.read() == b"\xff\n"
+
+        self.assertTrue(door.wait_for(has_its_name))
+        server, = door.state()["servers"]
+        self.assertEqual(server["process"], process)
+        self.assertGreater(server["memory_bytes"], 0)
+
     def test_the_package_reads_the_state(self) -> None:
         door = self.begin(tells_state=True)
         self.assertEqual(vx.status(door.status_path)["connections"]["open"], 0)
@@ -607,7 +819,7 @@ class Telling(DoorTest):
         state = b"x" * 3_000_000
         watched = Events()
         self.addCleanup(watched.close)
-        visitors = Visitors(watched, Descriptors(True), 64, lambda data, is_all: state)
+        visitors = Visitors(watched, Descriptors(), 64, lambda data, is_all: state)
         here, there = socket.socketpair()
         self.addCleanup(there.close)
         there.send(b"\n")
@@ -627,11 +839,11 @@ class Telling(DoorTest):
             made.append(None)
             return {"made": len(made)}
 
-        events, descriptors = Events(), Descriptors(True)
+        events, descriptors = Events(), Descriptors()
         self.addCleanup(events.close)
         with tempfile.TemporaryDirectory() as folder:
             status = StatusSocket(listen_at(os.path.join(folder, "status"), 0o600), events,
-                                  descriptors, state, lambda state: str(state["made"]))
+                                  descriptors, state, lambda state: str(state["made"]), Ranges())
             with unittest.mock.patch("time.process_time", side_effect=(0.0, LATE)):
                 self.assertEqual(status.answer(b"\n", False), b'{"made": 1}\n')
             page = status.answer(b"GET /metrics HTTP/1.0\r\n", False)
@@ -687,6 +899,17 @@ class Telling(DoorTest):
                 told = [manager.recv(100) for _ in range(3)]
                 self.assertEqual(told, [b"READY=1", b"WATCHDOG=1", b"WATCHDOG=1"])
 
+    def test_no_server_can_notify_the_service_manager(self) -> None:
+        door = self.begin(tells_state=True, environment={
+            "NOTIFY_SOCKET": "/no/such/socket", "WATCHDOG_USEC": "1000000", "WATCHDOG_PID": "1"})
+        self.assertEqual(self.connect(door).ask(plain(1)), success(1))
+        for process in (self.server_of(door), door.starter):
+            with open(f"/proc/{process}/environ", "rb") as file:
+                names = {word.partition(b"=")[0] for word in file.read().split(b"\0")}
+            self.assertIn(b"PATH", names)
+            self.assertFalse({name for name in names
+                              if name.startswith((b"NOTIFY", b"WATCHDOG"))})
+
     def test_sockets_that_are_handed_over(self) -> None:
         with tempfile.TemporaryDirectory() as folder:
             held = []
@@ -709,6 +932,14 @@ class Telling(DoorTest):
             door.terminate()
             self.assertEqual(door.wait(LATE), 0)
             self.assertEqual(sorted(os.listdir(folder)), ["socket", "status"])
+
+    def test_what_is_handed_over_has_to_be_there(self) -> None:
+        script = 'exec 3<&-; LISTEN_FDS=1 LISTEN_PID=$$ exec "$@"'
+        for self.kind in (Door, Broker):
+            door = self.begin_any(before=("/bin/bash", "-c", script, "sh"))
+            self.assertEqual(door.status(), 2)
+            self.assertIn("descriptor 3, which was handed over (LISTEN_FDS), can't be used",
+                          door.words())
 
 
 class Bench(unittest.TestCase):

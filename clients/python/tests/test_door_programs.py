@@ -18,7 +18,7 @@ import unittest
 from typing import Any, List, Set
 
 from broker_tools import (
-    CLIENT, HERE, LATE, PROGRAM, Broker, Door, Program, files_of, passes_longest,
+    CLIENT, HERE, LATE, PROGRAM, Broker, Door, Program, files_of, listens_at, passes_longest,
     peak_bytes, runs)
 from test_broker_programs import PATIENCE, Crowd
 from feqyldan import wire
@@ -66,7 +66,7 @@ class ManyPrograms(Crowd):
         state = door.state()
         self.assertEqual((state["connections"]["open"], state["servers"]), (0, []))
         with self.kind(*self.OPTIONS, command=[str(PROGRAM), "serve"], tells_state=True) as fresh:
-            self.assertTrue(fresh.wait_for(lambda: os.path.exists(fresh.status_path)))
+            self.assertTrue(fresh.wait_for(lambda: listens_at(fresh.status_path)))
             fresh.state()
             self.assertEqual(files_of(process), files_of(fresh.process.pid))
             self.assertLess(peak_bytes(process) - peak_bytes(fresh.process.pid), 4_000_000)

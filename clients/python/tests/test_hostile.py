@@ -21,7 +21,7 @@ import unittest
 from typing import List, Optional
 
 from broker_tools import (
-    CLIENT, HERE, LATE, PLAIN, PROGRAM, Broker, BrokerTest, Door, plain, runs, success)
+    CLIENT, HERE, LATE, PLAIN, PROGRAM, Broker, BrokerTest, Door, listens_at, plain, runs, success)
 from test_broker_faults import SOON, Lingering
 from feqyldan import wire
 from feqyldan.door.loop import KILL_SECONDS
@@ -65,6 +65,44 @@ print(flush=True)
 libc = ctypes.CDLL(None, use_errno=True)
 PTRACE_SEIZE = 0x4206
 print(libc.ptrace(PTRACE_SEIZE, int(sys.stdin.readline()), None, None), flush=True)
+sys.stdin.read()
+"""
+# Takes the other end of its connection from its server, a process that it is told, and lets that
+# end take descriptors. Sends one that is slow to close, out of band, and takes the byte with which
+# it came.
+TAKES_THE_OTHER_END = """
+import array, struct
+sock = connect()
+print(flush=True)
+server = int(sys.stdin.readline())
+os.kill(server, signal.SIGSTOP)
+PIDFD_GETFD, SO_PASSRIGHTS = 438, 83
+taken = ctypes.CDLL(None).syscall(PIDFD_GETFD, os.pidfd_open(server), 0, 0)
+if taken >= 0:
+    other_end = socket.socket(fileno=taken)
+    try:
+        other_end.setsockopt(socket.SOL_SOCKET, SO_PASSRIGHTS, 1)
+    except OSError:
+        pass
+    with socket.socket() as here:
+        here.bind(("127.0.0.1", 0))
+        here.listen(1)
+        slow = socket.create_connection(here.getsockname())
+        peer, _ = here.accept()
+    slow.setblocking(False)
+    try:
+        while True:
+            slow.send(bytes(65536))
+    except BlockingIOError:
+        pass
+    slow.setblocking(True)
+    slow.setsockopt(socket.SOL_SOCKET, socket.SO_LINGER, struct.pack("ii", 1, 60))
+    numbers = array.array("i", [slow.fileno()])
+    sock.sendmsg([b"x"], [(socket.SOL_SOCKET, socket.SCM_RIGHTS, numbers)], socket.MSG_OOB)
+    other_end.recv(1, socket.MSG_OOB)
+    for each in (slow, other_end, sock):
+        each.close()
+print(taken >= 0, flush=True)
 sys.stdin.read()
 """
 # Connects as often as it can, keeps the connections, and asks on some of them.
@@ -140,9 +178,11 @@ class Users(Hostile):
     """Servers that run as the users of their connections."""
 
     def test_no_signal_during_a_start_reaches_the_door(self) -> None:
+        with open(PLAIN[1], encoding="utf-8") as file:
+            # Not all users can read the file in every checkout.
+            command = [sys.executable, "-c", file.read(), "serve"]
         for which in (signal.SIGSTOP, signal.SIGTERM):
-            door = self.begin_for_all("--user-of-peer", "--grace", "1",
-                                      command=[sys.executable, *PLAIN[1:]])
+            door = self.begin_for_all("--user-of-peer", "--grace", "1", command=command)
             hostile = self.as_user(USER, SIGNALS_ALL, door.path, str(int(which)))
             self.assertTrue(select.select([hostile.stdout], [], [], SOON)[0])
             self.is_answered_soon(door)
@@ -166,19 +206,41 @@ class Users(Hostile):
     def test_a_traced_server_doesnt_hold_up_the_end(self) -> None:
         door = self.begin_for_all("--user-of-peer", command=["/bin/cat"])
         hostile = self.as_user(USER, TRACES, door.path)
-        self.line_of(hostile)
-        self.assertTrue(door.wait_for(lambda: self.runs_cat(door)))
-        server, = door.state()["servers"]
-        assert hostile.stdin is not None
-        hostile.stdin.write(f"{server['process']}\n")
-        hostile.stdin.flush()
+        server = self.tell_server(door, hostile)
         if self.line_of(hostile) != "0":
             self.skipTest("this system lets no user trace a process")
         for _ in range(2):
             door.process.terminate()
             self.assertTrue(door.says("ends because of SIGTERM"))
         self.assertEqual(door.process.wait(KILL_SECONDS + SOON), 0)
-        self.assertFalse(runs(server["process"]))
+        self.assertFalse(runs(server))
+
+    def test_who_takes_its_server_s_connection_delays_nobody(self) -> None:
+        """Not even by descriptors that the connection doesn't take from others."""
+        door = self.begin_for_all("--user-of-peer", command=["/bin/cat"])
+        hostile = self.as_user(USER, TAKES_THE_OTHER_END, door.path)
+        self.tell_server(door, hostile)
+        if self.line_of(hostile) != "True":
+            self.skipTest("this system lets no user take a descriptor of another process")
+        start = time.monotonic()
+        with door.program() as program:
+            program.sock.settimeout(SOON)
+            program.send(b"x")
+            self.assertEqual(program.bytes(1), b"x")
+        self.assertTrue(door.wait_for(lambda: door.state()["servers"] == []))
+        self.assertLess(time.monotonic() - start, SOON)
+        door.process.terminate()
+        self.assertEqual(door.process.wait(SOON), 0)
+
+    def tell_server(self, door: Broker, hostile: "subprocess.Popen[str]") -> int:
+        """Tells a program that has connected the process of its server, and returns it."""
+        self.line_of(hostile)
+        self.assertTrue(door.wait_for(lambda: self.runs_cat(door)))
+        server, = door.state()["servers"]
+        assert hostile.stdin is not None
+        hostile.stdin.write(f"{server['process']}\n")
+        hostile.stdin.flush()
+        return int(server["process"])
 
     def runs_cat(self, door: Broker) -> bool:
         for server in door.state()["servers"]:
@@ -217,6 +279,9 @@ class RangesOfUsers(unittest.TestCase):
         with tempfile.NamedTemporaryFile("w") as file:
             file.write("root:100000:65536\n#\nnobody-has-this-name:1:5\n7:200000:x\n"
                        "7:300000:10\n\n")
+            file.flush()
+            # A name in another encoding.
+            file.buffer.write(b"M\xfcller:500000:1\n")
             file.flush()
             ranges = Ranges(file.name)
             self.assertEqual([ranges.owner_of(user) for user in (
@@ -554,7 +619,7 @@ class StandardFiles(Hostile):
         for self.kind in (Door, Broker):
             broker = self.begin_any(tells_state=True, before=(
                 "/bin/sh", "-c", 'exec "$@" <&- >&- 2>&-', "sh"))
-            self.assertTrue(broker.wait_for(lambda: os.path.exists(broker.status_path)))
+            self.assertTrue(broker.wait_for(lambda: listens_at(broker.status_path)))
             program = self.connect(broker)
             self.assertEqual(program.ask(plain(1)), success(1))
             program.send(bytes(8))

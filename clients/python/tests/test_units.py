@@ -13,7 +13,7 @@ import time
 import unittest
 from typing import Dict, List, Set
 
-from broker_tools import HERE, LATE
+from broker_tools import HERE, LATE, listens_at
 from program import PROGRAM, needs_program, skip_module_in_process, vx
 from feqyldan.broker import command_line as broker
 from feqyldan.door import command_line as door
@@ -43,6 +43,20 @@ def unit(name: str) -> Dict[str, List[str]]:
             if equals and not line.startswith("#"):
                 found.setdefault(word, []).append(value.strip())
     return found
+
+
+def user_socket(name: str, path: str) -> str:
+    """Returns the text of a socket unit for a user's manager, with another path."""
+    with open(os.path.join(DEPLOY, name), encoding="utf-8") as file:
+        text = re.sub("(?m)^Socket(User|Group)=.*\n", "", file.read())
+    return text.replace("/run/feqyldan/socket", path)
+
+
+# A service for each connection of feqyldan.socket.
+SERVER = "[Service]\nExecStart=/bin/cat\nStandardInput=socket\nStandardOutput=socket\n"
+needs_manager = unittest.skipIf(
+    os.geteuid() or not os.path.exists(MANAGER) or not shutil.which("unshare"),
+    "a manager of systemd in a mount namespace needs root, systemd and unshare")
 
 
 class UserManager:
@@ -249,28 +263,48 @@ class Units(unittest.TestCase):
             assert level is not None, said
             self.assertLessEqual(float(level[1]), EXPOSURE, said)
 
-    @unittest.skipIf(os.geteuid() or not os.path.exists(MANAGER) or not shutil.which("unshare"),
-                     "a manager of systemd in a mount namespace needs root, systemd and unshare")
+    @needs_manager
     def test_a_burst_of_connections_leaves_the_socket(self) -> None:
         with tempfile.TemporaryDirectory() as folder, contextlib.ExitStack() as ends:
             path = os.path.join(folder, "socket")
-            with open(os.path.join(DEPLOY, "feqyldan.socket"), encoding="utf-8") as file:
-                sockets = re.sub("(?m)^Socket(User|Group)=.*\n", "", file.read())
             manager = UserManager(folder, {
-                "feqyldan.socket": sockets.replace("/run/feqyldan/socket", path),
-                "feqyldan@.service": "[Service]\nExecStart=/bin/cat\nStandardInput=socket\n"
-                                     "StandardOutput=socket\n"}, "feqyldan.socket")
+                "feqyldan.socket": user_socket("feqyldan.socket", path),
+                "feqyldan@.service": SERVER}, "feqyldan.socket")
             ends.callback(manager.close)
-            end = time.monotonic() + LATE / 4
-            while not os.path.exists(path) and time.monotonic() < end:
-                time.sleep(0.01)
-            if not os.path.exists(path):
-                self.skipTest("no manager of systemd can be started here")
+            self.wait_for(path)
             for _ in range(1000):
                 with socket.socket(socket.AF_UNIX) as sock:
                     sock.connect(path)
             for _ in range(5):
                 self.assertTrue(self.is_served(path))
+
+    @needs_manager
+    def test_which_of_two_enabled_units_win_at_boot(self) -> None:
+        """The broker's over the door's, and the door's over feqyldan.socket."""
+        names = ["feqyldan.socket", "feqyldan-door.socket", "feqyldan-broker.socket"]
+        services = {"feqyldan@.service": SERVER,
+                    **{f"{name}.service": "[Service]\nExecStart=/bin/cat\n" for name in SERVICES}}
+        for enabled in (names, names[:2]):
+            with tempfile.TemporaryDirectory() as folder, contextlib.ExitStack() as ends:
+                paths = {name: os.path.join(folder, name) for name in names}
+                texts = {name: user_socket(name, path) for name, path in paths.items()}
+                # The target of all sockets, as it is when they are enabled.
+                wanted = f"[Unit]\nWants={' '.join(enabled)}\n"
+                manager = UserManager(folder, {**texts, **services, "sockets.target": wanted},
+                                      "default.target")
+                ends.callback(manager.close)
+                self.wait_for(*paths.values())
+                time.sleep(0.5)
+                self.assertEqual([name for name, path in paths.items() if os.path.exists(path)],
+                                 enabled[-1:])
+
+    def wait_for(self, *paths: str) -> None:
+        """Waits until a manager of systemd listens at one of the paths."""
+        end = time.monotonic() + LATE / 4
+        while not any(map(listens_at, paths)) and time.monotonic() < end:
+            time.sleep(0.01)
+        if not any(map(listens_at, paths)):
+            self.skipTest("no manager of systemd can be started here")
 
     def is_served(self, path: str) -> bool:
         """Returns whether a connection comes to be served in time. Those beyond MaxConnections are

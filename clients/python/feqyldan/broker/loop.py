@@ -13,6 +13,7 @@ from ..service.admission import Owner
 from ..service.descriptors import SentDescriptors
 from ..service.events import READ, WRITE
 from ..service.front import Front
+from ..service.lines import Unusable
 from ..service.listener import Listener
 from ..service.metrics import memory_of
 from ..service.signals import Signals
@@ -40,6 +41,7 @@ class Broker(Front):
         # The connections of each process and each user include those whose contexts are being
         # released.
         super().__init__("broker", listener, status, self.counts, limits, as_metrics)
+        self.events.take = with_reserve
         self.open: Set[Connection] = set()
         self.releasing = 0
         self.look_seconds: float = min(1.0, limits.patience / 4, limits.report)
@@ -54,7 +56,13 @@ class Broker(Front):
             with suppress(BlockingIOError):
                 os.write(ringer, b"\0")
 
-        self.servers = [Server(library, limits, self.done, ring) for library in libraries]
+        try:
+            self.servers = [Server(library, limits, self.done, ring) for library in libraries]
+        except RuntimeError as error:
+            self.close()
+            raise Unusable(f"can't start a thread for each of {len(libraries)} servers: {error}. "
+                           "Start fewer servers (--servers), or allow more memory (ulimit -v) or "
+                           "threads (ulimit -u)") from error
         self.is_over = False
         # The seconds until the next turn may begin; None if that needs an event.
         self.soon: Optional[float] = None
@@ -210,15 +218,18 @@ class Broker(Front):
             return
         if wanted & READ and not connection.interest & READ:
             connection.received_at = self.now
-        self.events.watch(connection.sock.fileno(), wanted, partial(self.serve, connection))
-        connection.interest = wanted
+        try:
+            self.events.watch(connection.sock.fileno(), wanted, partial(self.serve, connection))
+            connection.interest = wanted
+        except OSError as error:
+            self.end(connection, f"it can't be watched: {error}")
 
     def end(self, connection: Connection, words: Optional[str] = None) -> None:
         """Closes a connection. Its contexts are released once its turn has ended."""
         if not connection.is_open:
             return
         if words:
-            self.lines.say(f"{connection} is ended: {words}")
+            self.lines.say_of(connection.owner.counted, f"{connection} is ended: {words}")
         connection.is_open = connection.reads = False
         self.open.discard(connection)
         self.releasing += 1

@@ -71,10 +71,10 @@ class Library:
             reply = memory_for(size, AHEAD)
         except MemoryError:
             return None
-        result = self.call(link, frame, argument_of(memoryview(reply)))
-        if result != OK or self.length.value != size:
-            raise RuntimeError(f"feqyldan_serve fills {self.length.value} bytes and not {size}")
-        return reply
+        if self.call(link, frame, argument_of(memoryview(reply))) != OK:
+            raise RuntimeError(f"feqyldan_serve wants {self.length.value} bytes and not {size}")
+        # The server may have no memory this time. Then its reply says so, and is short.
+        return reply if self.length.value == size else bytes(reply[: self.length.value])
 
     def call(self, link: int, frame: Tuple[Any, ...], reply: Tuple[Any, ...]) -> int:
         """Serves a frame of a connection, and returns the result. Raises RuntimeError unless it is

@@ -51,8 +51,8 @@ def parser() -> argparse.ArgumentParser:
         help="nice value of the servers, 0 to 19 (default: 0). The door itself has -10 where the "
              "system allows it")
     add("--user-of-peer", action="store_true",
-        help="run each server as the user of its connection's process; needs root (default: as "
-             "the door's user)")
+        help="run each server as the user of its connection's process; needs root, and a program "
+             "that all users may execute (default: as the door's user)")
     add_times(made)
     return made
 

@@ -59,11 +59,16 @@ class Door(Front):
         # The program of new servers; and the one that takes its place if its trial succeeds.
         self.program = program
         self.trial: Optional[Trial] = None
-        self.starter = Starter()
         # The connections without a server so far, and the servers by their numbers.
         self.waiting = Waiting()
         self.servers: Dict[int, Server] = {}
         super().__init__("door", listener, status, self.counts, limits, as_metrics)
+        # Only now, since it keeps the environment, from which the service manager's words are gone.
+        try:
+            self.starter = Starter()
+        except Unusable:
+            self.close()
+            raise
         self.looked_at = self.now
         # When the door stops waiting for its servers; None until it is told to end.
         self.stops_at: Optional[float] = None
@@ -168,7 +173,12 @@ class Door(Front):
             self.admission.turn_away(sock, owner, f"no server could be started: {error}")
             return
         self.servers[server.number] = server
-        self.events.watch_end(sock.fileno(), partial(self.leave, server))
+        try:
+            self.events.watch_end(sock.fileno(), partial(self.leave, server))
+        except OSError as error:
+            self.lines.say_of(owner.counted, f"the server for {owner} is killed: its connection "
+                                             f"can't be watched: {error}")
+            self.starter.kill(server.number)
 
     def leave(self, server: Server, _mask: int) -> None:
         """Handles the end of a connection: nobody can read a reply any more, so its server is
@@ -205,13 +215,20 @@ class Door(Front):
                                      f"no server could be started: {end.reason}")
             return
         is_late = end.status == LATE and not server.has_left and not has_ended(server.sock)
-        self.descriptors.close(server.sock)
+        self.close_connection(server)
         self.counts.ended += 1
         if end.status not in (USUAL_ENDS if server.has_left else USUAL):
             self.counts.failed += 1
-            self.lines.say(f"{server} {meaning_of(end.status)}")
+            self.lines.say_of(server.owner.counted, f"{server} {meaning_of(end.status)}")
         elif is_late:
-            self.lines.say(f"{server} ended: its program {self.plan.lateness}")
+            self.lines.say_of(server.owner.counted,
+                              f"{server} ended: its program {self.plan.lateness}")
+
+    def close_connection(self, server: Server) -> None:
+        if self.plan.is_of_peer:
+            self.descriptors.leave(server.sock)
+        else:
+            self.descriptors.close(server.sock)
 
     def kill(self, server: Server, why: str) -> None:
         self.lines.say(f"{server} is killed: {why}")
@@ -306,3 +323,5 @@ class Door(Front):
         for server in self.servers.values():
             # Another process traces it, or a call of it to the system doesn't end.
             self.lines.say(f"{server} was killed and hasn't ended; the door doesn't wait for it")
+            # Otherwise the door's end closes it, perhaps after the server's end.
+            self.close_connection(server)

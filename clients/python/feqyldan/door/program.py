@@ -3,7 +3,7 @@
 import contextlib
 import os
 import shutil
-from typing import List, NamedTuple, Optional
+from typing import BinaryIO, List, NamedTuple, Optional
 
 from .. import program
 from ..service.lines import Unusable
@@ -43,15 +43,21 @@ def chosen(command: List[str]) -> List[str]:
                        "after --")
     path = os.path.abspath(path)
     folder = os.path.join(os.path.dirname(os.path.realpath(path)), PROGRAMS)
+    with opened(path) as file:
+        is_script = file.read(2) == b"#!"
+    if is_script and os.path.isfile(os.path.join(folder, program.PLAIN)):
+        builds = program.in_folder(folder)
+        path = os.path.normpath(builds[0] if os.access(builds[0], os.X_OK) else builds[-1])
+    return [path, *command[1:]]
+
+
+def opened(path: str) -> BinaryIO:
+    """Returns the open file of a program. Raises Unusable if it can't be read."""
     try:
-        with open(path, "rb") as file:
-            is_script = file.read(2) == b"#!"
+        return open(path, "rb", buffering=0)
     except OSError as error:
         raise Unusable(f"can't read {path}: {error.strerror}; let the door's user read the "
                        "program") from error
-    if is_script and os.path.isfile(os.path.join(folder, program.PLAIN)):
-        path = os.path.normpath(program.in_folder(folder)[0])
-    return [path, *command[1:]]
 
 
 class Program:
@@ -60,10 +66,17 @@ class Program:
 
     def __init__(self, command: List[str]) -> None:
         self.words = chosen(command)
-        self.file = open(self.words[0], "rb", buffering=0)
+        self.file = opened(self.words[0])
 
     def __str__(self) -> str:
         return " ".join(self.words)
+
+    @property
+    def arguments(self) -> List[str]:
+        """The words that the program gets. It refuses words that aren't UTF-8, and doesn't use its
+        path."""
+        path, *words = self.words
+        return [path.encode("ascii", "replace").decode(), *words]
 
     @property
     def target(self) -> str:

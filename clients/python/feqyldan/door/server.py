@@ -19,8 +19,9 @@ TICKS = os.sysconf("SC_CLK_TCK")
 
 
 def set_time(sock: socket.socket, option: int, seconds: float) -> None:
-    whole, part = divmod(seconds, 1)
-    sock.setsockopt(socket.SOL_SOCKET, option, struct.pack("@ll", int(whole), int(part * 1e6)))
+    # No time would mean without end.
+    whole, microseconds = divmod(max(1, int(seconds * 1e6)), 1_000_000)
+    sock.setsockopt(socket.SOL_SOCKET, option, struct.pack("@ll", whole, microseconds))
 
 
 class Server:
@@ -63,7 +64,7 @@ class Server:
 
 def processor_seconds_of(process: int) -> float:
     """Returns the processor time of a process in seconds; 0 if it has ended."""
-    with contextlib.suppress(OSError), open(f"/proc/{process}/stat") as file:
+    with contextlib.suppress(OSError), open(f"/proc/{process}/stat", errors="replace") as file:
         words = file.read().rpartition(")")[2].split()
         return (int(words[11]) + int(words[12])) / TICKS
     return 0.0

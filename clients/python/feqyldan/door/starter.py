@@ -16,6 +16,9 @@ from . import starting
 from .program import Plan, Program
 from .starting import BEGAN, FAILED, KILL, MOST_BYTES, START, joined, words_of
 
+# The seconds in which the process has to end.
+END_SECONDS = 2.0
+
 
 class Started(NamedTuple):
     """The server with this number was started, as a process."""
@@ -40,10 +43,14 @@ class Starter:
     def __init__(self) -> None:
         self.sock, other = socket.socketpair(socket.AF_UNIX, socket.SOCK_SEQPACKET)
         script = os.path.abspath(starting.__file__)
-        with other:
-            self.process = subprocess.Popen(
-                [sys.executable, "-I", "-S", script, str(other.fileno())],
-                stdin=subprocess.DEVNULL, stdout=subprocess.DEVNULL, pass_fds=[other.fileno()])
+        try:
+            with other:
+                self.process = subprocess.Popen(
+                    [sys.executable, "-I", "-S", script, str(other.fileno())],
+                    stdin=subprocess.DEVNULL, stdout=subprocess.DEVNULL, pass_fds=[other.fileno()])
+        except OSError as error:
+            self.sock.close()
+            raise Unusable(f"can't start the process that starts the servers: {error}") from error
         self.numbers = itertools.count(1)
         # The messages that have come before told() asks for them.
         self.left: List[List[str]] = []
@@ -57,7 +64,8 @@ class Starter:
         number = next(self.numbers)
         user, group = ("", "") if peer is None else (str(peer.user), str(peer.group))
         self.send([START, str(number), program.target, str(address_space(plan.memory)),
-                   str(plan.nice), user, group, *program.words], [stream, program.file.fileno()])
+                   str(plan.nice), user, group, *program.arguments],
+                  [stream, program.file.fileno()])
         # So that starts take turns with all else. No user but the door's can stop that process.
         while not self.left or self.left[-1][1] != str(number):
             self.left.append(self.received())
@@ -102,11 +110,17 @@ class Starter:
         """Waits until the socket can be read or written, and returns which of it."""
         poll = select.poll()
         poll.register(self.sock, wanted)
-        ready = poll.poll(None if seconds is None else 1000 * seconds)
+        # Less than 0 would mean without end.
+        ready = poll.poll(None if seconds is None else max(0, 1000 * seconds))
         return ready[0][1] if ready else 0
 
     def close(self) -> None:
-        """Ends the process. Its servers go on."""
+        """Ends the process once it has done what it was ordered. Its servers go on."""
+        with contextlib.suppress(OSError):
+            self.sock.shutdown(socket.SHUT_WR)
+        try:
+            self.process.wait(END_SECONDS)
+        except subprocess.TimeoutExpired:
+            self.process.kill()
+            self.process.wait()
         self.sock.close()
-        self.process.kill()
-        self.process.wait()

@@ -119,7 +119,11 @@ class Starting:
 
     def take_order(self) -> bool:
         """Does what the door orders. Returns False if the door has ended."""
-        message, files, _, _ = socket.recv_fds(self.sock, MOST_BYTES, 2)
+        try:
+            message, files, _, _ = socket.recv_fds(self.sock, MOST_BYTES, 2)
+        except ConnectionResetError:
+            # The door has ended, and hasn't read all that it was told.
+            return False
         if not message:
             return False
         order, number, *words = words_of(message)
@@ -179,6 +183,8 @@ class Starting:
             os.setgroups([])
             os.setgid(int(group))
             os.setuid(int(user))
+            # Nor can a user that traces the server have it start others next to the door.
+            resource.setrlimit(resource.RLIMIT_NPROC, (0, 0))
         os.execve(target or program, words, CLEAN if user else os.environ)
 
 

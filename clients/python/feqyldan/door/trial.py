@@ -4,21 +4,25 @@ import os
 import time
 from typing import Optional
 
+from ..service.peers import Peer
 from .program import Plan, Program
 from .starter import Ended, Starter
 
 # The seconds that a server with empty input may take to end.
 TRIAL_SECONDS = 10.0
+# With --user-of-peer, whom a trial runs as: the user and the group without rights, `nobody`. What
+# root may execute, the users of connections may not.
+NOBODY = Peer(0, 65_534, 65_534)
 
 
 class Trial:
     """A run of a program on empty input, which shows whether it is a server."""
 
     def __init__(self, wanted: Program, plan: Plan, starter: Starter) -> None:
-        self.program, self.starter = wanted, starter
+        self.program, self.starter, self.is_of_peer = wanted, starter, plan.is_of_peer
         null = os.open(os.devnull, os.O_RDWR)
         try:
-            self.number = starter.start(wanted, null, plan, None)
+            self.number = starter.start(wanted, null, plan, NOBODY if plan.is_of_peer else None)
         finally:
             os.close(null)
         self.until = time.monotonic() + TRIAL_SECONDS
@@ -30,6 +34,9 @@ class Trial:
         if end is None:
             return (f"{self.program} still runs {TRIAL_SECONDS:g} s after the end of its input: is "
                     "it a Feqyldan server?")
+        if end.reason is not None and self.is_of_peer:
+            return (f"{words[0]} can't be started as another user (--user-of-peer): {end.reason}; "
+                    "let all users execute it")
         if end.reason is not None:
             return f"{words[0]} can't be started: {end.reason}; give the server's path after --"
         if end.status != 0:

@@ -17,6 +17,8 @@ ACCEPT_PAUSE = 1.0
 # Connections that wait to be accepted. Further ones wait in connect(), and get their turns one by
 # one. So a program that connects again and again delays another one by this many connections.
 WAITING = 128
+# The most processes that are remembered as turned away. If there are more, all are forgotten.
+MOST_TOLD = 10_000
 
 
 class Owner(NamedTuple):
@@ -29,6 +31,11 @@ class Owner(NamedTuple):
 
     def __str__(self) -> str:
         return f"process {self.process} of user {self.user}"
+
+    @property
+    def key(self) -> Tuple[int, int]:
+        """What the connections of its process are counted by."""
+        return self.process, self.counted
 
 
 class Accepted:
@@ -53,7 +60,8 @@ class Admission:
                  events: Events, descriptors: Descriptors) -> None:
         self.per_process, self.per_user, self.counts = per_process, per_user, counts
         self.lines, self.descriptors, self.ranges = lines, descriptors, Ranges()
-        self.processes: "Counter[Owner]" = Counter()
+        # A process may be several users of its user's range.
+        self.processes: "Counter[Tuple[int, int]]" = Counter()
         self.users: "Counter[int]" = Counter()
         # The processes that were turned away since the last report. Only the first time is logged.
         self.told: Set[Owner] = set()
@@ -72,31 +80,33 @@ class Admission:
 
     def reason_against(self, owner: Owner) -> Optional[str]:
         """Returns in words why a process gets no connection; None if it gets one."""
-        if self.processes[owner] >= self.per_process:
-            return f"it has {self.processes[owner]} connections, the limit (--per-process)"
+        if self.processes[owner.key] >= self.per_process:
+            return f"it has {self.processes[owner.key]} connections, the limit (--per-process)"
         if self.users[owner.counted] >= self.per_user:
             return f"its user has {self.users[owner.counted]} connections, the limit (--per-user)"
         return None
 
     def let_in(self, owner: Owner) -> None:
         self.counts.accepted += 1
-        self.processes[owner] += 1
+        self.processes[owner.key] += 1
         self.users[owner.counted] += 1
 
     def let_out(self, owner: Owner) -> None:
-        self.processes[owner] -= 1
+        self.processes[owner.key] -= 1
         self.users[owner.counted] -= 1
-        if not self.processes[owner]:
-            del self.processes[owner]
+        if not self.processes[owner.key]:
+            del self.processes[owner.key]
         if not self.users[owner.counted]:
             del self.users[owner.counted]
 
     def turn_away(self, sock: socket.socket, owner: Owner, reason: str) -> None:
         if owner not in self.told:
-            self.lines.say(f"{owner} is turned away: {reason}")
-        self.told.add(owner)
+            if len(self.told) >= MOST_TOLD:
+                self.told.clear()
+            self.told.add(owner)
+            self.lines.say_of(owner.counted, f"{owner} is turned away: {reason}")
         self.counts.turned_away += 1
-        self.turned_away.add(sock, owner.user)
+        self.turned_away.add(sock, owner.counted)
 
     @property
     def present(self) -> int:

@@ -5,12 +5,17 @@ system waits for its daemon, even in a process that is killed, and a TCP socket 
 unsent bytes waits for up to 2^15 seconds.
 
 Linux refuses descriptors at the sender if the receiving socket asks for that (SO_PASSRIGHTS, from
-6.16 on). On older systems:
+6.16 on). A connection takes that over from the listening socket when it is made. So it still takes
+descriptors if it was made before this program had the listening socket, for example from systemd.
+On such a connection, and on all connections of an older Linux:
 
 - Before bytes are read, they are looked at (MSG_PEEK) without space for descriptors. So the system
   neither opens a descriptor here nor drops one. Bytes with descriptors are never read.
 - A connection with unread bytes is closed by a separate process, which does so by ending. Nothing
   waits for that process.
+
+So is a connection whose server runs as its user, even without unread bytes: a user that traces the
+server may have let the connection take descriptors again.
 """
 
 import contextlib
@@ -35,12 +40,20 @@ class SentDescriptors(OSError):
 
 
 def refuse(sock: socket.socket) -> bool:
-    """Makes a socket, and the sockets that it accepts, refuse descriptors. Returns whether Linux
-    can."""
+    """Makes a socket, and the connections that are made to it from now on, refuse descriptors.
+    Returns whether Linux can."""
     with contextlib.suppress(OSError):
         sock.setsockopt(socket.SOL_SOCKET, SO_PASSRIGHTS, 0)
         return True
     return False
+
+
+def may_have_some(sock: socket.socket) -> bool:
+    """Returns whether descriptors may have been sent to a connection that was just accepted."""
+    try:
+        return sock.getsockopt(socket.SOL_SOCKET, SO_PASSRIGHTS) != 0
+    except OSError:
+        return True
 
 
 def has_unread(sock: socket.socket) -> bool:
@@ -52,20 +65,30 @@ def has_unread(sock: socket.socket) -> bool:
     return bool(count)
 
 
+def shut(sock: socket.socket) -> None:
+    """Shuts a socket down. The other end sees the end now, and can send no more."""
+    with contextlib.suppress(OSError):
+        sock.shutdown(socket.SHUT_RDWR)
+
+
 class Descriptors:
     """Accepts, reads from and closes connections. None of these waits for a descriptor that a
     program has sent."""
 
-    def __init__(self, are_refused: bool) -> None:
-        self.are_refused = are_refused
-        self.peeked = memoryview(bytearray(0 if are_refused else PEEK_BYTES))
+    def __init__(self) -> None:
+        # The open connections to which descriptors may have been sent.
+        self.suspects: Set[socket.socket] = set()
+        self.peeked = memoryview(bytearray(PEEK_BYTES))
         # The connections that a separate process has to close, and the processes that do so.
         self.left: List[socket.socket] = []
         self.closers: Set[int] = set()
 
     def accept(self, listening: socket.socket) -> socket.socket:
         sock, _ = listening.accept()
-        if not self.are_refused:
+        if may_have_some(sock):
+            self.suspects.add(sock)
+            # No more are sent, where Linux can refuse them.
+            refuse(sock)
             # Otherwise a read drops a byte out of band, with its descriptors, although no look
             # shows it.
             sock.setsockopt(socket.SOL_SOCKET, socket.SO_OOBINLINE, 1)
@@ -74,12 +97,12 @@ class Descriptors:
     def read(self, sock: socket.socket, most: int) -> bytes:
         """Reads at most this many bytes. Raises SentDescriptors if there are descriptors with
         them."""
-        return sock.recv(most if self.are_refused else self.readable(sock, most))
+        return sock.recv(self.readable(sock, most) if sock in self.suspects else most)
 
     def read_into(self, sock: socket.socket, room: memoryview) -> int:
         """Reads bytes, and returns how many. Raises SentDescriptors if there are descriptors with
         them."""
-        if self.are_refused:
+        if sock not in self.suspects:
             return sock.recv_into(room)
         with room[: self.readable(sock, len(room))] as part:
             return sock.recv_into(part)
@@ -93,16 +116,26 @@ class Descriptors:
         return count
 
     def close(self, sock: socket.socket) -> None:
-        """Closes a connection or a listening socket."""
-        if self.are_refused or sock.fileno() < 0:
+        """Closes a connection."""
+        if sock in self.suspects:
+            self.suspects.remove(sock)
+            self.close_suspect(sock)
+        else:
             sock.close()
-            return
-        # The other end sees the end now, and can send no more.
-        with contextlib.suppress(OSError):
-            sock.shutdown(socket.SHUT_RDWR)
-        if not has_unread(sock):
+
+    def close_suspect(self, sock: socket.socket) -> None:
+        """Closes a connection to which descriptors may have been sent, or a listening socket with
+        such connections."""
+        shut(sock)
+        if has_unread(sock):
+            self.leave(sock)
+        else:
             sock.close()
-            return
+
+    def leave(self, sock: socket.socket) -> None:
+        """Ends a connection, and lets a separate process close it."""
+        shut(sock)
+        self.suspects.discard(sock)
         self.left.append(sock)
         if len(self.left) >= LEFT_AT_ONCE:
             self.close_left()

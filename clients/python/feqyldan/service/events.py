@@ -1,6 +1,7 @@
 """The events of a loop: descriptors that can be read or written."""
 
 import select
+from functools import partial
 from typing import Callable, Dict, List, Optional, Tuple
 
 READ, WRITE = select.EPOLLIN, select.EPOLLOUT
@@ -17,6 +18,8 @@ class Events:
     def __init__(self) -> None:
         self.epoll = select.epoll()
         self.handlers: Dict[int, Handler] = {}
+        # Calls a function that may need more memory.
+        self.take: Callable[[Callable[[], None]], None] = lambda call: call()
 
     def watch(self, descriptor: int, wanted: int, handler: Handler) -> None:
         """Watches a descriptor for READ, WRITE or both. For 0, stops watching it."""
@@ -25,14 +28,22 @@ class Events:
             return
         if descriptor in self.handlers:
             self.epoll.modify(descriptor, wanted)
+            self.handlers[descriptor] = handler
         else:
-            self.epoll.register(descriptor, wanted)
-        self.handlers[descriptor] = handler
+            self.take(partial(self.add, descriptor, wanted, handler))
 
     def watch_end(self, descriptor: int, handler: Handler) -> None:
         """Watches a connection only for the end of both of its directions."""
-        self.epoll.register(descriptor, 0)
+        self.take(partial(self.add, descriptor, 0, handler))
+
+    def add(self, descriptor: int, wanted: int, handler: Handler) -> None:
+        # First, because it may need memory: a descriptor that epoll has can't be added again.
         self.handlers[descriptor] = handler
+        try:
+            self.epoll.register(descriptor, wanted)
+        except BaseException:
+            del self.handlers[descriptor]
+            raise
 
     def forget(self, descriptor: int) -> None:
         """Stops watching a descriptor that is about to be closed."""

@@ -25,14 +25,14 @@ class Front:
         self.listener, self.report_seconds = listener, limits.report
         listener.sock.listen(WAITING)
         self.lines, self.events, self.manager = Lines(name), Events(), Manager()
-        self.descriptors = Descriptors(listener.refuses_descriptors)
+        self.descriptors = Descriptors()
         self.admission = Admission(limits.per_process, limits.per_user, counts, self.lines,
                                    self.events, self.descriptors)
         self.now = self.began_at = time.monotonic()
         self.reported_at = self.accepts_from = self.now
         self.reported = counts.told()
-        self.status = (StatusSocket(status, self.events, self.descriptors, self.state, as_metrics)
-                       if status else None)
+        self.status = None if status is None else StatusSocket(
+            status, self.events, self.descriptors, self.state, as_metrics, self.admission.ranges)
         self.is_listening = False
 
     def has_news(self) -> bool:
@@ -44,8 +44,16 @@ class Front:
     def listen_or_not(self) -> None:
         wanted = self.now >= self.accepts_from and self.may_listen()
         if wanted != self.is_listening:
-            self.is_listening = wanted
-            self.events.watch(self.listener.sock.fileno(), READ if wanted else 0, self.accept)
+            try:
+                self.events.watch(self.listener.sock.fileno(), READ if wanted else 0, self.accept)
+                self.is_listening = wanted
+            except OSError as error:
+                self.pause(error)
+
+    def pause(self, error: OSError) -> None:
+        """Lets connections wait, since the system has no resources for one."""
+        self.lines.say(f"can't accept a connection: {error}; tries again in {ACCEPT_PAUSE:g} s")
+        self.accepts_from = self.now + ACCEPT_PAUSE
 
     def accept(self, _mask: int) -> None:
         for _ in range(self.accepted_at_once if self.is_listening else 0):
@@ -54,9 +62,7 @@ class Front:
             try:
                 sock = self.admission.accept(self.listener)
             except OSError as error:
-                self.lines.say(f"can't accept a connection: {error}; tries again in "
-                               f"{ACCEPT_PAUSE:g} s")
-                self.accepts_from = self.now + ACCEPT_PAUSE
+                self.pause(error)
                 return
             if sock is None:
                 return
@@ -89,6 +95,7 @@ class Front:
                            f"{self.now - self.reported_at:.0f} s {counts.as_words(self.reported)}")
         self.reported_at, self.reported = self.now, counts.told()
         self.admission.told.clear()
+        self.lines.of_users.clear()
 
     def stop_listening(self) -> None:
         self.listen_or_not()
@@ -98,6 +105,7 @@ class Front:
     def close(self) -> None:
         """Closes the open sockets."""
         self.listener.close(self.descriptors)
+        self.admission.turned_away.end_all()
         if self.status:
             self.status.close()
         self.descriptors.close_left()

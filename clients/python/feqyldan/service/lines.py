@@ -1,12 +1,15 @@
 """Lines on standard error."""
 
 import contextlib
+import os
 import select
 import sys
 import time
+from collections import Counter
 
-# The most lines that are written in a second.
-LINES_A_SECOND = 20
+# The most lines that are written in a second, and about the connections of a user between two
+# reports.
+LINES_A_SECOND, LINES_OF_A_USER = 20, 60
 
 
 class Unusable(Exception):
@@ -14,12 +17,23 @@ class Unusable(Exception):
 
 
 class Lines:
-    """Writes lines to standard error, at most 20 a second, so that a connection that ends again and
-    again doesn't fill a disk. A line that would have to wait for its reader is dropped."""
+    """Writes lines to standard error. Few are of one user, so that a connection that ends again and
+    again neither fills a disk nor keeps the lines about others away. A line that would have to wait
+    for its reader is dropped."""
 
     def __init__(self, name: str) -> None:
         self.name = name
         self.second, self.count, self.left_out = 0, 0, 0
+        # How many lines there were about each user since the last report.
+        self.of_users: "Counter[int]" = Counter()
+
+    def say_of(self, user: int, words: str) -> None:
+        """Writes a line about a connection of a user."""
+        self.of_users[user] += 1
+        if self.of_users[user] > LINES_OF_A_USER:
+            self.left_out += 1
+        else:
+            self.say(words)
 
     def say(self, words: str) -> None:
         second = int(time.monotonic())
@@ -38,6 +52,9 @@ class Lines:
             ready = select.poll()
             ready.register(sys.stderr.fileno(), select.POLLOUT)
             if ready.poll(0):
-                print(f"feqyldan {self.name}: {words}", file=sys.stderr, flush=True)
+                line = f"feqyldan {self.name}: {words}\n"
+                # What a full disk refuses stays in no buffer: Python couldn't write it at the end
+                # either, and would end with status 120.
+                os.write(sys.stderr.fileno(), line.encode(sys.stderr.encoding, "backslashreplace"))
                 return True
         return False

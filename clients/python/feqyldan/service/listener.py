@@ -31,15 +31,18 @@ class Listener:
         self.refuses_descriptors = refuse(sock)
 
     def close(self, descriptors: Descriptors) -> None:
-        if self.file is None:
-            # The service manager that passed the socket still has it.
-            self.sock.close()
-        else:
-            descriptors.close(self.sock)
+        if self.sock.fileno() < 0:
+            return
         with contextlib.suppress(OSError):
-            # Another program may have put its own file there.
+            # Another program may have put its own file there. It can't have the number of this one
+            # while the socket is open.
             if self.file is not None and file_of(self.path) == self.file:
                 os.unlink(self.path)
+        # A service manager that passed the socket still has it.
+        if self.file is None or self.refuses_descriptors:
+            self.sock.close()
+        else:
+            descriptors.close_suspect(self.sock)
 
 
 def listen_at(path: str, mode: int, group: Optional[int] = None) -> Listener:
@@ -77,11 +80,17 @@ def lock(name: str) -> Optional[int]:
         file = os.open(name, os.O_RDWR | os.O_CREAT | os.O_NOFOLLOW | os.O_CLOEXEC, 0o600)
     except OSError as error:
         raise Unusable(f"can't open the lock file {name}: {error.strerror}") from error
-    with contextlib.suppress(BlockingIOError):
+    try:
         fcntl.flock(file, fcntl.LOCK_EX | fcntl.LOCK_NB)
         # The last owner of the lock may have removed the file.
         if is_at(file, name):
             return file
+    except BlockingIOError:
+        pass
+    except OSError as error:
+        os.close(file)
+        raise Unusable(f"can't lock {name}: {error.strerror}; choose a path in another file "
+                       "system") from error
     os.close(file)
     time.sleep(0.01)
     return None
@@ -96,14 +105,20 @@ def bind(path: str, mode: int, group: Optional[int]) -> Listener:
     try:
         sock.bind(path)
         if group is not None:
-            os.chown(path, -1, group)
+            # Never what a link leads to, if somebody has put one there.
+            os.chown(path, -1, group, follow_symlinks=False)
     except OSError as error:
+        if sock.getsockname():
+            # The file is there, but can't have the group.
+            os.unlink(path)
         sock.close()
         raise Unusable(f"can't listen at {path}: {error.strerror or error}") from error
     finally:
         os.umask(mask)
+    listener = Listener(sock, path, file_of(path))
+    # Only now, so that every connection refuses descriptors where Linux can.
     sock.listen(socket.SOMAXCONN)
-    return Listener(sock, path, file_of(path))
+    return listener
 
 
 def handed_over() -> List[Listener]:
@@ -120,8 +135,8 @@ def handed_over() -> List[Listener]:
 
 
 def handed(descriptor: int) -> Listener:
-    os.set_inheritable(descriptor, False)
     try:
+        os.set_inheritable(descriptor, False)
         sock = socket.socket(fileno=descriptor)
     except OSError as error:
         raise Unusable(f"descriptor {descriptor}, which was handed over (LISTEN_FDS), can't be "
@@ -157,6 +172,8 @@ def remove_stale(path: str) -> None:
         raise Unusable(f"{path} exists and isn't a socket: remove it, or choose another path")
     with socket.socket(socket.AF_UNIX, socket.SOCK_STREAM) as probe:
         probe.setblocking(False)
+        # Whoever listens there could send descriptors, and closing them may take long.
+        refuse(probe)
         try:
             probe.connect(path)
         except BlockingIOError:
@@ -166,5 +183,5 @@ def remove_stale(path: str) -> None:
             os.unlink(path)
             return
         except OSError as error:
-            raise Unusable(f"can't listen at {path}: {error.strerror}") from error
+            raise Unusable(f"can't listen at {path}: {error.strerror or error}") from error
     raise Unusable(f"another program listens at {path}: end it, or choose another path")

@@ -41,7 +41,7 @@ def group_limits() -> Iterator[int]:
     """Yields the memory limits, in bytes, of this program's control groups and of the groups above
     them, of both versions."""
     try:
-        with open(OWN_GROUPS) as file:
+        with open(OWN_GROUPS, errors="surrogateescape") as file:
             groups = [line.rstrip("\n").split(":", 2) for line in file]
     except OSError:
         return

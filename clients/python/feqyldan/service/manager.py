@@ -6,6 +6,10 @@ import socket
 import time
 from typing import Optional
 
+# The most seconds that a message waits for space among those of others. Every program of the
+# machine can send some to the service manager.
+START_WAIT, ALIVE_WAIT = 5.0, 0.05
+
 
 class Manager:
     """The service manager systemd, if this program runs as a service that notifies it."""
@@ -20,19 +24,26 @@ class Manager:
         self.told_at = 0.0
 
     def is_listening(self) -> None:
-        self.tell(b"READY=1")
+        self.tell(b"READY=1", START_WAIT)
 
     def is_alive(self) -> None:
+        """Sends a sign of life if it is time for one. One that isn't taken is sent again at the
+        next call."""
         now = time.monotonic()
-        if self.pause is not None and now > self.told_at + self.pause:
+        if (self.pause is not None and now > self.told_at + self.pause
+                and self.tell(b"WATCHDOG=1", ALIVE_WAIT)):
             self.told_at = now
-            self.tell(b"WATCHDOG=1")
 
-    def tell(self, words: bytes) -> None:
+    def tell(self, words: bytes, seconds: float) -> bool:
+        """Sends words, and returns whether the service manager takes them in time."""
         if self.address[:1] not in ("/", "@"):
-            return
+            return False
         address = "\0" + self.address[1:] if self.address[0] == "@" else self.address
         with contextlib.suppress(OSError), socket.socket(socket.AF_UNIX,
                                                          socket.SOCK_DGRAM) as sock:
-            sock.setblocking(False)
-            sock.sendto(words, address)
+            sock.settimeout(seconds)
+            # A socket with a peer can wait for it.
+            sock.connect(address)
+            sock.send(words)
+            return True
+        return False

@@ -47,7 +47,8 @@ def memory_of(process: int) -> Tuple[int, int]:
     ended."""
     found = {"VmRSS": 0, "VmHWM": 0}
     try:
-        with open(f"/proc/{process}/status") as file:
+        # A process may have given itself a name of any bytes.
+        with open(f"/proc/{process}/status", errors="replace") as file:
             for line in file:
                 name, _, words = line.partition(":")
                 if name in found:

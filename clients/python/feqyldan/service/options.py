@@ -121,5 +121,5 @@ def listeners(told: argparse.Namespace) -> Tuple[Listener, Optional[Listener]]:
     try:
         return listener, listen_at(told.status, told.status_mode, told.status_group)
     except Unusable:
-        listener.close(Descriptors(listener.refuses_descriptors))
+        listener.close(Descriptors())
         raise

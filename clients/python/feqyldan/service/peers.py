@@ -48,7 +48,8 @@ class Ranges:
         with contextlib.suppress(OSError):
             changed_at = os.stat(self.path).st_mtime_ns
             if changed_at != self.changed_at:
-                with open(self.path, encoding="utf-8") as file:
+                # Names may have any bytes.
+                with open(self.path, encoding="utf-8", errors="surrogateescape") as file:
                     self.ranges = [found for line in file for found in ranges_in(line)]
                 self.changed_at = changed_at
 

@@ -3,7 +3,7 @@
 import contextlib
 import signal
 import socket
-from typing import Dict, Iterator, List
+from typing import Iterator, List
 
 from .events import READ, Events, Handler
 
@@ -22,11 +22,10 @@ def held() -> Iterator[None]:
 
 class Signals:
     """Runs a `with` in which the signals to end, to reload and of a child's end don't interrupt,
-    but are read."""
+    but are read. After it they do nothing: this program is ending, and leaves no socket behind."""
 
     def __init__(self, events: Events, handler: Handler) -> None:
         self.events, self.handler = events, handler
-        self.handlers: Dict[int, object] = {}
 
     def __enter__(self) -> "Signals":
         self.reader, self.writer = socket.socketpair()
@@ -34,14 +33,13 @@ class Signals:
             end.setblocking(False)
         self.events.watch(self.reader.fileno(), READ, self.handler)
         self.before = signal.set_wakeup_fd(self.writer.fileno(), warn_on_full_buffer=False)
-        self.handlers = {which: signal.signal(which, lambda *_: None) for which in TAKEN}
+        for which in TAKEN:
+            signal.signal(which, lambda *_: None)
         signal.pthread_sigmask(signal.SIG_UNBLOCK, TAKEN)
         return self
 
     def __exit__(self, *_: object) -> None:
         signal.set_wakeup_fd(self.before)
-        for which, handler in self.handlers.items():
-            signal.signal(which, handler)  # type: ignore[arg-type]
         self.events.forget(self.reader.fileno())
         self.reader.close()
         self.writer.close()

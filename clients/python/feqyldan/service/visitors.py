@@ -12,7 +12,7 @@ from .. import wire
 from .descriptors import Descriptors
 from .events import READ, WRITE, Events
 from .listener import Listener
-from .peers import peer_of
+from .peers import Ranges, peer_of
 
 # The head of a frame: its length, client number and op. No frame is shorter.
 HEAD = struct.Struct(">IHB")
@@ -39,8 +39,9 @@ Answer = Callable[[bytes, bool], Optional[bytes]]
 
 
 class Visitor:
-    """A connection that is answered once: its user, the bytes that have come, the unsent rest of
-    the answer once there is one, and the time at which the connection is ended in any case."""
+    """A connection that is answered once: the user for whom it counts, the bytes that have come,
+    the unsent rest of the answer once there is one, and the time at which the connection is ended
+    in any case."""
 
     __slots__ = ("user", "heard", "answer", "until")
 
@@ -60,14 +61,17 @@ class Visitors:
         self.present: Dict[socket.socket, Visitor] = {}
 
     def add(self, sock: socket.socket, user: int) -> None:
-        """Adds a connection of a user. If there are too many, the oldest one of the user with the
-        most is closed, so that no user keeps another one away."""
+        """Adds a connection that counts for a user. If there are too many, the oldest one of the
+        user with the most is closed, so that no user keeps another one away."""
         if len(self.present) >= VISITORS_AT_ONCE:
             (most, _), = Counter(each.user for each in self.present.values()).most_common(1)
             self.end(next(one for one, each in self.present.items() if each.user == most))
         sock.setblocking(False)
         self.present[sock] = Visitor(user, time.monotonic() + VISIT_SECONDS)
-        self.events.watch(sock.fileno(), READ, lambda _: self.serve(sock))
+        try:
+            self.events.watch(sock.fileno(), READ, lambda _: self.serve(sock))
+        except OSError:
+            self.end(sock)
 
     def serve(self, sock: socket.socket) -> None:
         """Reads the question of a visitor, sends as much of the answer as its socket takes, and
@@ -150,9 +154,10 @@ class StatusSocket:
     for HTTP's GET /metrics."""
 
     def __init__(self, listener: Listener, events: Events, descriptors: Descriptors,
-                 state: Callable[[], Dict[str, Any]],
-                 metrics: Callable[[Dict[str, Any]], str]) -> None:
+                 state: Callable[[], Dict[str, Any]], metrics: Callable[[Dict[str, Any]], str],
+                 ranges: Ranges) -> None:
         self.listener, self.events, self.descriptors = listener, events, descriptors
+        self.ranges = ranges
         self.recent = RecentReport(state, metrics)
         self.visitors = Visitors(events, descriptors, LINE_BYTES, self.answer)
         # When the next accept is tried, after the system had no resources for a connection.
@@ -161,13 +166,16 @@ class StatusSocket:
         self.listen()
 
     def listen(self) -> None:
-        self.events.watch(self.listener.sock.fileno(), READ, self.accept)
+        try:
+            self.events.watch(self.listener.sock.fileno(), READ, self.accept)
+        except OSError:
+            self.accepts_from = time.monotonic() + ACCEPT_PAUSE
 
     def accept(self, _mask: int) -> None:
         try:
             for _ in range(ACCEPTED_AT_ONCE):
                 sock = self.descriptors.accept(self.listener.sock)
-                self.visitors.add(sock, peer_of(sock).user)
+                self.visitors.add(sock, self.ranges.owner_of(peer_of(sock).user))
         except BlockingIOError:
             pass
         except OSError:
@@ -185,14 +193,16 @@ class StatusSocket:
         if not newline and not is_all:
             return None
         words: List[bytes] = line.split()
-        if words[:1] != [b"GET"]:
-            return self.recent.get().json.encode()
-        return self.page(words[1] if len(words) > 1 else b"/")
+        if words[:1] == [b"GET"] or words[2:] and words[-1].startswith(b"HTTP/"):
+            return self.page(words[0], words[1] if len(words) > 1 else b"/")
+        return self.recent.get().json.encode()
 
-    def page(self, path: bytes) -> bytes:
-        """Returns the HTTP answer to GET."""
+    def page(self, method: bytes, path: bytes) -> bytes:
+        """Returns the HTTP answer to a request."""
         status, kind, body = "404 Not Found", "text/plain", "There are /status and /metrics.\n"
-        if path == b"/metrics":
+        if method != b"GET":
+            status, body = "405 Method Not Allowed", "The state is read by GET.\n"
+        elif path == b"/metrics":
             status, kind, body = "200 OK", "text/plain; version=0.0.4", self.recent.get().metrics
         elif path in (b"/", b"/status"):
             status, kind, body = "200 OK", "application/json", self.recent.get().json
