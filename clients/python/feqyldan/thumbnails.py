@@ -7,8 +7,8 @@ import functools
 import operator
 from typing import Any, List, Sequence, Tuple
 
-from .samples import (Format, Picture, Readable, Samples, numbers_of, numpy_module, of_two_sides,
-                      picture_from, samples_of)
+from .samples import (LETTERS, Format, Picture, Readable, Samples, numbers_of, numpy_module,
+                      of_two_sides, picture_from, samples_of)
 from .whole import whole
 
 # Pixels of a thumbnail's longer side.
@@ -29,7 +29,8 @@ def thumbnail(picture: Any, side: int = SIDE, keeps_marks: bool = False) -> Pict
     small = reduced(picture, step, keeps_marks)
     samples = samples_of(small)
     if samples.fmt == Format.U8:
-        return small
+        # Without a reduction it is the caller's own.
+        return picture_from(samples) if step == 1 else small
     content = greys(samples, (0, 0, samples.width, samples.height))
     numpy = numpy_module()
     if numpy is None:
@@ -45,8 +46,12 @@ def _in_two_sides(picture: Any) -> Any:
         return picture.read()
     numpy = numpy_module()
     if numpy is not None and type(picture) is numpy.ndarray:
-        return of_two_sides(picture)
-    if isinstance(picture, memoryview) and picture.ndim == 2 and picture.c_contiguous:
+        pixels = of_two_sides(picture)
+        # Another type is refused before its values are summed.
+        samples_of(pixels[:1, :1])
+        return pixels
+    if (isinstance(picture, memoryview) and picture.ndim == 2 and picture.c_contiguous
+            and picture.format in LETTERS.values()):
         return picture
     return picture_from(samples_of(picture))
 

@@ -251,6 +251,39 @@ class TestRuns(StudioTest):
         self.assertEqual(fault.code, "INVALID_DIMENSION")
         self.assertRegex(fault.words, r"^/.*/other.pgm: .*\(2, 2\)")
 
+    def test_a_picture_that_is_written_anew_with_the_same_time(self):
+        """In place, and of the same length."""
+        bench, path = self.bench(), self.pictures[0]
+        self.assertEqual(bench.run(REMEMBERING, 0).shown["camera"].samples.tolist(), self.rows[0])
+        there = os.stat(path)
+        with open(self.pictures[1], "rb") as other, open(path, "r+b") as file:
+            file.write(other.read())
+        os.utime(path, ns=(there.st_atime_ns, there.st_mtime_ns))
+        self.assertEqual(bench.run(REMEMBERING, 0).shown["camera"].samples.tolist(), self.rows[1])
+
+    def test_a_bad_picture_whose_name_is_in_the_words(self):
+        self.addCleanup(os.chdir, os.getcwd())
+        os.chdir(self.folder)
+        vx.write_pgm("2", [[1, 2]])
+        fault, = self.bench(["2", *self.pictures]).run(REMEMBERING, 1).faults
+        self.assertRegex(fault.words, r"^2: .*\(1, 2\)")
+
+    def test_values_of_other_types(self):
+        """Each is a fault of its object or its node, and the rest of the graph runs."""
+        told = contents({"function": ["not_"]}, INVERTING, out=image(),
+                        table={"kind": "lookup table", "format": "U8", "entries": {}},
+                        stored=image(samples={"kept": []}),
+                        nameless={"kind": "image", "file": "a\0b.pgm"})
+        calls = self.studio(told)
+        light = calls["about"]({})["contents"]
+        head, _ = unpacked(calls["run"]({"contents": light, "at": 0}))
+        self.assertEqual([fault["object"] or fault["node"] for fault in head["faults"]],
+                         ["table", "stored", "nameless", 1])
+        self.assertEqual({*head["shown"]}, {"camera", "out"})
+        self.save(calls, light)
+        with open(self.file, encoding="utf-8") as file:
+            self.assertEqual(json.load(file), told)
+
     def test_advice_for_an_input_that_is_not_connected(self):
         told = contents({"function": "absdiff", "in1": "camera", "output": "out"},
                         {"function": "threshold", "input": "camera", "output": "marks"},
@@ -507,6 +540,34 @@ class TestFile(StudioTest):
         reply = self.save(self.studio(), contents())
         self.assertIn("it can't be an input: no node reads it", reply["fault"])
 
+    def test_a_saved_file_that_no_server_reads(self):
+        """The page learns that the file is saved, and its stamp."""
+        calls, told = self.studio(), contents(INVERTING, out=image())
+        for error in (vx.ServerEnded("the server ended"), vx.ProgramNotFound("no program")):
+            with mock.patch("feqyldan.studio.bench.Server", side_effect=error):
+                reply = self.save(calls, told)
+            self.assertEqual((reply["fault"], reply["stamp"]),
+                             (str(error), calls["about"]({})["stamp"]))
+
+    def test_contents_that_no_file_can_have(self):
+        calls = self.studio()
+        about = calls["about"]({})
+        for told, words in ((contents(*[INVERTING] * 257), "^a graph file has at most 256 nodes"),
+                            ({**contents(), "more": 1}, "^a graph file has no field 'more'")):
+            self.refused(400, calls["save"], words, **{**about, "contents": told})
+        self.assertFalse(os.path.exists(self.file))
+
+    def test_a_file_that_changes_while_it_is_read(self):
+        """Its text isn't written for other contents."""
+        first, second = contents(), contents(INVERTING, out=image())
+        made = Document(self.file, self.pictures, Blobs())
+        with mock.patch("feqyldan.studio.document.told_by", return_value=second), \
+                mock.patch("feqyldan.studio.document.content_of", side_effect=[
+                    vx.graph_text(told).encode() for told in (first, second, second, second)]):
+            self.assertEqual(made.read("station.json")["contents"], second)
+        made.save(second, "station.json", None, True)
+        self.assertEqual(self.text().decode(), vx.graph_text(second))
+
     def test_the_same_contents_keep_the_bytes(self):
         told = contents(INVERTING, out=image())
         text = json.dumps(told, indent=4).encode() + b"\n\n"
@@ -520,6 +581,17 @@ class TestFile(StudioTest):
         changed = contents(INVERTING, out=image(), more=image())
         self.save(calls, changed)
         self.assertEqual(self.text().decode(), vx.graph_text(changed))
+
+    def test_a_value_of_another_type_is_changed(self):
+        """Python holds 24.0 and 24 for equal, and 1 and true. `run` refuses 24.0 and 1 here."""
+        node = {"function": "threshold", "input": "camera", "threshold": "limit", "output": "out"}
+        for above, is_input in ((24.0, True), (24, 1)):
+            limit = {"kind": "threshold", "format": "U8", "above": above}
+            calls = self.studio(contents(node, out=image(), limit=limit,
+                                         camera=image(input=is_input)))
+            told = contents(node, out=image(), limit={**limit, "above": 24})
+            self.assertEqual(self.save(calls, told)["fault"], "")
+            self.assertEqual(self.text().decode(), vx.graph_text(told))
 
     def test_a_file_that_another_program_changed(self):
         told = contents(INVERTING, out=image())
@@ -601,8 +673,10 @@ class TestFile(StudioTest):
 
     def test_a_file_that_the_page_cannot_show(self):
         for told, words in (({"a": 7}, 'object "a": an object must be a JSON object'),
-                            ({}, "node 1: a node must be a JSON object")):
-            self.put("station.json", {"feqyldan": 1, "objects": told, "nodes": [None]})
+                            ({}, "node 1: a node must be a JSON object"),
+                            ({"a": {"width": float("inf")}}, 'object "a": it has a number that')):
+            text = json.dumps({"feqyldan": 1, "objects": told, "nodes": [None]})
+            self.put("station.json", text.replace("Infinity", "1e999"))
             with self.assertRaisesRegex(vx.GraphFileError, words):
                 self.studio()
 
@@ -650,6 +724,22 @@ class TestFile(StudioTest):
         os.mkdir(self.path("graphs"))
         made = Document(self.path("graphs/a.json"), self.pictures, Blobs())
         self.assertEqual(made.files, [f"../part{number}.pgm" for number in range(3)])
+
+    def test_a_folder_by_a_link(self):
+        """Paths from a graph's folder begin where the link leads. A link to a picture stays one."""
+        os.makedirs(self.path("data/graphs"))
+        os.symlink("data/graphs", self.path("link"))
+        os.symlink("part0.pgm", self.path("good.pgm"))
+        vx.write_pgm(self.path("data/part1.pgm"), BLACK)
+        made = Studio(self.path("link/station.json"), [self.path("part1.pgm"),
+                                                       self.path("good.pgm")])
+        self.addCleanup(made.close)
+        files = made.calls["about"]({})["files"]
+        self.assertEqual(files, ["../../good.pgm", "../../part1.pgm"])
+        told = contents(**{file: {"kind": "image", "file": file} for file in files})
+        made.calls["run"]({"contents": told})
+        self.assertEqual([made._chosen.shown[file].samples.tolist() for file in files],
+                         self.rows[:2])
 
     def test_natural_order(self):
         names = ["part2.pgm", "part10.pgm", "part1.pgm"]

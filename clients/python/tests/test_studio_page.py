@@ -20,7 +20,7 @@ from feqyldan.storage import read_bytes
 
 WIDTH, HEIGHT = 160, 90
 PICTURES = "part0.pgm", "part1.pgm", "part2.pgm", "part3.pgm", "good.pgm"
-ENTER, ESCAPE, TAB, DELETE = "\ue007", "\ue00c", "\ue004", "\ue017"
+ENTER, ESCAPE, TAB, DELETE, BACKSPACE = "\ue007", "\ue00c", "\ue004", "\ue017", "\ue003"
 LEFT, UP, RIGHT, DOWN, PAGE_UP, PAGE_DOWN = (
     "\ue012", "\ue013", "\ue014", "\ue015", "\ue00e", "\ue00f")
 HOME = "\ue011"
@@ -104,6 +104,13 @@ SCRATCHES = {"feqyldan": 1, "objects": {
         {"function": "dilate3x3", "input": "core", "output": "marks", "border": "REPLICATE"}]}
 
 
+def limit_of(page):
+    """Returns the limit of a threshold: that of the graph, the slider's and the field's."""
+    controls = (page.find(selector) for selector in ("#p-limit", "#p-limit-n"))
+    return (page.contents["objects"]["limit"]["above"],
+            *(one.get_attribute("value") for one in controls))
+
+
 class TestPage(PageTest):
     def test_the_loop_by_mouse(self):
         page = self.start()
@@ -154,9 +161,7 @@ class TestPage(PageTest):
         self.assertEqual(page.contents["objects"]["limit"]["above"], 24)
         page.control("z", shift=True)
         self.assertNotEqual(page.contents["objects"]["limit"]["above"], 24)
-        field = page.find("#p-limit-n")
-        field.clear()
-        field.send_keys("30", TAB)
+        page.find("#p-limit-n").send_keys(CONTROL, "a", CONTROL, "30", TAB)
         page.idle()
         self.assertEqual(page.contents["objects"]["limit"]["above"], 30)
 
@@ -361,6 +366,50 @@ class TestPage(PageTest):
         self.assertEqual(self.saved()["objects"]["limit"]["above"], 24)
         self.assertTrue(page.run("return studio.model.isModified"))
 
+    def test_two_saves_at_once(self):
+        """The second one doesn't find the file changed by another program."""
+        page = self.start(SCRATCHES)
+        page.choose("marks")
+        page.add("median3x3")
+        page.run("Promise.all([studio.files.save(), studio.files.save()])"
+                 ".then(() => { window.isSaved = true })")
+        self.assertTrue(page.until(
+            "return [window.isSaved, document.getElementById('question').open]"
+            ".findIndex(Boolean) + 1") == 1)
+        self.assertEqual((page.status, self.saved()), ("Saved station.json", page.contents))
+
+    def test_a_name_that_is_being_typed(self):
+        """It is saved too."""
+        page = self.start(SCRATCHES)
+        page.choose("over")
+        page.find("#p-name").send_keys(CONTROL, "a", CONTROL, "bright")
+        page.control("s")
+        page.until("return document.getElementById('status').textContent.startsWith('Saved')")
+        self.assertIn("bright", self.saved()["objects"])
+        self.assertFalse(page.run("return studio.model.isModified"))
+
+    def test_another_studio_at_the_port(self):
+        """It has another token. The browser saves the changes, and the new address loads the page
+        anew."""
+        page = self.start(SCRATCHES)
+        page.choose("marks")
+        page.add("median3x3")
+        page.filled()
+        self.studio.end()
+        self.studio = StudioProcess(self.folder, "--port", self.studio.port, "station.json",
+                                    "good.pgm")
+        self.addCleanup(self.studio.end)
+        page.control("s")
+        page.until("return document.getElementById('question-title').textContent === "
+                   "'The studio has ended'")
+        page.keys(ESCAPE)
+        page.run("studio.model.markSaved()")
+        self.driver.get(self.studio.address)
+        page.until("return window.studio?.about.pictures.length === 1")
+        page.idle()
+        self.assertEqual(page.contents, SCRATCHES)
+        self.assertEqual(self.driver.current_url, f"http://127.0.0.1:{self.studio.port}/")
+
     def test_a_studio_that_ended(self):
         """The browser saves what the studio can't any more."""
         page = self.start(SCRATCHES)
@@ -392,6 +441,66 @@ class TestPage(PageTest):
         self.assertEqual((page.status, page.run("return studio.chosen")), ("", "camera"))
         self.assertEqual(page.find("#panel h2").text.split("\n")[0], "Input")
 
+    def test_a_double_click_removes_one_node(self):
+        page = self.start(SCRATCHES)
+        page.choose("over")
+        page.run("""const real = window.fetch
+            const released = new Promise(resolve => { window.release = resolve })
+            window.fetch = (...told) => released.then(() => real(...told))""")
+        page.actions().double_click(page.find("#panel h2 button")).perform()
+        page.run("window.release()")
+        page.idle()
+        self.assertEqual(page.functions, ["absdiff", "erode3x3", "dilate3x3"])
+
+    def test_an_edit_right_after_undo(self):
+        """It edits the graph that is there, not the one before."""
+        page = self.start(SCRATCHES)
+        page.choose("over")
+        page.keys("]")
+        page.run("""studio.undo()
+            const field = document.getElementById('p-limit')
+            field.value = 99
+            field.dispatchEvent(new Event('input'))
+            field.dispatchEvent(new Event('change'))""")
+        page.idle()
+        self.assertEqual(page.contents["objects"]["limit"]["above"], 99)
+        page.control("z")
+        self.assertEqual(page.contents, SCRATCHES)
+
+    def test_another_file_is_drawn_before_it_has_run(self):
+        """No control of the file before edits it."""
+        page = self.start(SCRATCHES)
+        page.choose("over")
+        shown = page.run(f"""{BEGIN}
+            return [document.querySelectorAll('.card').length,
+                    document.querySelectorAll('#panel input[type=range]').length]""",
+                         {"feqyldan": 1, "nodes": [], "objects": {"camera": image(input=True)}})
+        self.assertEqual(shown, [1, 0])
+
+    def test_a_change_while_a_run_fails(self):
+        """The change runs, and the page shows it. A failure alone shows the graph as it is."""
+        page = self.start(SCRATCHES)
+        page.filled()
+        page.choose("over")
+        page.run("""const real = window.fetch
+            window.fails = later => {
+              window.fetch = async () => {
+                window.fetch = real
+                later()
+                return new Response('{"error": "it failed"}', { status: 503 })
+              }
+            }
+            const set = above => studio.edit(() => { studio.model.objects.limit.above = above })
+            fails(() => set(40))
+            set(30)""")
+        page.until("return !studio.runs.isRunning")
+        page.idle()
+        self.assertEqual(page.status, "")
+        self.assertEqual(page.find("#p-limit-n").get_attribute("value"), "40")
+        page.run("fails(() => {}); studio.add('box3x3')")
+        page.until("return !studio.runs.isRunning")
+        self.assertEqual((page.status, page.count("[data-cell=box]")), ("it failed", 1))
+
     def test_the_buttons_stay_when_the_file_is_saved(self):
         """A second click on Save isn't one on Save as."""
         page = self.start(SCRATCHES)
@@ -412,6 +521,15 @@ class TestPage(PageTest):
         page.add("median3x3")
         first, second = page.run("return studio.runs.latencies.slice(arguments[0])", before)
         self.assertGreaterEqual(second["took"], first["took"] + second["call"])
+
+    def test_sums_stay_results(self):
+        """A virtual image has no old samples, to which a node could add."""
+        page = self.start(SCRATCHES)
+        page.choose("camera")
+        page.add("accumulate")
+        before = page.contents
+        page.keys("r")
+        self.assertEqual((page.contents, page.faults), (before, []))
 
     def test_the_titles_of_a_picture(self):
         page = self.start(SCRATCHES)
@@ -452,6 +570,31 @@ class TestPage(PageTest):
         page.filled()
         self.assertEqual(page.run("return shown"), [0, 1, 2, 3, 4, 3, 4, 0, 1, 2])
 
+    def test_the_strip_after_another_choice(self):
+        """A picture that comes late is of the image before, and isn't shown."""
+        page = self.start(SCRATCHES)
+        page.choose("over")
+        page.filled()
+        page.run("""const { strip } = studio, real = window.fetch
+            window.fetch = async (path, told) => {
+              const reply = await real(path, told)
+              if (path !== '/api/strip') return reply
+              window.fetch = real
+              await new Promise(resolve => { window.release = resolve })
+              return reply
+            }
+            const shown = window.shown = []
+            strip.show = function (tile, reply, version) {
+              shown.push(version)
+              Object.getPrototypeOf(strip).show.call(strip, tile, reply, version)
+            }
+            studio.edit(() => { studio.model.objects.limit.above = 9 })""")
+        page.until("return !!window.release")
+        page.run("studio.choose('difference'); window.release()")
+        page.filled()
+        self.assertEqual(page.run("return [...new Set(shown)]"),
+                         [page.run("return studio.strip.version()")])
+
     def test_rename(self):
         page = self.start(SCRATCHES)
         page.choose("over")
@@ -478,24 +621,74 @@ class TestPage(PageTest):
         page.choose("over")
         page.find("#p-limit-n").send_keys(CONTROL, "a", CONTROL, "256", TAB)
         page.idle()
-        self.assertEqual(page.status, "256 isn't possible here: give a number from 0 to 255")
-        page.find("#p-limit-n").send_keys(CONTROL, "a", CONTROL, "26", TAB)
+        words = "isn't possible here: give a whole number from 0 to 255"
+        self.assertEqual(page.status, f"256 {words}")
+        self.assertEqual(limit_of(page), (24, "24", "24"))
+        self.assertEqual((page.contents, page.run("return studio.model.past")), (SCRATCHES, []))
+        for typed, status in (("26", ""), ("1.5", f"1.5 {words}"), (DELETE, f"Nothing {words}")):
+            page.find("#p-limit-n").send_keys(CONTROL, "a", CONTROL, typed, TAB)
+            page.idle()
+            self.assertEqual((page.status, limit_of(page)), (status, (26, "26", "26")))
+        page.control("z")
+        self.assertEqual(page.contents, SCRATCHES)
+
+    def test_a_value_out_of_range_after_others(self):
+        """The value goes back to the one before, and further digits may make another one."""
+        page = self.start(SCRATCHES)
+        page.choose("over")
+        page.find("#p-limit-n").send_keys(CONTROL, "a", CONTROL, "300", BACKSPACE, TAB)
         page.idle()
-        self.assertEqual(page.status, "")
+        self.assertEqual((page.status, limit_of(page)), ("", (30, "30", "30")))
+        page.find("#p-limit-n").send_keys(CONTROL, "a", CONTROL, "300", ENTER, BACKSPACE, ENTER)
+        page.idle()
+        self.assertEqual(limit_of(page), (3, "3", "3"))
+        for above in (30, 24):
+            page.control("z")
+            self.assertEqual(page.contents["objects"]["limit"]["above"], above)
+
+    def test_a_value_out_of_range_is_not_saved(self):
+        page = self.start(SCRATCHES)
+        page.choose("over")
+        page.add("median3x3")
+        page.choose("over")
+        page.find("#p-limit-n").send_keys(CONTROL, "a", CONTROL, "300")
+        page.control("s")
+        page.until("return !studio.model.isModified")
+        self.assertEqual(self.saved()["objects"]["limit"]["above"], 24)
+
+    def point(self, column, row):
+        """Moves the pointer to a pixel."""
+        x, y = self.page.run("""
+            const { viewer } = studio, around = viewer.large.getBoundingClientRect()
+            return [around.left + (viewer.x + (arguments[0] + 0.5) * viewer.scale) / viewer.ratio,
+                    around.top + (viewer.y + (arguments[1] + 0.5) * viewer.scale) / viewer.ratio]
+            """, column, row)
+        actions = self.page.actions()
+        actions.w3c_actions.pointer_action.move_to_location(int(x), int(y))
+        actions.perform()
 
     def test_the_sample_under_the_pointer(self):
         page = self.start(SCRATCHES)
         page.choose("difference")
-        x, y = page.run("""const { viewer } = studio, around = viewer.large.getBoundingClientRect()
-            return [around.left + (viewer.x + 60.5 * viewer.scale) / viewer.ratio,
-                    around.top + (viewer.y + 40.5 * viewer.scale) / viewer.ratio]""")
-        actions = page.actions()
-        actions.w3c_actions.pointer_action.move_to_location(int(x), int(y))
-        actions.perform()
+        self.point(60, 40)
         page.until("return document.getElementById('under').textContent.startsWith('x 60  y 40')")
         sample = part(1, False)[40][60]
         page.until(f"return document.querySelector('[data-cell=camera] .value').textContent === "
                    f"'{sample}'")
+
+    def test_names_that_objects_of_javascript_have(self):
+        told = {"feqyldan": 1, "objects": {
+            "constructor": image(input=True), "toString": {"kind": "extremes"}}, "nodes": [
+                {"function": "min_max_loc", "input": "constructor", "extremes": "toString"}]}
+        page = self.start(told)
+        self.point(60, 40)
+        page.until("return document.querySelector('[data-cell=constructor] .value')"
+                   ".textContent.match(/^[0-9]+$/)")
+        self.assertEqual(page.find("[data-cell=toString] .value").text, "")
+        # The cards that are drawn before the graph has run have no shape of the input.
+        wires = page.run(f"{BEGIN}; return document.getElementById('wires').innerHTML", told)
+        self.assertIn('d="M ', wires)
+        self.assertNotIn("NaN", wires)
 
     def test_the_limits_in_the_histogram(self):
         page = self.start(SCRATCHES)
@@ -505,6 +698,51 @@ class TestPage(PageTest):
             10, 0).release().perform()
         page.idle()
         self.assertGreater(page.contents["objects"]["limit"]["above"], 120)
+
+    def test_the_limits_of_signed_samples(self):
+        """The axis and the slider have the range that the samples of the picture use."""
+        for name, least, most in (("bright.pgm", 100, 160), ("dark.pgm", 0, 1)):
+            vx.write_pgm(self.path(name), [[least] * WIDTH, *[[most] * WIDTH] * (HEIGHT - 1)])
+        told = {"feqyldan": 1, "objects": {
+            "camera": image(input=True), "wide": image(format="S16"), "marks": image(),
+            "limit": {"kind": "threshold", "format": "S16", "above": 24}}, "nodes": [
+                {"function": "convert_depth", "input": "camera", "policy": "WRAP", "shift": 0,
+                 "output": "wide"},
+                {"function": "threshold", "input": "wide", "threshold": "limit",
+                 "output": "marks"}]}
+        page = self.start(told, ("bright.pgm", "dark.pgm"))
+        page.choose("marks")
+        for key, ends in ((None, ["99", "160"]), (PAGE_DOWN, ["-1", "1"])):
+            if key:
+                page.keys(key)
+            self.assertEqual(page.run(
+                "const slider = document.getElementById('p-limit');"
+                "return [[...document.querySelector('#panel .ticks').children]"
+                ".map(end => end.textContent), [slider.min, slider.max]]"), [ends, ends])
+
+    def test_the_values_of_bins(self):
+        """A bin of a histogram of few values has the colour of its value."""
+        self.start(SCRATCHES)
+        wrong = self.driver.execute_async_script("""const [done] = arguments
+            import('/plots.js').then(({ leastIn }) => {
+              const [low, high] = [-100, 99]
+              const values = Array.from({ length: high - low + 1 }, (_, k) => low + k)
+              const bin = value => Math.floor((value - low) * 256 / values.length)
+              done(values.filter(value => (
+                leastIn({ bins: { length: 256 }, low, high }, bin(value)) !== value)))
+            }).catch(error => done(error.message))""")
+        self.assertEqual(wrong, [])
+
+    def test_objects_with_the_same_fault(self):
+        page = self.start(SCRATCHES)
+        os.remove(self.path("good.pgm"))
+        page.run("""studio.edit(() => {
+            const { objects, nodes } = studio.model.contents
+            Object.assign(objects, { same: objects.good, turned: { kind: 'virtual image' } })
+            nodes.push({ function: 'not_', input: 'same', output: 'turned' })
+        })""")
+        page.idle()
+        self.assertIn("good, same: good.pgm: No such file", page.find("#problems").text)
 
     def test_a_picture_of_another_size(self):
         vx.write_pgm(self.path("small.pgm"), [[1, 2], [3, 4]])
@@ -552,6 +790,39 @@ class TestPage(PageTest):
                           "return [full.at(full.x0 + 7, full.y0 + 2), full.x0 + 7]")
         self.assertEqual(sample[0], sample[1] % 250)
 
+    def start_with_large_pictures(self, *samples):
+        """Starts with pictures that have one of these samples everywhere, and come in parts."""
+        width, height = 3000, 1500
+        names = [f"large{sample}.pgm" for sample in samples]
+        for name, sample in zip(names, samples):
+            with open(self.path(name), "wb") as file:
+                file.write(b"P5\n%d %d\n255\n" % (width, height) + bytes([sample]) * width * height)
+        return self.start(pictures=names)
+
+    def test_the_sample_of_another_picture(self):
+        """The pointer rests, and the samples come again after each run."""
+        page = self.start_with_large_pictures(10, 200)
+        self.point(600, 400)
+        words = "return document.getElementById('under').textContent"
+        page.until(f"{words}.endsWith(' 10')")
+        page.keys(PAGE_DOWN)
+        self.assertFalse(page.run(f"{words}.endsWith(' 10')"))
+        page.until(f"{words}.endsWith(' 200')")
+        self.assertEqual(page.find("[data-cell=camera] .value").text, "200")
+
+    def test_the_part_below_the_marks(self):
+        """It comes anew as the marks' part does."""
+        page = self.start_with_large_pictures(10)
+        page.add("threshold")
+        page.click("#overlay")
+        covers = ("return ['camera', 'marks'].map(name => studio.result.fulls.get(name))"
+                  ".every(full => full?.covers(studio.viewer.partOf(full)))")
+        for button in ("#one", "#fit"):
+            page.click(button)
+            page.until(covers)
+            # A run fetches the parts that are seen.
+            page.keys("]")
+
     def check_histograms_of_parts(self, page, step):
         """They are shown until those of the whole images come."""
         page.until("return !!studio.result.fulls.get('camera').exact")
@@ -573,6 +844,109 @@ class TestPage(PageTest):
         self.assertIn(f"not 0{(249 - above) * 18_000:,}", facts)
         self.assertEqual(page.run("return studio.result.fulls.get('camera').histogram.bins"),
                          [18_000] * 250 + [0] * 6)
+
+
+# Opens a file's contents.
+BEGIN = "studio.about.contents = arguments[0]; studio.begin()"
+# Chooses each image and each node, and moves its limit.
+CHOOSE_ALL = """
+for (const { dataset } of document.querySelectorAll('.cell')) {
+  if (dataset.cell === undefined) studio.chooseNode(+dataset.node)
+  else studio.choose(dataset.cell)
+  studio.nudgeLimit(1)
+}
+studio.choose('over')
+"""
+# The contents of a file, and values of other types than the page writes at places in it. JavaScript
+# makes no text of NO_TEXT.
+OTHER_TYPES = {**SCRATCHES, "objects": {
+    **SCRATCHES["objects"], "kernel": {"kind": "convolution", "rows": [[1, 2, 1]] * 3},
+    "table": {"kind": "lookup table", "format": "U8", "entries": [*range(256)]},
+    "old": image(kind="delay", slots=2, ages=True),
+    **{name: {"kind": "virtual image"} for name in ("edges", "sum", "turned")}}, "nodes": [
+        *SCRATCHES["nodes"],
+        {"function": "convolve", "input": "camera", "convolution": "kernel", "output": "edges"},
+        {"function": "add", "in1": "camera", "in2": "good", "policy": "WRAP", "output": "sum"},
+        {"function": "table_lookup", "input": "camera", "lut": "table", "output": "turned"}]}
+NO_TEXT = {"toString": 1}
+VALUES = (
+    (("nodes", 0, "function"), (NO_TEXT,)), (("nodes", 0, "in2"), (NO_TEXT,)),
+    (("nodes", 1, "input"), (["difference"], NO_TEXT)), (("nodes", 1, "threshold"), (NO_TEXT,)),
+    (("nodes", 2, "border"), ({"toLowerCase": 1}, NO_TEXT)),
+    (("nodes", 5, "policy"), (1, ["WRAP"])), (("objects", "marks", "kind"), (NO_TEXT,)),
+    (("objects", "good", "file"), (NO_TEXT,)), (("objects", "old", "slots"), (2**32, NO_TEXT)),
+    (("objects", "limit", "above"), (NO_TEXT,)), (("objects", "limit", "format"), (7,)),
+    (("objects", "limit", "between"), (5, False, [NO_TEXT])),
+    (("objects", "kernel", "rows"), ([[1, 2, 1], 5], {"0": [1]})),
+    (("objects", "kernel", "scale"), (NO_TEXT,)), (("objects", "table", "entries"), ([NO_TEXT],)))
+
+
+class TestFaultyFiles(PageTest):
+    """Files that another program has written."""
+
+    def test_values_of_other_types(self):
+        page = self.start(OTHER_TYPES)
+        for (part, key, field), values in VALUES:
+            for value in values:
+                told = json.loads(json.dumps(OTHER_TYPES))
+                told[part][key][field] = value
+                with self.subTest(place=(part, key, field), value=value):
+                    page.run(BEGIN, told)
+                    page.idle()
+                    self.assertEqual(page.status, "")
+                    self.assertTrue(page.faults)
+                    self.assertGreater(page.count(".card"), 7)
+                    page.run(CHOOSE_ALL)
+                    page.idle()
+                    self.assertEqual(page.status, "")
+                    self.assertEqual([line for line in page.logs() if "Uncaught" in line], [])
+
+    def test_limits_of_another_type_are_mended(self):
+        page = self.start(SCRATCHES)
+        for between, limit in ((5, {"above": 25}), ([], {"between": [0, 255]})):
+            told = json.loads(json.dumps(SCRATCHES))
+            told["objects"]["limit"]["between"] = between
+            page.run(BEGIN, told)
+            page.run("studio.choose('over')")
+            page.idle()
+            if between:
+                page.keys("]")
+            else:
+                for way in ("above", "between"):
+                    page.run("[...document.querySelectorAll('.seg button')].find("
+                             "one => one.textContent === arguments[0]).click()", way)
+                    page.idle()
+            self.assertEqual(page.contents["objects"]["limit"],
+                             {"kind": "threshold", "format": "U8", **limit})
+            self.assertEqual(page.faults, [])
+
+    def test_an_output_that_is_not_there(self):
+        """Its node can be chosen, and removed."""
+        told = json.loads(json.dumps(SCRATCHES))
+        told["nodes"][3]["output"] = 7
+        page = self.start(told)
+        page.choose("7")
+        self.assertEqual(page.find("#panel h2").text.split("\n")[0], "4 dilate3x3")
+        page.keys(DELETE)
+        self.assertEqual((page.functions, page.faults), (
+            [node["function"] for node in told["nodes"][:3]], []))
+
+    def test_names_with_line_breaks(self):
+        for line in ("\r", "\u2028"):
+            name = f"last{line}frame"
+            page = self.start({"feqyldan": 1, "objects": {
+                "camera": image(input=True), name: image(kind="delay", slots=2, ages=True)},
+                "nodes": [{"function": "max", "in1": "camera", "in2": f"{name}[-1]",
+                           "output": f"{name}[0]"}]})
+            self.assertEqual((page.status, page.faults, page.count(".card")), ("", [], 3))
+            page.run("studio.choose(arguments[0]); studio.rename(arguments[1], 'other')",
+                     f"{name}[-1]", name)
+            page.idle()
+            self.assertEqual([*page.contents["nodes"][0].values()],
+                             ["max", "camera", "other[-1]", "other[0]"])
+            self.assertEqual((page.run("return studio.chosen"), page.faults), ("other[-1]", []))
+            page.run("studio.model.markSaved()")
+        self.assertEqual(page.run("return studio.model.base('last\\nframe[0]')"), "last\nframe")
 
 
 # The text of the page whose contrast with its background is too low, in JavaScript.

@@ -114,6 +114,8 @@ class TestWeb(unittest.TestCase):
     def setUp(self):
         def fails(told):
             raise {"key": KeyError("a"), "system": OSError("no"), "client": vx.Closed("shut"),
+                   "number": OverflowError("cannot convert float infinity to integer"),
+                   "memory": MemoryError(),
                    "file": OSError(28, "No space left on device", "a.json")}[told["kind"]]
 
         self.asked = []
@@ -160,13 +162,21 @@ class TestWeb(unittest.TestCase):
     def test_tokens(self):
         for token in (None, "", "a toke", "a token ", "A token", "\xe9"):
             if token != "a token ":
-                self.refuses(403, X_Studio_Token=token)
+                self.refuses(401, X_Studio_Token=token)
 
     def test_hosts(self):
         for host in (None, f"evil.example:{self.port}", "127.0.0.1", f"localhost:{self.port}",
                      f"127.0.0.1:{self.port}.evil.example", "127.0.0.1:1"):
             self.refuses(421, Host=host)
             self.refuses(421, "GET", "/", Host=host)
+
+    def test_port_80(self):
+        """Browsers leave it out."""
+        self.site.server_port = 80
+        for host in ("127.0.0.1", self.site.host):
+            self.assertEqual(self.ask(Host=host, Origin=f"http://{host}")[0], 200)
+        for host, origin in (("localhost", "http://localhost"), ("127.0.0.1", "null")):
+            self.assertNotEqual(self.ask(Host=host, Origin=origin)[0], 200)
 
     def test_origins_and_sites(self):
         for origin in ("https://evil.example", "http://127.0.0.1:9", "null",
@@ -192,9 +202,11 @@ class TestWeb(unittest.TestCase):
         self.refuses(404, path="/api/none")
 
     def test_bodies(self):
-        self.refuses(413, Content_Length=str(10**9))
+        for length in (str(10**9), "9" * 5000):
+            self.refuses(413, Content_Length=length)
         self.refuses(411, Content_Length=None, Transfer_Encoding="chunked")
-        self.refuses(411, Content_Length="-1")
+        for length in ("-1", "\xb2"):
+            self.refuses(411, Content_Length=length)
         for body in ("{", "[]", "1", "", "[" * 100_000):
             self.refuses(400, body=body)
 
@@ -215,8 +227,8 @@ class TestWeb(unittest.TestCase):
         self.assertEqual((said.getvalue(), self.asked), ("", [{}]))
 
     def test_errors_of_calls(self):
-        for kind, status in (("key", 400), ("system", 500), ("client", 500), ("file", 500),
-                             ("none", 400)):
+        for kind, status in (("key", 400), ("number", 400), ("system", 500), ("client", 500),
+                             ("file", 500), ("memory", 500), ("none", 400)):
             self.refuses(status, path="/api/fail", body=json.dumps({"kind": kind}))
         _, body, _ = self.ask(path="/api/fail", body='{"kind": "file"}')
         self.assertEqual(json.loads(body), {"error": "a.json: No space left on device"})

@@ -2,7 +2,9 @@
 
 import array
 import contextlib
+import ctypes
 import unittest
+import warnings
 from unittest import mock
 
 from program import ProgramTest, vx
@@ -31,6 +33,18 @@ def view(rows, letter):
 
 
 class TestThumbnails(unittest.TestCase):
+    def test_memory_of_other_types(self):
+        for letter in "?c":
+            self.assertRaises(vx.BadPicture, vx.thumbnail,
+                              memoryview(bytes(4)).cast(letter, [2, 2]))
+        rows = (ctypes.c_int16 * 2 * 2)((0, 255), (255, 0))
+        self.assertEqual(vx.thumbnail(memoryview(rows)).tolist(), [[0, 255], [255, 0]])
+
+    def test_it_is_the_callers_own(self):
+        picture = numpy.zeros((2, 2), numpy.uint8) if numpy else view([[0, 0], [0, 0]], "B")
+        vx.thumbnail(picture)[0, 0] = 9
+        self.assertEqual(picture[0, 0], 0)
+
     @unittest.skipUnless(numpy, "NumPy isn't installed")
     def test_means_and_marks(self):
         pixels = numpy.zeros((50, 70), numpy.uint8)
@@ -84,6 +98,16 @@ class TestThumbnails(unittest.TestCase):
     def test_an_array_of_another_shape(self):
         with self.assertRaisesRegex(vx.WrongPicture, "must have the shape"):
             vx.thumbnail(numpy.zeros((3, 3, 3), numpy.uint8))
+
+    @unittest.skipUnless(numpy, "NumPy isn't installed")
+    def test_arrays_of_other_types(self):
+        """Also of those that NumPy can't sum, or not without a warning."""
+        for dtype in ("float64", "complex64", "bool", "object", "U1", "M8[s]"):
+            for side in (9, 100):
+                with self.subTest(dtype, side=side), warnings.catch_warnings():
+                    warnings.simplefilter("error")
+                    self.assertRaisesRegex(vx.BadPicture, "samples must be uint8, ", vx.thumbnail,
+                                           numpy.zeros((50, 50), dtype), side)
 
     def test_rows_of_numbers(self):
         for way in (contextlib.nullcontext, without_numpy_everywhere):

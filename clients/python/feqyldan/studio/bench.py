@@ -21,6 +21,7 @@ from ..graph_drafts import base_of
 from ..graph_files import GraphFileError, Place, input_of
 from ..images import AnyImage
 from ..server import Server
+from ..storage import cause_of
 from .drafts import Blobs, Pool, PooledDraft, remembers, state_of
 from .runs import RememberingRun, Run, Shown
 
@@ -172,12 +173,13 @@ class Bench:
 
 
 def fault_for_run(path: str) -> str:
-    """Returns why `python3 -m feqyldan run` refuses a graph file; empty if it doesn't."""
-    with Server() as server, server.context() as context:
-        try:
+    """Returns why `python3 -m feqyldan run` refuses a graph file, also if it finds no server; empty
+    if it doesn't."""
+    try:
+        with Server() as server, server.context() as context:
             station = context.load_graph(path)
             station.graph.verify(warn=False)
             input_of(station, path)
-        except (Refused, ValueError) as error:
-            return str(error)
+    except (FeqyldanError, OSError, ValueError) as error:
+        return cause_of(error)
     return ""

@@ -8,6 +8,7 @@ page replaces what it doesn't know without a question.
 from __future__ import annotations
 
 import hashlib
+import json
 import os
 from typing import Any, Dict, List, Optional, Sequence, Set, Tuple
 
@@ -29,11 +30,12 @@ class Document:
     """The graph files of a folder. Pages get contents with a short word for each long field."""
 
     def __init__(self, path: str, pictures: Sequence[str], blobs: Blobs) -> None:
-        self.folder = os.path.dirname(os.path.abspath(path))
+        # The system follows a link before a "..", so paths lead from real folder to real folder.
+        self.folder = os.path.realpath(os.path.dirname(path))
         if not os.path.isdir(self.folder):
             raise FileNotFoundError(f"{path}: there is no folder {self.folder}: create it first")
         self._blobs, self._pictures = blobs, list(pictures)
-        self._files: Set[str] = {os.path.relpath(os.path.abspath(picture), self.folder)
+        self._files: Set[str] = {os.path.relpath(in_real_folder(picture), self.folder)
                                  for picture in pictures}
         # The contents and the bytes of the files that were read, by name.
         self._read: Dict[str, Tuple[Dict[str, Any], Optional[bytes]]] = {}
@@ -55,6 +57,9 @@ class Document:
         text = content_of(path)
         contents = new_contents(self._pictures) if text is None else told_by(path)
         check_objects(path, contents)
+        if content_of(path) != text:
+            # Another program has written the file since. The text must be that of the contents.
+            return self.read(name)
         self._read[name] = contents, text
         self._files |= set(files_in(contents))
         return {"name": name, "folder": self.folder, "files": self.files, "stamp": stamp_of(text),
@@ -98,7 +103,11 @@ class Document:
             raise Refusal(409, f"{name} exists already" if stamp is None else
                           f"{name} was changed by another program or window since it was read")
         whole = self._blobs.whole(contents)
-        text = self._text_of(whole)
+        try:
+            text = self._text_of(whole)
+        except ValueError as error:
+            # No file can have so many nodes, objects or bytes.
+            raise Refusal(400, str(error)) from None
         write_bytes(self.path_of(name), [text])
         self._read.setdefault(name, (whole, text))
         self._files |= set(files_in(contents))
@@ -107,7 +116,7 @@ class Document:
     def _text_of(self, whole: Dict[str, Any]) -> bytes:
         """Returns the text of a graph file. With every edit undone, a file keeps its own layout."""
         for contents, text in self._read.values():
-            if text is not None and contents == whole:
+            if text is not None and is_same(contents, whole):
                 return text
         return graph_text(whole).encode()
 
@@ -121,8 +130,19 @@ class Document:
         if name not in self._read and os.path.lexists(path) and not is_graph_file(path):
             raise Refusal(403, f"{name} exists, and isn't a graph file: give another name")
         there = os.path.dirname(os.path.realpath(path))
-        if name != self._name and there != os.path.realpath(self.folder):
+        if name != self._name and there != self.folder:
             raise Refusal(403, f"{name} is a link to a file in {there}: give another name")
+
+
+def in_real_folder(path: str) -> str:
+    """Returns the path of a file without links to folders. A link to the file itself stays."""
+    return os.path.join(os.path.realpath(os.path.dirname(path)), os.path.basename(path))
+
+
+def is_same(one: Dict[str, Any], other: Dict[str, Any]) -> bool:
+    """Returns whether contents are the same for a graph's reader. It takes 24 and not 24.0, which
+    Python holds for equal, as it does 1 and True."""
+    return one == other and json.dumps(one, sort_keys=True) == json.dumps(other, sort_keys=True)
 
 
 def stamp_of(text: Optional[bytes]) -> str:
@@ -131,14 +151,21 @@ def stamp_of(text: Optional[bytes]) -> str:
 
 
 def check_objects(path: str, contents: Dict[str, Any]) -> None:
-    """Raises GraphFileError if an object or a node isn't a JSON object, which the page couldn't
-    show."""
+    """Raises GraphFileError if an object or a node isn't a JSON object, or has a number such as
+    1e999, which the page couldn't show."""
     for name, told in contents["objects"].items():
         with at_place(path, Place(name)):
-            checked(told, "an object", "kind")
+            check_numbers(checked(told, "an object", "kind"))
     for position, told in enumerate(contents["nodes"], 1):
         with at_place(path, Place(node=position)):
-            checked(told, "a node", "function")
+            check_numbers(checked(told, "a node", "function"))
+
+
+def check_numbers(told: Dict[str, Any]) -> None:
+    try:
+        json.dumps(told, allow_nan=False)
+    except ValueError:
+        raise ValueError("it has a number that is too large, or NaN: write another one") from None
 
 
 def new_contents(pictures: Sequence[str]) -> Dict[str, Any]:

@@ -27,9 +27,10 @@ def state_of(path: str) -> Any:
     """Returns what changes when a file is written anew; None if there is no such file."""
     try:
         found = os.stat(path)
-    except OSError:
+    except (OSError, ValueError):
+        # A file of a graph may name one as no file can be named, by a byte 0.
         return None
-    return found.st_mtime_ns, found.st_size, found.st_ino
+    return found.st_mtime_ns, found.st_ctime_ns, found.st_size, found.st_ino
 
 
 def state_in(graph: str, described: Any) -> Any:
@@ -41,7 +42,7 @@ def state_in(graph: str, described: Any) -> Any:
 
 class Blobs:
     """The long fields of a graph file, which the page doesn't need. It gets {"kept": digest} in
-    place of each."""
+    place of each, and of those that are JSON objects, which it couldn't tell from such a word."""
 
     def __init__(self) -> None:
         self._fields: Dict[str, Any] = {}
@@ -66,7 +67,7 @@ class Blobs:
         return {**contents, "objects": objects}
 
     def _short(self, value: Any) -> Any:
-        if len(json.dumps(value)) <= LONG:
+        if not isinstance(value, dict) and len(json.dumps(value)) <= LONG:
             return value
         key = digest(value)
         self._fields[key] = value
@@ -100,7 +101,8 @@ def remembers(contents: Dict[str, Any]) -> bool:
     """Returns whether a file's graph has sums or a delay, which depend on earlier runs."""
     return any(isinstance(described, dict) and described.get("kind") == "delay"
                for described in contents["objects"].values()) or any(
-        isinstance(node, dict) and node.get("function") in ADDING for node in contents["nodes"])
+        isinstance(node, dict) and str(node.get("function")) in ADDING
+        for node in contents["nodes"])
 
 
 def no_action(name: str, thing: Any) -> None:

@@ -192,7 +192,7 @@ class RememberingRun(Run):
         except (BadPicture, ImportError, OSError) as error:
             place = Place(self._input)
             fault = fault_at(self._bench.path, place, error.with_traceback(None))
-            if at < self._at and pictures[at] not in fault.words:
+            if at < self._at and not fault.words.startswith(f"{pictures[at]}: "):
                 fault = GraphFileError(fault.path, f"{pictures[at]}: {fault.words}", place,
                                        fault.code, fault.operand, fault.advice)
             self.faults = [*self.draft.faults, fault]

@@ -101,11 +101,11 @@ class Handler(BaseHTTPRequestHandler):
                        json.dumps({"error": str(refusal)}).encode())
 
     def _check_origin(self) -> None:
-        if self.headers.get_all("Host") != [self.server.host]:
+        if self.headers.get_all("Host") not in [[host] for host in self.server.hosts]:
             raise Refusal(421, "the Host isn't this server's: open the address that the studio "
                           "printed")
         origin = self.headers.get("Origin")
-        if origin is not None and origin != f"http://{self.server.host}":
+        if origin is not None and origin not in [f"http://{host}" for host in self.server.hosts]:
             raise Refusal(403, "the Origin isn't this server's")
         if self.headers.get("Sec-Fetch-Site", "none") not in ("none", "same-origin"):
             raise Refusal(403, "a page of another site asked")
@@ -119,7 +119,7 @@ class Handler(BaseHTTPRequestHandler):
     def _call(self) -> Tuple[str, bytes]:
         token = self.headers.get("X-Studio-Token", "").encode("latin-1", "replace")
         if not hmac.compare_digest(token, self.server.token.encode()):
-            raise Refusal(403, "the token is wrong: open the address that the studio printed")
+            raise Refusal(401, "the token is wrong: open the address that the studio printed")
         if self.headers.get("Content-Type") != "application/json":
             raise Refusal(415, "a call is application/json")
         call = self.server.calls.get(self.path)
@@ -132,9 +132,10 @@ class Handler(BaseHTTPRequestHandler):
 
     def _json(self) -> Dict[str, Any]:
         length = self.headers.get("Content-Length", "")
-        if not length.isdigit() or "Transfer-Encoding" in self.headers:
+        if not length.isdecimal() or "Transfer-Encoding" in self.headers:
             raise Refusal(411, "a call needs its length")
-        if int(length) > GREATEST:
+        # Python doesn't read a number of very many digits.
+        if len(length) > len(str(GREATEST)) or int(length) > GREATEST:
             raise Refusal(413, f"a call has at most {GREATEST:,} bytes")
         body = self.rfile.read(int(length))
         if len(body) < int(length):
@@ -164,7 +165,10 @@ def done(call: Call, told: Dict[str, Any]) -> Any:
         return call(told)
     except (FeqyldanError, OSError, ImportError) as error:
         raise Refusal(500, cause_of(error)) from None
-    except (AttributeError, IndexError, KeyError, TypeError, ValueError, RecursionError) as error:
+    except MemoryError:
+        raise Refusal(500, "the memory doesn't suffice for this call") from None
+    except (AttributeError, IndexError, KeyError, OverflowError, TypeError, ValueError,
+            RecursionError) as error:
         raise Refusal(400, f"the call isn't one of the page's: {error!r}") from None
 
 
@@ -191,6 +195,11 @@ class Site(ThreadingHTTPServer):
         """Writes nothing of a client that has gone."""
         if not isinstance(sys.exc_info()[1], ConnectionError):
             super().handle_error(request, client_address)
+
+    @property
+    def hosts(self) -> List[str]:
+        """The values of the Host header for this server. Browsers leave out port 80."""
+        return [self.host, "127.0.0.1"] if self.server_port == 80 else [self.host]
 
     @property
     def address(self) -> str:

@@ -10,6 +10,8 @@ if (token) {
   sessionStorage.removeItem(FILE)
   history.replaceState(null, '', location.pathname)
 }
+// The address of another studio at the same port, which differs by the token alone.
+addEventListener('hashchange', () => location.reload())
 
 export const fileOfTab = () => sessionStorage.getItem(FILE) ?? ''
 export const keepFileOfTab = name => sessionStorage.setItem(FILE, name)

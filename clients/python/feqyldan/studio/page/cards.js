@@ -1,5 +1,6 @@
 // The cards of the graph: a node with the images that it writes, or an image that no node writes.
 import { byId, cleared, el, grey, resize, setText } from './dom.js'
+import { rowsOf, textOf } from './values.js'
 
 export const HEAD = 36
 const PICTURE = 116
@@ -40,7 +41,7 @@ export class Card {
     return root
   }
 
-  title () { return this.box.at >= 0 ? String(this.box.node.function).replace(/_$/, '') : this.kind() }
+  title () { return this.box.at >= 0 ? textOf(this.box.node.function).replace(/_$/, '') : this.kind() }
 
   // What the wires and the card say, in words.
   words () {
@@ -126,8 +127,8 @@ export class Card {
   source () {
     const told = this.studio.model.object(this.box.cells[0])
     if (told?.input) return this.studio.pictureName
-    if (told?.file) return told.file
-    return told?.samples ? 'samples in the file' : told?.kind === 'delay' ? `${told.slots} slots` : '0 at first'
+    if (told?.file) return textOf(told.file)
+    return told?.samples ? 'samples in the file' : told?.kind === 'delay' ? `${textOf(told.slots)} slots` : '0 at first'
   }
 
   // Paints what a run has changed.
@@ -161,17 +162,18 @@ export class Card {
 }
 
 // The parameters of a node in a few words.
-export function settings ({ objects }, node) {
-  const limit = objects[node.threshold]
-  const kernel = objects[node.convolution]
-  const bins = objects[node.distribution]
+export function settings (model, node) {
+  const limit = model.objectOf(node, 'threshold')
+  const kernel = model.objectOf(node, 'convolution')
+  const bins = model.objectOf(node, 'distribution')
+  const rows = kernel ? rowsOf(kernel) : []
   return [
-    limit && (Array.isArray(limit.between) ? limit.between.join(' … ') : `> ${limit.above}`),
-    Array.isArray(kernel?.rows?.[0]) && `${kernel.rows[0].length}×${kernel.rows.length} / ${kernel.scale ?? 1}`,
-    bins && `${bins.bins} bins`,
-    node.policy?.toLowerCase(),
-    node.shift ? `/ 2^${node.shift}` : '',
-    typeof node.border === 'number' ? `border ${node.border}` : node.border?.toLowerCase?.()
+    limit && (Array.isArray(limit.between) ? limit.between.map(textOf).join(' … ') : `> ${textOf(limit.above)}`),
+    rows.length && `${rows[0].length}×${rows.length} / ${textOf(kernel.scale ?? 1)}`,
+    bins && `${textOf(bins.bins)} bins`,
+    textOf(node.policy ?? '').toLowerCase(),
+    node.shift ? `/ 2^${textOf(node.shift)}` : '',
+    typeof node.border === 'number' ? `border ${node.border}` : textOf(node.border ?? '').toLowerCase()
   ].filter(Boolean).join(' · ')
 }
 

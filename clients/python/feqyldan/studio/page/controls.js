@@ -1,34 +1,44 @@
 // Controls of the properties: each has a name, works by keyboard, and its edits can be undone.
 import { el } from './dom.js'
+import { textOf } from './values.js'
 
 export class Controls {
   constructor (studio) { this.studio = studio }
 
   // A slider with a number beside it. The number may lie in a wider range than the slider.
   slider (id, [low, high], value, set, hard = [low, high], step = 1) {
-    const range = el('input', { type: 'range', id, min: low, max: high, step, value })
-    const field = this.number(`${id}-n`, value, now => { range.value = now; set(now) }, hard, '', step)
+    const range = el('input', { type: 'range', id, min: low, max: high, step, value: textOf(value) })
+    const field = this.number(`${id}-n`, value, now => { range.value = now; set(now) }, hard, '', step === 1 ? 1 : 'any')
     range.oninput = event => this.studio.edit(() => { field.value = range.value; set(+range.value) }, id, event.timeStamp)
     range.onchange = () => this.studio.model.endGesture()
+    field.addEventListener('change', () => { range.value = field.value })
     return el('div', { className: 'pair' }, range, field)
   }
 
   number (id, value, set, [low, high], title = '', step = 1) {
-    const field = el('input', { type: 'number', id, value, min: low, max: high, step, title })
+    const field = el('input', { type: 'number', id, value: textOf(value), min: low, max: high, step, title, required: true })
     if (title) field.setAttribute('aria-label', title)
+    let before
+    field.onfocus = () => { before = field.value }
     field.oninput = event => {
-      if (field.value !== '' && field.checkValidity()) this.studio.edit(() => set(+field.value), id, event.timeStamp)
+      if (field.checkValidity()) this.studio.edit(() => set(+field.value), id, event.timeStamp)
     }
+    // The first digits of a number that isn't possible may be one that is.
     field.onchange = () => {
-      this.studio.model.endGesture()
-      if (!field.checkValidity()) this.studio.say(`${field.value || 'Nothing'} isn't possible here: give a number from ${low} to ${high}`, true)
+      if (field.checkValidity()) this.studio.model.endGesture()
+      else {
+        const kind = step === 1 ? 'a whole number' : 'a number'
+        this.studio.giveUp(id, `${field.value || 'Nothing'} isn't possible here: give ${kind} from ${low} to ${high}`)
+        field.value = before
+      }
+      before = field.value
     }
     return field
   }
 
   menu (id, values, now, set) {
     const menu = el('select', { id }, ...values.map(value => el('option', { value, textContent: wordFor(value) })))
-    menu.value = now
+    menu.value = textOf(now)
     menu.onchange = () => this.studio.edit(() => set(menu.value))
     return menu
   }

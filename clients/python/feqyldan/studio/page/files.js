@@ -4,8 +4,8 @@ import { byId, el } from './dom.js'
 import { ask } from './questions.js'
 
 const CHANGED = 409
-// The status of a call after the studio has ended.
-const ENDED = 0
+// The statuses of a call after the studio has ended: there is none, or another one with its own token.
+const ENDED = [0, 401]
 
 // The milliseconds that the browser has for a download.
 const PATIENCE = 60000
@@ -13,6 +13,8 @@ const PATIENCE = 60000
 export class Files {
   constructor (studio) {
     this.studio = studio
+    // What is being done; null if nothing is.
+    this.last = null
     byId('open').onclick = () => this.open()
     byId('save').onclick = () => this.save()
     byId('save-as').onclick = () => this.saveAs()
@@ -21,9 +23,9 @@ export class Files {
 
   get name () { return this.studio.about.name }
 
-  async open () {
+  open () {
     const { about, model } = this.studio
-    await this.trying(async () => {
+    return this.inTurn(async () => {
       const graphs = await call('graphs')
       if (!graphs.length) { this.studio.say(`There is no graph file in ${about.folder} yet.`, true); return }
       const field = el('select', { ariaLabel: 'Graph file' }, ...graphs.map(name => el('option', { value: name, textContent: name })))
@@ -36,24 +38,26 @@ export class Files {
     })
   }
 
-  async saveAs () {
-    const field = el('input', { type: 'text', value: this.name, ariaLabel: 'Name of the file', spellcheck: false })
-    const [choice, wish] = await ask('Save under another name', `In the folder ${this.studio.about.folder}.`, ['Save', 'Cancel'], field)
-    if (choice !== 'Save' || !wish.trim()) return
-    await this.save(wish.trim().endsWith('.json') ? wish.trim() : `${wish.trim()}.json`)
+  saveAs () {
+    return this.inTurn(async () => {
+      const field = el('input', { type: 'text', value: this.name, ariaLabel: 'Name of the file', spellcheck: false })
+      const [choice, wish] = await ask('Save under another name', `In the folder ${this.studio.about.folder}.`, ['Save', 'Cancel'], field)
+      if (choice !== 'Save' || !wish.trim()) return
+      await this.write(wish.trim().endsWith('.json') ? wish.trim() : `${wish.trim()}.json`)
+    })
   }
 
-  async save (name = this.name) {
-    await this.trying(async () => {
-      // The graph may be edited until the reply comes.
-      const contents = structuredClone(this.studio.model.contents)
-      const reply = await this.send(name, contents)
-      if (!reply) return
-      const { fault, ...file } = reply
-      this.take(file)
-      this.studio.model.markSaved(contents)
-      this.studio.say(fault ? `Saved, but run refuses it: ${fault}` : `Saved ${file.name}`, !!fault)
-    })
+  save () { return this.inTurn(() => this.write(this.name)) }
+
+  async write (name) {
+    // The graph may be edited until the reply comes.
+    const contents = structuredClone(this.studio.model.contents)
+    const reply = await this.send(name, contents)
+    if (!reply) return
+    const { fault, ...file } = reply
+    this.take(file)
+    this.studio.model.markSaved(contents)
+    this.studio.say(fault ? `Saved, but run refuses it: ${fault}` : `Saved ${file.name}`, !!fault)
     this.studio.bar()
   }
 
@@ -70,7 +74,7 @@ export class Files {
     try {
       return await call('save', told)
     } catch (error) {
-      if (error.status === ENDED && isWhole(contents)) { await this.download(name, contents); return null }
+      if (ENDED.includes(error.status) && isWhole(contents)) { await this.download(name, contents); return null }
       if (error.status !== CHANGED) throw error
       const [choice] = await ask('Replace the file?', `${error.message}.`, ['Replace', 'Cancel'])
       if (choice !== 'Replace') { this.studio.say(`Not saved: ${error.message}`, true); return null }
@@ -80,7 +84,7 @@ export class Files {
 
   // Lets the browser save the file, because the studio can't any more.
   async download (name, contents) {
-    this.studio.say('The studio has ended: start it again.', true)
+    this.studio.say('The studio has ended: start it again, and open the address that it prints.', true)
     const [choice] = await ask('The studio has ended', `It can't write ${name} any more. The browser can download it.`, ['Download', 'Cancel'])
     if (choice !== 'Download') return
     const href = URL.createObjectURL(new Blob([JSON.stringify(contents, null, 1)], { type: 'application/json' }))
@@ -88,10 +92,14 @@ export class Files {
     setTimeout(() => URL.revokeObjectURL(href), PATIENCE)
   }
 
-  async trying (action) {
-    try {
-      await action()
-    } catch (error) { this.studio.say(error.message, true) }
+  // Does one thing after another. A second save has the stamp that the first one gave the file, and a
+  // file isn't opened while the one before it is saved.
+  inTurn (action) {
+    const last = (this.last ? this.last.then(action) : action())
+      .catch(error => this.studio.say(error.message, true))
+      .finally(() => { if (this.last === last) this.last = null })
+    this.last = last
+    return last
   }
 }
 

@@ -19,7 +19,7 @@ export class GraphView {
   boxes () {
     const { model } = this.studio
     const nodes = model.nodes.map((node, at) => ({
-      at, node, cells: model.outs(node).map(([, name]) => name), ins: model.imageParameters(node).map(p => [p, node[p] ?? null])
+      at, node, cells: model.outs(node).map(([, name]) => name), ins: model.imageParameters(node).map(p => [p, model.operand(node, p)])
     }))
     const unwritten = model.images().filter(name => model.writerOf(name) < 0 && this.isWorthShowing(name))
     return [...nodes, ...unwritten.map(name => ({ at: -1, cells: [name], ins: [], isInput: !!model.object(name).input }))]
@@ -27,7 +27,8 @@ export class GraphView {
 
   // Of a delay, the newest image that isn't of this run, and the slots that nodes read.
   isWorthShowing (name) {
-    return !name.includes('[') || name.endsWith('[-1]') || this.studio.model.readersOf(name).length > 0
+    const { model } = this.studio
+    return model.base(name) === name || name.endsWith('[-1]') || model.readersOf(name).length > 0
   }
 
   // Draws everything anew: the graph, its faults or the choice have changed.
@@ -72,7 +73,8 @@ export class GraphView {
     this.wires.replaceChildren(...wires.filter(Boolean))
   }
 
-  // The list of faults. Nodes with the same fault, such as those of a cycle, share a line.
+  // The list of faults. Nodes and objects with the same fault, such as the nodes of a cycle, share a
+  // line.
   drawProblems () {
     const { studio } = this
     const lines = new Map()
@@ -83,7 +85,9 @@ export class GraphView {
     }
     this.problems.replaceChildren(...[...lines].map(([words, faults]) => {
       const [{ object, node }] = faults
-      const where = object || (node ? `Node${faults.length > 1 ? 's' : ''} ${faults.map(fault => fault.node).join(', ')}` : 'Graph')
+      const nodes = faults.map(fault => fault.node).filter(Boolean)
+      const numbers = nodes.length ? [`Node${nodes.length > 1 ? 's' : ''} ${nodes.join(', ')}`] : []
+      const where = [...faults.map(fault => fault.object).filter(Boolean), ...numbers].join(', ') || 'Graph'
       const line = `${where}: ${words}`
       const onclick = () => object ? studio.choose(studio.model.images().find(name => studio.model.base(name) === object) ?? object) : node && studio.chooseNode(node - 1)
       return el('button', { textContent: line, title: line, onclick })

@@ -16,7 +16,8 @@ const WORDS = {
   '+  −  0  1': 'zoom the picture; fit; one to one'
 }
 const ARROWS = { ArrowLeft: [-1, 0], ArrowRight: [1, 0], ArrowUp: [0, -1], ArrowDown: [0, 1] }
-const TEXT = 'input:not([type=range]):not([type=checkbox]), select, textarea'
+const TYPED = 'input:not([type=range]):not([type=checkbox])'
+const TEXT = `${TYPED}, select, textarea`
 const OWN_UNDO = 'input[type=text], input[type=search]'
 const ZOOM = 1.4
 
@@ -27,7 +28,8 @@ export class Keys {
     byId('keys').querySelector('dl').append(...words)
     byId('help').onclick = () => byId('keys').showModal()
     addEventListener('keydown', event => this.down(event))
-    addEventListener('keyup', () => studio.model.endGesture())
+    // A number is typed with several keys.
+    addEventListener('keyup', ({ target }) => { if (!target.matches(TYPED)) studio.model.endGesture() })
   }
 
   down (event) {
@@ -38,16 +40,21 @@ export class Keys {
     command()
   }
 
-  withControl ({ key, shiftKey, target }) {
+  withControl ({ key, shiftKey, target, repeat }) {
     const { studio } = this
     const letter = key.toLowerCase()
     // A text field has its own undo.
     if ('zy'.includes(letter) && target.matches(OWN_UNDO)) return null
+    // A key that is held does it once. A name or a number that is being typed counts.
+    const once = action => () => {
+      if (target.matches(TYPED)) target.blur()
+      if (!repeat) action()
+    }
     return {
       z: () => shiftKey ? studio.redo() : studio.undo(),
       y: () => studio.redo(),
-      s: () => shiftKey ? studio.files.saveAs() : studio.files.save(),
-      o: () => studio.files.open()
+      s: once(() => shiftKey ? studio.files.saveAs() : studio.files.save()),
+      o: once(() => studio.files.open())
     }[letter]
   }
 

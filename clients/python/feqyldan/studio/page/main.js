@@ -12,6 +12,7 @@ import { setLimit } from './parameters.js'
 import { Results } from './results.js'
 import { Runs } from './runs.js'
 import { Strip } from './strip.js'
+import { limitsOf, numberOf, textOf } from './values.js'
 import { Viewer } from './viewer.js'
 
 // The image of a graph whose input isn't known yet.
@@ -22,7 +23,6 @@ class Studio {
   constructor (about) {
     this.about = about
     this.model = new Model(about)
-    this.result = new Results()
     this.at = 0
     this.runs = new Runs(this)
     this.graph = new GraphView(this)
@@ -39,12 +39,12 @@ class Studio {
   // Begins with a graph file that was opened.
   begin () {
     this.model.replace(this.about.contents)
+    // A run of the file before leaves nothing to this one.
+    this.result = new Results()
     this.chosen = this.model.input() ?? null
     // The chosen node, if it has no output that could be chosen.
     this.outputless = -1
-    this.drawn = ''
-    this.bar()
-    this.runs.start()
+    this.runAnew()
   }
 
   get pictureName () { return this.about.pictures[this.at] ?? 'no picture' }
@@ -67,7 +67,8 @@ class Studio {
 
   // The images whose samples the page needs: for the viewer, and for histograms.
   needed () {
-    const input = this.model.nodes[this.chosenNode]?.input
+    const node = this.model.nodes[this.chosenNode]
+    const input = node ? this.model.operand(node, 'input') : null
     return [...new Set([this.chosen, this.viewed, this.overlaid, input].filter(name => name != null))]
   }
 
@@ -90,10 +91,11 @@ class Studio {
     this.bar()
   }
 
-  // Chooses the input if an edit has removed what was chosen.
+  // Chooses the input if an edit has removed what was chosen. A node may write an object that isn't
+  // there.
   keepChoice () {
     const { model } = this
-    const isThere = this.chosen === null ? model.nodes[this.outputless] : model.object(this.chosen)
+    const isThere = this.chosenNode >= 0 ? model.nodes[this.chosenNode] : this.chosen !== null && model.object(this.chosen)
     if (!isThere) Object.assign(this, { chosen: model.input() ?? null, outputless: -1 })
   }
 
@@ -168,6 +170,14 @@ class Studio {
     return result
   }
 
+  // Takes back what a gesture has changed, and says why.
+  giveUp (gesture, words) {
+    this.model.giveUp(gesture)
+    this.bar()
+    this.runs.start()
+    this.say(words, true)
+  }
+
   // The image that a new node reads, and its shape.
   source () {
     const from = this.chosen !== null && this.model.isImage(this.chosen) ? this.chosen : this.viewed
@@ -194,11 +204,13 @@ class Studio {
   remove (at) {
     const from = this.edit(() => this.model.remove(at))
     Object.assign(this, { chosen: from ?? this.model.input() ?? null, outputless: -1 })
+    this.redraw()
   }
 
   removeObject (name) {
     this.edit(() => this.model.removeObject(name))
     this.chosen = this.model.input() ?? null
+    this.redraw()
   }
 
   removeChosen () {
@@ -220,26 +232,38 @@ class Studio {
   redo () { if (this.model.redo()) this.runAnew() }
 
   runAnew () {
-    this.drawn = ''
-    this.bar()
+    this.redraw()
     this.runs.start()
   }
 
+  // Draws the graph before it has run, if it is another one or an edit has taken nodes or objects away.
+  // The controls of these would change what the graph doesn't have any more, or another node in their
+  // place. The faults were those of the nodes before. After the run it is drawn anew.
+  redraw () {
+    Object.assign(this.result, { faults: [], waiting: {} })
+    this.drawn = ''
+    this.show()
+    this.drawn = ''
+  }
+
   toggleResult () {
-    const one = this.result.shown[this.chosen]
-    const told = this.model.objects[this.chosen]
-    if (this.chosenNode >= 0 && one?.kind === 'image' && told) this.edit(() => this.model.setResult(this.chosen, told.kind !== 'image', one))
+    const { model, chosen, chosenNode } = this
+    const one = this.result.shown[chosen]
+    const told = model.objects[chosen]
+    if (chosenNode < 0 || one?.kind !== 'image' || !told || model.isSum(chosenNode)) return
+    this.edit(() => model.setResult(chosen, told.kind !== 'image', one))
   }
 
   // Moves the limit of the chosen threshold, or of the nearest one before the chosen image.
   nudgeLimit (by) {
-    const { nodes, objects } = this.model
+    const { model, about: { ranges } } = this
+    const { nodes } = model
     let at = this.chosenNode
-    for (let k = 0; k < nodes.length && at >= 0 && !nodes[at].threshold; k++) at = this.model.writerOf(this.model.ins(nodes[at])[0]?.[1])
-    const limit = objects[nodes[at]?.threshold]
+    for (let k = 0; k < nodes.length && at >= 0 && !nodes[at].threshold; k++) at = model.writerOf(model.ins(nodes[at])[0]?.[1])
+    const limit = at < 0 ? undefined : model.objectOf(nodes[at], 'threshold')
     if (!limit) return
-    const [least, most] = this.about.ranges[`threshold.${limit.format}`]
-    const now = limit.between?.[0] ?? limit.above
+    const [least, most] = ranges[`threshold.${textOf(limit.format)}`] ?? ranges['threshold.U8']
+    const now = numberOf(limitsOf(limit)[0], least)
     this.edit(() => setLimit(limit, 0, Math.max(least, Math.min(most, now + by))), `nudge ${at}`)
     this.panel.draw()
   }

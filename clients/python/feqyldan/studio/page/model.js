@@ -1,4 +1,5 @@
 // The contents of a graph file, and edits of them. Every edit can be undone.
+import { textOf } from './values.js'
 
 const MOST_UNDONE = 500
 const INPUTS = ['input', 'in1', 'in2']
@@ -41,6 +42,15 @@ export class Model {
   }
 
   endGesture () { this.gesture = null }
+
+  // Takes back what a gesture has changed. Nodes and objects stay the same ones, since controls change
+  // them.
+  giveUp (gesture) {
+    if (gesture !== this.gesture) return
+    restore(this.contents, this.past.pop())
+    this.gesture = null
+  }
+
   undo () { return this.swap(this.past, this.future) }
   redo () { return this.swap(this.future, this.past) }
 
@@ -54,25 +64,40 @@ export class Model {
 
   // ---- looking. A node is an index, an object a name, and a slot of a delay a name such as d[-1].
 
-  functionOf (node) { return this.about.functions[node.function] }
+  functionOf (node) { return this.about.functions[textOf(node.function)] }
+  parameters (node) { return this.functionOf(node)?.parameters ?? [] }
 
   // The parameters that take an image, whether it is connected or not.
-  imageParameters (node) { return (this.functionOf(node)?.parameters ?? []).filter(p => INPUTS.includes(p)) }
+  imageParameters (node) { return this.parameters(node).filter(p => INPUTS.includes(p)) }
 
-  ins (node) { return this.imageParameters(node).filter(p => node[p] != null).map(p => [p, node[p]]) }
+  // The name of the object that a node has as a parameter; null if it has none.
+  operand (node, p) { return node[p] == null ? null : textOf(node[p]) }
 
-  outs (node) {
-    return (this.functionOf(node)?.parameters ?? [])
-      .filter(p => this.about.operands[p] >= 2 && node[p] != null).map(p => [p, node[p]])
+  ins (node) { return this.named(node, p => INPUTS.includes(p)) }
+  outs (node) { return this.named(node, p => this.about.operands[p] >= 2) }
+  operands (node) { return this.named(node, p => p in this.about.operands) }
+
+  named (node, isWanted) {
+    return this.parameters(node).filter(p => isWanted(p) && node[p] != null).map(p => [p, this.operand(node, p)])
   }
 
-  operands (node) {
-    return (this.functionOf(node)?.parameters ?? [])
-      .filter(p => p in this.about.operands && node[p] != null).map(p => [p, node[p]])
+  // Whether a node adds to the old samples of its output, which a virtual image doesn't have.
+  isSum (at) { return at >= 0 && 'accum' in this.nodes[at] }
+
+  // The object of a name, which may be that of a delay's slot.
+  base (name) { return /^(.+)\[(0|-\d+)\]$/s.exec(name)?.[1] ?? name }
+
+  object (name) {
+    const base = this.base(name)
+    return this.has(base) ? this.objects[base] : undefined
   }
 
-  base (name) { return /^(.+)\[(0|-\d+)\]$/.exec(name)?.[1] ?? name }
-  object (name) { return this.objects[this.base(name)] }
+  // The object that a node has as a parameter.
+  objectOf (node, p) {
+    const name = this.operand(node, p)
+    return name !== null && this.has(name) ? this.objects[name] : undefined
+  }
+
   isImage (name) { return IMAGES.includes(this.object(name)?.kind) }
   input () { return Object.keys(this.objects).find(name => this.objects[name].input) }
 
@@ -85,9 +110,12 @@ export class Model {
   // All images and slots, in the order of the file.
   images () {
     return Object.entries(this.objects).flatMap(([name, { kind, slots }]) =>
-      kind === 'delay' ? Array.from({ length: slots }, (_, k) => `${name}[${k ? -k : 0}]`)
+      kind === 'delay' ? Array.from({ length: this.slotsOf(slots) }, (_, k) => `${name}[${k ? -k : 0}]`)
         : IMAGES.includes(kind) ? [name] : [])
   }
+
+  // The slots of a delay that are shown: no more than one can have.
+  slotsOf (slots) { return Number.isInteger(slots) ? Math.min(slots, this.about.ranges['delay.slots'][1]) : 0 }
 
   // The images that depend on a node. Reading one of them would close a cycle.
   below (at, found = new Set()) {
@@ -138,22 +166,22 @@ export class Model {
 
   // Removes an object that no node writes. Nodes that read it aren't connected any more.
   removeObject (name) {
-    delete this.objects[name]
     for (const node of this.nodes) {
       this.ins(node).filter(([, one]) => this.base(one) === name).forEach(([p]) => delete node[p])
     }
+    delete this.objects[name]
   }
 
   // Returns whether the name can be given to the object.
   rename (old, wish) {
     const name = wish.trim()
     if (!name || name === old || this.has(name) || /\/|\[(0|-\d+)\]$/.test(name)) return false
-    this.contents.objects = Object.fromEntries(
-      Object.entries(this.objects).map(([key, told]) => [key === old ? name : key, told]))
     for (const node of this.nodes) {
       this.operands(node).filter(([, one]) => this.base(one) === old)
         .forEach(([p, one]) => { node[p] = name + one.slice(old.length) })
     }
+    this.contents.objects = Object.fromEntries(
+      Object.entries(this.objects).map(([key, told]) => [key === old ? name : key, told]))
     if (this.automatic.delete(old)) this.automatic.add(name)
     return true
   }
@@ -164,3 +192,14 @@ export class Model {
     this.objects[name] = isResult ? { kind: 'image', format: fmt, width, height } : { kind: 'virtual image' }
   }
 }
+
+// Gives an object the values that it had before.
+function restore (now, before) {
+  Object.keys(now).filter(key => !Object.hasOwn(before, key)).forEach(key => delete now[key])
+  for (const [key, value] of Object.entries(before)) {
+    if (isInside(value) && isInside(now[key])) restore(now[key], value)
+    else now[key] = value
+  }
+}
+
+const isInside = value => typeof value === 'object' && value !== null

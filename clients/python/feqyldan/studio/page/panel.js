@@ -5,6 +5,7 @@ import { byId, el } from './dom.js'
 import { Parameters } from './parameters.js'
 import { plotCounts, plotHistogram } from './plots.js'
 import { LateCall } from './runs.js'
+import { textOf } from './values.js'
 
 const BORDERS = ['UNDEFINED', 'REPLICATE', 'constant']
 const TITLES = { image: 'Image', 'virtual image': 'Virtual image', delay: 'Image of the delay', distribution: 'Distribution', extremes: 'Extremes' }
@@ -41,9 +42,9 @@ export class Panel {
     const { studio } = this
     const node = studio.model.nodes[at]
     const told = studio.model.functionOf(node)
-    const remove = el('button', { textContent: 'Remove', title: 'Remove the node (Delete)', onclick: () => studio.remove(at) })
+    const remove = removeButton('Remove the node (Delete)', () => studio.remove(at))
     const part = section('',
-      el('h2', {}, `${at + 1}  ${String(node.function).replace(/_$/, '')}`, el('span', { className: 'spring' }), remove),
+      el('h2', {}, `${at + 1}  ${textOf(node.function).replace(/_$/, '')}`, el('span', { className: 'spring' }), remove),
       el('p', { textContent: told?.words ?? '' }), ...studio.result.faultsOfNode(at).map(faultBox))
     const waits = studio.result.waiting[at + 1]
     if (waits) part.append(el('p', { textContent: `Doesn't run: it waits for ${waits}.` }))
@@ -63,8 +64,9 @@ export class Panel {
   inputRow (at, node, p) {
     const { model } = this.studio
     const below = model.below(at)
-    const names = model.images().filter(name => !below.has(name) || name === node[p])
-    return row(p, this.controls.menu(`p-${p}`, ['', ...names], node[p] ?? '', name => {
+    const now = model.operand(node, p)
+    const names = model.images().filter(name => !below.has(name) || name === now)
+    return row(p, this.controls.menu(`p-${p}`, ['', ...names], now ?? '', name => {
       if (name) node[p] = name
       else delete node[p]
     }))
@@ -83,7 +85,7 @@ export class Panel {
     const { studio, controls } = this
     const told = studio.model.object(name)
     const base = studio.model.base(name)
-    const remove = el('button', { textContent: 'Remove', title: 'Remove it (Delete)', onclick: () => studio.removeObject(base) })
+    const remove = removeButton('Remove it (Delete)', () => studio.removeObject(base))
     const title = told.input ? 'Input' : told.kind === 'delay' ? 'Delay' : told.file ? 'Picture' : 'Image'
     const part = section('', el('h2', {}, title, el('span', { className: 'spring' }), remove), ...studio.result.faultsOfObject(base).map(faultBox))
     if (told.kind === 'delay') {
@@ -97,7 +99,7 @@ export class Panel {
 
   contentRow (name, told) {
     const { studio } = this
-    const ofFile = told.samples ? ['samples in the file'] : told.fill ? [`${told.fill} everywhere`] : []
+    const ofFile = told.samples ? ['samples in the file'] : told.fill ? [`${textOf(told.fill)} everywhere`] : []
     const now = told.input ? 'input' : told.file ?? ofFile[0] ?? 'zeros'
     return row('content', this.controls.menu('p-content', ['input', 'zeros', ...studio.about.files, ...ofFile], now, value => {
       if (value === ofFile[0]) return
@@ -123,9 +125,9 @@ export class Panel {
       field.value = base
       studio.say(`“${wish}” isn't possible as a name: another object has it, or it is empty, has a “/” or ends as a slot does.`, true)
     }
-    const part = section(TITLES[told.kind] ?? told.kind, row('name', field))
-    const isSum = at >= 0 && 'accum' in studio.model.nodes[at]
-    if (at >= 0 && ['image', 'virtual image'].includes(told.kind) && one?.kind === 'image' && !isSum) part.append(...this.resultRows(base, told, one, at))
+    const kind = textOf(told.kind ?? '')
+    const part = section(TITLES[kind] ?? kind, row('name', field))
+    if (at >= 0 && ['image', 'virtual image'].includes(kind) && one?.kind === 'image' && !studio.model.isSum(at)) part.append(...this.resultRows(base, told, one, at))
     if (one) part.append(...this.views(told, one))
     return part
   }
@@ -194,7 +196,7 @@ export class Panel {
     const { limits } = this.parameters
     const full = limits && this.studio.result.fulls.get(limits.name)
     if (!full) return
-    if (full.fmt !== 'U8') limits.range = this.parameters.usedRange(limits.name)
+    this.parameters.refreshRange()
     plotHistogram(limits.plot, full, limits.limit, limits.range)
     setNote(limits.note, full)
   }
@@ -206,6 +208,11 @@ export class Panel {
     setNote(note, full)
     setFacts(this.facts, factsOfImage(full))
   }
+}
+
+// The second click of a double click isn't for what is chosen after the first one.
+function removeButton (title, remove) {
+  return el('button', { textContent: 'Remove', title, onclick: event => { if (event.detail < 2) remove() } })
 }
 
 // Says what a histogram is of, if that isn't the whole image.

@@ -3,6 +3,7 @@
 import { row, ticks } from './controls.js'
 import { el } from './dom.js'
 import { plotTable } from './plots.js'
+import { limitsOf, numberOf, rowsOf, textOf } from './values.js'
 
 const KERNELS = {
   sharpen: [[[0, -1, 0], [-1, 8, -1], [0, -1, 0]], 4],
@@ -22,7 +23,7 @@ export class Parameters {
 
   // The rows of an object that a node has as a parameter.
   rows (p, node) {
-    const object = this.studio.model.objects[node[p]]
+    const object = this.studio.model.objectOf(node, p)
     if (!object) return []
     const makers = {
       threshold: () => this.threshold(node, object), lut: () => this.table(object),
@@ -36,27 +37,30 @@ export class Parameters {
   // ---- threshold
 
   threshold (node, limit) {
-    const { controls } = this
-    const range = limit.format === 'S16' ? this.usedRange(node.input) : this.range('threshold.U8')
-    const users = this.studio.model.nodes.filter(other => other.threshold === node.threshold).length
+    const { controls, studio: { model } } = this
+    const [input, own] = ['input', 'threshold'].map(p => model.operand(node, p))
+    const range = this.rangeOf(limit, input)
+    const users = model.nodes.filter(other => model.operand(other, 'threshold') === own).length
     const plot = el('canvas', { className: 'plot limits', ariaLabel: 'Histogram of the input with the limits' })
     plot.setAttribute('role', 'img')
     const note = el('p', { hidden: true })
-    this.limits = { plot, note, name: node.input, limit, range }
+    const [ends, limitRows] = [ticks(range), this.limitRows(limit, range)]
+    const sliders = limitRows.map(one => one.querySelector('input[type=range]'))
+    this.limits = { plot, note, ends, sliders, name: input, limit, range }
     this.dragLimits(plot, limit)
     const rows = [
-      row('passes', controls.segments('passes', ['above', 'between'], limit.between ? 'between' : 'above', value => setKind(limit, value, range))),
-      plot, ticks(range), note, ...this.limitRows(limit, range),
+      row('passes', controls.segments('passes', ['above', 'between'], Array.isArray(limit.between) ? 'between' : 'above', value => setKind(limit, value, range))),
+      plot, ends, note, ...limitRows,
       row('format', controls.menu('p-format', ['U8', 'S16'], limit.format, value => { limit.format = value })),
       row('writes', this.outputs(limit))]
-    if (users > 1) rows.push(el('p', { textContent: `“${node.threshold}” is the threshold of ${users} nodes.` }))
+    if (users > 1) rows.push(el('p', { textContent: `“${own}” is the threshold of ${users} nodes.` }))
     return rows
   }
 
   limitRows (limit, range) {
-    const hard = this.range(`threshold.${limit.format}`) ?? range
+    const hard = this.range(`threshold.${textOf(limit.format)}`) ?? range
     const slider = (id, value, set) => this.controls.slider(id, range, value, set, hard)
-    if (!limit.between) return [row('above', slider('p-limit', limit.above, now => { limit.above = now }))]
+    if (!Array.isArray(limit.between)) return [row('above', slider('p-limit', limit.above, now => setLimit(limit, 0, now)))]
     return limit.between.map((value, k) => row(k ? 'to' : 'from', slider(`p-limit${k}`, value, now => { limit.between[k] = now })))
   }
 
@@ -65,6 +69,19 @@ export class Parameters {
       id, limit[name] ?? otherwise, value => { limit[name] = value }, this.range(`threshold.${name}`), title)
     return el('div', { className: 'pair halves' },
       field('true_value', 'p-true', 255, 'Where a sample passes'), field('false_value', 'p-false', 0, 'Elsewhere'))
+  }
+
+  // The range of a threshold's histogram and sliders.
+  rangeOf ({ format }, input) { return format === 'S16' ? this.usedRange(input) : this.range('threshold.U8') }
+
+  // Gives the axis and the sliders the range that the input's samples use now.
+  refreshRange () {
+    const { limits } = this
+    const range = this.rangeOf(limits.limit, limits.name)
+    limits.range = range
+    range.forEach((value, k) => { limits.ends.children[k].textContent = value })
+    // A slider whose range changes also changes its value.
+    limits.sliders.forEach((slider, k) => Object.assign(slider, { min: range[0], max: range[1], value: limitsOf(limits.limit)[k] }))
   }
 
   // The range that an image's samples use.
@@ -84,7 +101,8 @@ export class Parameters {
     }
     plot.addEventListener('pointerdown', event => {
       plot.setPointerCapture(event.pointerId)
-      const nearest = limit.between && Math.abs(value(event) - limit.between[1]) < Math.abs(value(event) - limit.between[0]) ? 1 : 0
+      const [lower, upper] = limitsOf(limit)
+      const nearest = Math.abs(value(event) - upper) < Math.abs(value(event) - lower) ? 1 : 0
       const set = move => this.studio.edit(() => setLimit(limit, nearest, value(move)), 'histogram', move.timeStamp)
       set(event)
       plot.onpointermove = set
@@ -117,16 +135,17 @@ export class Parameters {
 
   kernel (object) {
     const { controls } = this
-    if (!Array.isArray(object.rows?.[0])) return []
+    const rows = rowsOf(object)
+    if (!rows.length) return []
     const grid = el('div', { className: 'kernel' })
-    grid.style.gridTemplateColumns = `repeat(${object.rows[0].length}, 1fr)`
-    object.rows.forEach((cells, y) => cells.forEach((value, x) => grid.append(controls.number(
+    grid.style.gridTemplateColumns = `repeat(${rows[0].length}, 1fr)`
+    rows.forEach((cells, y) => cells.forEach((value, x) => grid.append(controls.number(
       `p-k${y}-${x}`, value, now => { object.rows[y][x] = now }, this.range('convolution.coefficient'), `row ${y}, column ${x}`))))
     const preset = controls.menu('p-preset', ['', ...Object.keys(KERNELS)], '', name => {
       if (name) [object.rows, object.scale] = structuredClone(KERNELS[name])
     })
-    const sides = controls.menu('p-sides', this.studio.about.sides.map(String), String(object.rows.length), value => { object.rows = resized(object.rows, +value) })
-    const scale = controls.menu('p-scale', SCALES, String(object.scale ?? 1), value => { object.scale = +value })
+    const sides = controls.menu('p-sides', this.studio.about.sides.map(String), String(rows.length), value => { object.rows = resized(object.rows, +value) })
+    const scale = controls.menu('p-scale', SCALES, object.scale ?? 1, value => { object.scale = +value })
     return [row('preset', preset), row('side', sides), grid, row('divided by', scale)]
   }
 
@@ -136,20 +155,28 @@ export class Parameters {
   }
 }
 
-function setKind (limit, kind, [, most]) {
-  if (kind === 'between' && !limit.between) {
-    limit.between = [limit.above, Math.max(limit.above, most)]
+function setKind (limit, kind, [least, most]) {
+  const lower = numberOf(limitsOf(limit)[0], least)
+  const isBetween = Array.isArray(limit.between)
+  if (kind === 'between' && !isBetween) {
+    limit.between = [lower, Math.max(lower, most)]
     delete limit.above
-  } else if (kind === 'above' && limit.between) {
-    limit.above = limit.between[0]
+  } else if (kind === 'above' && isBetween) {
+    limit.above = lower
     delete limit.between
   }
 }
 
 // Sets the only limit, or the lower (0) or the upper one (1), which stay in order.
 export function setLimit (limit, which, value) {
-  if (!limit.between) limit.above = value
-  else limit.between[which] = which ? Math.max(limit.between[0], value) : Math.min(limit.between[1], value)
+  const [lower, upper] = limitsOf(limit)
+  if (Array.isArray(limit.between)) {
+    limit.between[which] = which ? Math.max(numberOf(lower, value), value) : Math.min(numberOf(upper, value), value)
+    return
+  }
+  limit.above = value
+  // If it is there, it is no list, which would stay a fault.
+  delete limit.between
 }
 
 function entryOf ({ gain, offset, gamma }, k) {

@@ -1,5 +1,6 @@
 // Plots of counts: histograms of images with the limits of a threshold, and distributions.
 import { cleared } from './dom.js'
+import { limitsOf, numberOf } from './values.js'
 
 // Paints an image's histogram over a range of values. The heights are logarithmic; the samples that
 // pass a threshold have the accent's colour.
@@ -9,15 +10,18 @@ export function plotHistogram (canvas, full, limit, [low, high]) {
   const span = high - low + 1
   const place = k => (least + (most - least + 1) * k / bins.length - low) / span
   const painter = new Painter(canvas, bins)
+  const limits = limit ? limitsOf(limit) : []
+  const isBetween = Array.isArray(limit?.between)
   const passes = k => {
-    const value = Math.round(least + (most - least + 1) * k / bins.length)
-    return limit.between ? value >= limit.between[0] && value <= limit.between[1] : value > limit.above
+    const value = leastIn(full.histogram, k)
+    return isBetween ? value >= limits[0] && value <= limits[1] : value > limits[0]
   }
   painter.bars(place, limit ? k => passes(k) ? '--accent' : '--bar' : () => '--bar')
-  for (const value of limit ? limit.between ?? [limit.above] : []) {
-    painter.limit(value, (value - low + (limit.between ? 0 : 1)) / span)
-  }
+  limits.forEach(value => painter.limit(value, (value - low + (isBetween ? 0 : 1)) / span))
 }
+
+// The least value that a bin of a histogram counts.
+export const leastIn = ({ bins, low, high }, k) => Math.ceil(low + (high - low + 1) * k / bins.length)
 
 export function plotCounts (canvas, counts) {
   if (canvas.isConnected) new Painter(canvas, counts).bars(k => k / counts.length, () => '--bar')
@@ -28,7 +32,7 @@ export function plotTable (canvas, entries) {
   const [context, wide, tall] = cleared(canvas)
   context.strokeStyle = getComputedStyle(canvas).getPropertyValue('--accent')
   context.beginPath()
-  entries.forEach((value, k) => context.lineTo(k * wide / 255, tall - value * tall / 255))
+  entries.forEach((value, k) => context.lineTo(k * wide / 255, tall - numberOf(value, 0) * tall / 255))
   context.stroke()
 }
 

@@ -1,13 +1,14 @@
 // What the last run has left: faults, what each object holds, thumbnails, and the samples of the
 // images that are shown large.
 import { samplesOf } from './api.js'
+import { byName } from './values.js'
 
 // Images with more samples than this are sent in parts, as they are seen.
 export const WHOLE = 4e6
 
 export class Results {
   constructor () {
-    Object.assign(this, { faults: [], waiting: {}, shown: {}, remembers: false, thumbs: {}, fulls: new Map() })
+    Object.assign(this, { faults: [], waiting: {}, shown: byName(), remembers: false, thumbs: byName(), fulls: new Map() })
   }
 
   faultsOfNode (at) { return at < 0 ? [] : this.faults.filter(fault => fault.node === at + 1) }
@@ -18,16 +19,16 @@ export class Results {
 
   // Takes the reply of a run, in which the wanted images have their samples if those are new.
   take (reply, wanted) {
-    const thumbs = {}
-    for (const [name, one] of Object.entries(reply.shown)) {
+    const [shown, thumbs] = [byName(reply.shown), byName()]
+    for (const [name, one] of Object.entries(shown)) {
       if (one.kind !== 'image') continue
       thumbs[name] = one.thumb ? { ...one.thumb, mark: one.mark, bytes: bytesOf(reply.parts[one.thumb.part]) } : this.thumbs[name]
       if (one.full) this.keep(name, one, reply.parts)
     }
     for (const [name, full] of this.fulls) {
-      if (reply.shown[name]?.mark !== full.mark || !wanted.includes(name)) this.fulls.delete(name)
+      if (shown[name]?.mark !== full.mark || !wanted.includes(name)) this.fulls.delete(name)
     }
-    const { faults, waiting, shown, remembers } = reply
+    const { faults, waiting, remembers } = reply
     Object.assign(this, { faults, waiting, shown, remembers, thumbs })
   }
 

@@ -1,5 +1,5 @@
 // Runs of the graph. While one is under way, only the last change waits.
-import { call } from './api.js'
+import { call, CallError } from './api.js'
 import { byId, setText } from './dom.js'
 
 // Milliseconds after a change until more of a run is asked for.
@@ -28,15 +28,23 @@ export class Runs {
   async run () {
     this.isRunning = true
     try {
-      while (this.isDue) {
-        const stamp = this.stamp ?? performance.now()
-        Object.assign(this, { isDue: false, stamp: null })
-        await this.once(stamp)
-      }
-    } catch (error) {
-      this.studio.say(error.message, true)
+      while (this.isDue) await this.next()
     } finally { this.isRunning = false }
     this.studio.strip.fillSoon()
+  }
+
+  // Runs the last change. If that fails and the graph has changed since, the later change runs.
+  async next () {
+    const stamp = this.stamp ?? performance.now()
+    Object.assign(this, { isDue: false, stamp: null })
+    try {
+      await this.once(stamp)
+    } catch (error) {
+      if (this.isDue) return
+      this.studio.say(error.message, true)
+      // The cards and the properties are those of the graph as it is, whatever the run gives.
+      if (error instanceof CallError) this.studio.show()
+    }
   }
 
   async once (stamp) {
@@ -53,6 +61,7 @@ export class Runs {
       this.stamp ??= stamp
     }
     studio.show()
+    studio.viewer.probeAnew()
     const drawn = performance.now()
     await painted()
     const took = performance.now() - stamp

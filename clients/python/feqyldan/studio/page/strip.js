@@ -24,7 +24,7 @@ export class Strip {
     return { root, canvas, count, name, version: '' }
   }
 
-  // Stops: the graph is about to run for the chosen picture.
+  // Stops: the graph is about to run for the chosen picture, or another image is wanted.
   stop () {
     this.turn++
     clearTimeout(this.timer)
@@ -32,7 +32,8 @@ export class Strip {
 
   // Fills the tiles that are out of date, a moment later.
   fillSoon () {
-    clearTimeout(this.timer)
+    // A tile that is being filled may be of another image.
+    this.stop()
     const version = this.version()
     this.tiles.forEach(tile => tile.root.classList.toggle('stale', tile.version !== version))
     this.timer = setTimeout(() => this.fill(), PATIENCE)

@@ -5,6 +5,7 @@ import { byId, resize, setText } from './dom.js'
 import { WHOLE } from './results.js'
 import { LateCall } from './runs.js'
 import { Sheets } from './sheets.js'
+import { byName } from './values.js'
 
 const [LEAST, GREATEST] = [0.02, 96]
 // From this many pixels of the page for each sample on, the samples are written as numbers.
@@ -75,7 +76,7 @@ export class Viewer {
     this.paintExtremes(context)
     if (this.scale >= NUMBERS * ratio) this.paintNumbers(context, full)
     this.sayZoom(isOver)
-    this.fetchPart(full)
+    this.fetchParts()
   }
 
   paint (context, { x0, y0, columns, rows, step }, sheet) {
@@ -156,16 +157,19 @@ export class Viewer {
     setText(byId('viewname'), isOver ? `${this.name} on ${this.studio.overlaid}` : times > 1 ? `${this.name} ×${times}` : this.name)
   }
 
-  // Asks for the part of a large image that is seen now.
-  fetchPart (full) {
-    const { name, studio } = this
-    const part = this.partOf(full)
-    const { mark, mask } = studio.result.shown[name] ?? {}
-    this.late.make(!full.covers(part) && (async () => {
-      studio.result.takePart(name, await call('part', { name, mark, mask, ...part }))
+  // Asks for the parts of large images that are seen now: of the image, and of the one below it.
+  fetchParts () {
+    const { name, studio: { overlaid, panel, result } } = this
+    const lacking = [name, overlaid].map(one => [one, result.fulls.get(one)])
+      .filter(([, full]) => full && !full.covers(this.partOf(full)))
+    this.late.make(lacking.length && (async () => {
+      for (const [one, full] of lacking) {
+        const { mark, mask } = result.shown[one] ?? {}
+        result.takePart(one, await call('part', { name: one, mark, mask, ...this.partOf(full) }))
+      }
       this.draw()
       // The histogram may be of the part that is shown.
-      studio.panel.refresh()
+      panel.refresh()
     }))
   }
 
@@ -260,17 +264,28 @@ export class Viewer {
     setText(this.under, `x ${x}  y ${y}   ${sample}${base ? ` (${base.at(x, y) ?? this.samples?.[studio.overlaid] ?? ''})` : ''}${outside}`)
   }
 
+  // Forgets the samples of the run before, and asks for those of this one.
+  probeAnew () {
+    this.samples = null
+    this.tell()
+    if (this.pointed) this.probe()
+  }
+
   // Asks for the sample of every image at the pixel, one call at a time.
   async probe () {
     if (this.isAsking) { this.isLate = true; return }
     this.isAsking = true
+    const { result } = this.studio
     try {
       do {
         this.isLate = false
         if (!this.pointed) break
         const [x, y] = this.pointed
-        this.samples = await call('pixel', { x, y, marks: this.studio.result.has() })
+        const { shown } = result
+        const samples = await call('pixel', { x, y, marks: result.has() })
         if (!this.pointed) break
+        if (shown !== result.shown) continue
+        this.samples = byName(samples)
         this.studio.graph.showSamples(this.samples)
         this.tell()
       } while (this.isLate)
