@@ -85,8 +85,8 @@ def line(words: str, minutes: Dict[str, float]) -> str:
 
 
 def run(command: List[str]) -> Tuple[int, Sums, Optional[BaseException]]:
-    """Runs a command. Returns its status, the minutes of each crate by kind, and the error at which
-    the count broke off, if it did."""
+    """Runs a command. Returns its status as shells have it, the minutes of each crate by kind, and
+    the error at which the count broke off, if it did."""
     process = subprocess.Popen(command)
     times: Dict[Process, float] = {}
     works: Dict[Process, Work] = {}
@@ -108,7 +108,7 @@ def run(command: List[str]) -> Tuple[int, Sums, Optional[BaseException]]:
         if work is not None:
             crate, kind = work
             sums[crate][kind] += seconds / 60
-    return status, sums, watching.exception()
+    return status if status >= 0 else 128 - status, sums, watching.exception()
 
 
 def main() -> int:

@@ -73,7 +73,8 @@ fi
 """
 ADD_USER = "    if command -v systemd-sysusers > /dev/null; then systemd-sysusers feqyldan.conf; fi"
 COMPILE = "    if command -v py3compile > /dev/null; then py3compile -p python3-feqyldan; fi"
-RELOAD = "    if [ -d /run/systemd/system ]; then systemctl daemon-reload; fi"
+# A systemd that refuses doesn't prevent the installation.
+RELOAD = "    if [ -d /run/systemd/system ]; then systemctl daemon-reload || true; fi"
 # New connections to a running door get the new program.
 RELOAD_DOOR = """
     if [ -d /run/systemd/system ] && systemctl --quiet is-active feqyldan-door; then
@@ -101,7 +102,7 @@ AFTER_REMOVAL = """\
 set -e
 if [ "$1" = remove ] && [ -z "$DPKG_ROOT" ]; then
     rm -rf /run/feqyldan
-    if [ -d /run/systemd/system ]; then systemctl daemon-reload; fi
+    if [ -d /run/systemd/system ]; then systemctl daemon-reload || true; fi
 fi
 """
 
@@ -123,8 +124,8 @@ def units(names: Tuple[str, ...]) -> Dict[str, Data]:
 
 def documents() -> Dict[str, Data]:
     """Returns the documents with their paths in the checkout, so that links between them work."""
-    paths = ["README.md", "CHANGELOG.md", "clients/python/README.md", "examples/first.py",
-             "clients/c/examples/edges.c"]
+    paths = ["README.md", "CHANGELOG.md", "SECURITY.md", "clients/python/README.md",
+             "examples/first.py", "clients/c/examples/edges.c"]
     paths += [os.path.relpath(path, ROOT) for path in glob.glob(f"{ROOT}/docs/*.md")]
     return {f"usr/share/doc/{SERVICES}/{path}": debian.text_of(path) for path in paths}
 

@@ -1,7 +1,11 @@
 """The packages that tools/package builds, installed on their own: the first program runs, and
 removing them leaves nothing. Versions agree everywhere."""
 
+import contextlib
 import gzip
+import importlib.machinery
+import importlib.util
+import io
 import os
 import re
 import shutil
@@ -55,6 +59,36 @@ class TestVersions(unittest.TestCase):
         said = text_of("crates", "vx_programs", "src", "command_line.rt")
         self.assertEqual(re.search(r'VERSION: &str = "(.*)";', said)[1], vx.__version__)
         self.assertEqual(re.search(r"\d+\.\d+\.\d+", text_of("CHANGELOG.md"))[0], vx.__version__)
+
+
+class TestBuild(unittest.TestCase):
+    def test_a_program_that_runs_is_replaced_and_not_rewritten(self):
+        """So a door that has tried it keeps what it has tried."""
+        folder = folder_for(self)
+        program = os.path.join(folder, "vx_main-default")
+        os.mkdir(os.path.join(folder, "out"))
+        for path in (program, f"{folder}/vx_main", f"{folder}/out/libvx_embed.a"):
+            shutil.copy2("/bin/sleep", path)
+        before, build = os.stat(program), self.build()
+        run = subprocess.Popen(["sleep", "1000"], executable=program)
+        self.addCleanup(run.wait)
+        self.addCleanup(run.kill)
+        with mock.patch.multiple(build, OUT=folder, EMBED=folder, call=mock.DEFAULT,
+                                 say=mock.DEFAULT, Progress=mock.DEFAULT):
+            build.prove_and_build_alone("default", program, f"{folder}/archive")
+        self.assertFalse(os.path.samestat(os.stat(program), before))
+        self.assertEqual(sorted(os.listdir(folder)),
+                         ["archive", "out", "vx_main", "vx_main-default"])
+
+    def build(self):
+        """Returns tools/build as a module."""
+        path = os.path.join(TOOLS, "build")
+        loader = importlib.machinery.SourceFileLoader("build", path)
+        module = importlib.util.module_from_spec(importlib.util.spec_from_loader("build", loader))
+        with mock.patch.object(sys, "argv", [path, "--which"]), \
+                contextlib.redirect_stdout(io.StringIO()):
+            loader.exec_module(module)
+        return module
 
 
 class TestStarter(unittest.TestCase):
@@ -249,7 +283,7 @@ class TestPackages(unittest.TestCase):
         self.first_program_runs(sys.executable, f"{self.root}/usr/bin/feqyldan")
         documents = f"{self.root}/usr/share/doc/feqyldan"
         for name in ("README.md", "copyright", "changelog.gz", "docs/wire.md", "examples/first.py",
-                     "CHANGELOG.md"):
+                     "CHANGELOG.md", "SECURITY.md"):
             self.assertTrue(os.path.isfile(os.path.join(documents, name)), name)
 
     def test_the_server_in_the_process_with_the_debian_packages(self):
@@ -348,6 +382,12 @@ class TestPackages(unittest.TestCase):
         for package in self.debian[:3]:
             self.run_script(package, "exit 1", "prerm", "remove")
 
+    def test_an_install_and_a_removal_succeed_where_systemd_refuses(self):
+        for package in (self.debian[0], self.debian[2]):
+            for name, *words in (("postinst", "configure"), ("postrm", "remove")):
+                said = self.run_script(package, 'echo "$*"; exit 1', name, *words)
+                self.assertIn("daemon-reload\n", said)
+
     def test_an_upgrade_reaches_the_new_connections_of_a_running_door(self):
         """The door looks up the server's program again."""
         said = self.run_script(self.debian[0], 'echo "$*"', "postinst", "configure", "0.0.1")
@@ -370,7 +410,7 @@ class TestPackages(unittest.TestCase):
             os.chmod(path, 0o755)
         with open(os.path.join(folder, "control", name), encoding="utf-8") as file:
             script = file.read().replace("/run/systemd/system", "/").replace(
-                "/usr/lib/python3", "/no/such/folder")
+                "/usr/lib/python3", "/no/such/folder").replace("/run/feqyldan", folder + "/run")
         return self.run_there("/bin/sh", "-c",
                               f"PATH={folder}/bin:$PATH; DPKG_ROOT=; {script}", name, *words)
 

@@ -11,8 +11,9 @@ from unittest import mock
 from program import TOOLS
 from checks import processor_minutes
 
-# A process with the prover's name that works on the crate `planted` for a second.
-PROVER = ["bash", "-c", "exec -a rattle bash -c 'sleep 1; :' --crate-name planted"]
+# A process with the prover's name that works on the crate `planted` for some seconds, in which even
+# a busy machine counts once.
+PROVER = ["bash", "-c", "exec -a rattle bash -c 'sleep 6; :' --crate-name planted"]
 
 
 class TestProcessorMinutes(unittest.TestCase):
@@ -29,7 +30,8 @@ class TestProcessorMinutes(unittest.TestCase):
 
     @mock.patch.object(processor_minutes, "sample", side_effect=KeyError("planted"))
     def test_a_count_that_breaks_off_is_an_error(self, _):
-        for command, status in (["sleep", "1"], 1), (["bash", "-c", "sleep 1; exit 3"], 3):
+        for command, status in (["sleep", "1"], 1), (["bash", "-c", "sleep 1; exit 3"], 3), (
+                ["bash", "-c", "sleep 1; kill -9 $$"], 137):
             with mock.patch("sys.argv", ["processor_minutes", *command]), \
                     contextlib.redirect_stderr(io.StringIO()) as said:
                 self.assertEqual(processor_minutes.main(), status)

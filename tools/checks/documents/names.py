@@ -10,7 +10,7 @@ DOCUMENTS = ["README.md", "CONTRIBUTING.md", "docs/DECISIONS.md", "docs/architec
              "docs/roadmap.md"]
 # Names that others define: the toolchain, the languages, system tools.
 FOREIGN = {
-    "rt", "rattle-kit-13b", "rattle-kit-13f", "ensures", "requires", "unfolding", "search", "grind",
+    "rt", "rattle-kit-13f", "ensures", "requires", "unfolding", "search", "grind",
     "proves", "file:", "old:", "new:", "no", "TheVariants", "clap", "thiserror", "itoa", "slab",
     "assert", "assert_eq", "Option", "List", "Bool", "Type", "pos", "negsuc", "poll", "objdump",
     "cc", "impl", "Clone", "AllocError", "BufWriter", "GLIBC_TUNABLES", "tolist",
