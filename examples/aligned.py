@@ -50,7 +50,7 @@ def levelled(picture: Picture, white: Picture, mean: float) -> Picture:
     """Returns a picture as in even light. `white` is a picture of a white sheet under the same
     lamp, and `mean` the mean of all samples that the result has."""
     even = cv2.divide(picture, white, scale=float(white.mean()))
-    return bytes_of(cv2.convertScaleAbs(even, alpha=mean / float(even.mean())))
+    return bytes_of(cv2.convertScaleAbs(even, alpha=mean / max(1.0, float(even.mean()))))
 
 
 def aligned(picture: Picture, reference: Picture) -> Picture:

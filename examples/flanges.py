@@ -21,11 +21,14 @@ import feqyldan as vx
 from folder import folder_told
 
 # The scratches: start and end in shares of the height from the middle, and the change of the grey.
+# A dark scratch has a grey of at most 60.
 SCRATCHES: Dict[int, Tuple[float, float, float, float, int]] = {
     2: (-0.17, -0.21, -0.24, 0.10, 56), 4: (0.17, 0.19, 0.29, 0.07, 44),
     6: (-0.06, -0.28, 0.11, -0.24, 50), 9: (-0.29, -0.04, -0.14, -0.08, -48),
     11: (0.22, -0.14, 0.24, -0.04, 60)}
 PARTS = 12
+# The greatest width and height of an image.
+GREATEST = vx.PARAMETER_RANGES["image.width"].greatest
 HOLES = [(0.285 * math.cos(k * math.pi / 3 + 0.3), 0.285 * math.sin(k * math.pi / 3 + 0.3))
          for k in range(6)]
 
@@ -56,8 +59,9 @@ def good_flange(width: int, height: int) -> List[float]:
 
 
 def scratch(samples: List[float], width: int, height: int, number: int) -> None:
-    """Draws the scratch of a part, a line of three pixels that begins and ends thin."""
+    """Draws the scratch of a part, a line that is three pixels wide."""
     x0, y0, x1, y1, change = SCRATCHES[number]
+    clean = list(samples)
     steps = int(2 * height * math.hypot(x1 - x0, y1 - y0))
     for step in range(steps):
         share = step / steps
@@ -65,8 +69,7 @@ def scratch(samples: List[float], width: int, height: int, number: int) -> None:
         y = int(height / 2 + height * (y0 + (y1 - y0) * share))
         for dx in (-1, 0, 1):
             at = y * width + x + dx
-            samples[at] = max(samples[at], samples[at] + change) if change > 0 else (
-                min(samples[at], 60.0))
+            samples[at] = clean[at] + change if change > 0 else min(clean[at], 60.0)
 
 
 def dust(samples: List[float], chance: random.Random) -> None:
@@ -86,9 +89,12 @@ def save(path: str, samples: Sequence[float], width: int, chance: random.Random)
 def sides_told() -> Tuple[int, int]:
     """Returns the width and the height that the command line gives."""
     told = sys.argv[2:] or ["640", "360"]
-    if len(told) != 2 or not all(word.isdecimal() and int(word) for word in told):
-        sys.exit(f"{sys.argv[0]}: give WIDTH and HEIGHT in pixels, not {' '.join(told)}")
-    return int(told[0]), int(told[1])
+    sides = [int(word) for word in told if word.isdecimal() and len(word) < 6]
+    # The drawing needs some pixels, and is as wide as high.
+    if len(sides) != len(told) or len(told) != 2 or not 16 <= sides[1] <= sides[0] <= GREATEST:
+        sys.exit(f"{sys.argv[0]}: give WIDTH and HEIGHT in pixels, not {' '.join(told)}: from 16 "
+                 f"to {GREATEST}, and no HEIGHT above the WIDTH")
+    return sides[0], sides[1]
 
 
 def main() -> None:
@@ -107,4 +113,5 @@ def main() -> None:
           f"{', '.join(map(str, SCRATCHES))}")
 
 
-main()
+if __name__ == "__main__":
+    main()

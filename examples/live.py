@@ -16,7 +16,8 @@ from __future__ import annotations
 import os
 import sys
 import time
-from typing import Iterator, List, Tuple
+from collections import deque
+from typing import Deque, Iterator, Tuple
 
 import feqyldan as vx
 from folder import folder_told
@@ -34,13 +35,15 @@ Picture = numpy.typing.NDArray[numpy.uint8]
 # A background is the mean of 2 to the power of SHIFT frames.
 SHIFT, ABOVE = 4, 24
 WIDTH, HEIGHT, FRAMES, RATE = 1280, 720, 60, 30
+# The latency is that of the last results, so that a camera may run for months.
+LAST = 1000
 
 
 class Camera:
-    """Grey frames, with the time of arrival of each."""
+    """Grey frames, with the times of arrival of those without a result."""
 
     def __init__(self, source: str) -> None:
-        self.times: List[float] = []
+        self.times: Deque[float] = deque()
         if source:
             self._video = cv2.VideoCapture(int(source) if source.isdigit() else source)
             self.width, self.height = (int(self._video.get(side)) for side in (
@@ -126,25 +129,32 @@ def main() -> None:
     camera = Camera(name)
     if not camera.width:
         sys.exit(f"examples/live.py: OpenCV can't read {name!r}: give a video or a camera's number")
-    late: List[float] = []
-    moved = 0
+    late: Deque[float] = deque(maxlen=LAST)
+    seen, moved = 0, 0
     with vx.Server() as server, server.context() as context:
         watch = Watch(context, camera.width, camera.height)
         try:
             for frame, marks, count in watch.look(camera):
-                late.append(time.perf_counter() - camera.times[len(late)])
+                late.append(time.perf_counter() - camera.times.popleft())
+                seen += 1
                 # The first background is 0 everywhere, because no frame has been seen yet.
-                if count and len(late) > 1 << SHIFT:
+                if count and seen > 1 << SHIFT:
                     moved += 1
                     shown = numpy.hstack([frame, marks])
         except KeyboardInterrupt:
             pass
-    print(f"    {len(late)} frames of {camera.width} by {camera.height}; something moved in "
+    if not late:
+        sys.exit("examples/live.py: no frame came")
+    print(f"    {seen} frames of {camera.width} by {camera.height}; something moved in "
           f"{moved}")
-    print(f"    a result came {1000 * sorted(late)[len(late) // 2]:.1f} ms after its frame, in the "
-          "middle")
+    median = 1000 * sorted(late)[len(late) // 2]
+    print(f"    a result came {median:.1f} ms after its frame (median)")
     if moved:
         vx.write_png(os.path.join(folder, "live.png"), shown)
 
 
-main()
+if __name__ == "__main__":
+    try:
+        main()
+    except vx.FeqyldanError as error:
+        sys.exit(f"examples/live.py: {error}")

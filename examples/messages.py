@@ -10,7 +10,7 @@ from gi.repository import Gst  # noqa: E402
 Gst.init(None)
 graph = os.path.join(os.path.dirname(os.path.abspath(__file__)), "motion.json")
 line = Gst.parse_launch("videotestsrc num-buffers=10 pattern=ball ! video/x-raw,format=GRAY8 ! "
-                        f"feqyldan graph={graph} ! fakesink")
+                        f'feqyldan graph="{graph}" ! fakesink')
 line.set_state(Gst.State.PLAYING)
 while True:
     message = line.get_bus().timed_pop(Gst.CLOCK_TIME_NONE)

@@ -6,7 +6,8 @@
 Starts a door, which starts a server for each connection, and two programs. Each program has a graph
 and processes 10 pictures a second. After a second the example stops the door and its servers, and
 starts a new door another second later. Each program reconnects, rebuilds its graph and repeats the
-interrupted picture, so no picture is lost. Prints a summary of each program.
+interrupted picture, so no picture is lost. A program that has done no picture since it connected
+gives up instead. Prints a summary of each program.
 """
 
 from __future__ import annotations
@@ -53,24 +54,28 @@ def clean(context: vx.Context) -> Tuple[vx.Graph, vx.Image, vx.Image]:
 # ---- a program
 
 def work(path: str, name: str, build: Build, begun: Any, told: Any) -> None:
-    """Processes all pictures in order, even if the server goes away meanwhile."""
+    """Processes all pictures in order, even if the server goes away meanwhile. Raises
+    vx.ServerEnded or vx.TimedOut if no picture was done since it connected."""
     pictures = [random.Random(number).randbytes(WIDTH * HEIGHT) for number in range(PICTURES)]
     done, built = 0, 0
     while done < PICTURES:
+        before = done
         try:
             with vx.connect(path, retry=30, timeout=10) as server, server.context() as context:
                 graph, camera, out = build(context)
                 built += 1
-                begun.release()
                 while done < PICTURES:
                     camera.write(pictures[done])
                     graph.process()
                     out.read()
                     done += 1
+                    begun.set()
                     time.sleep(1 / RATE)
         except (vx.ServerEnded, vx.TimedOut):
             # The context is gone with its server: reconnect and rebuild the graph.
-            continue
+            if done == before:
+                raise
+            time.sleep(1)
     told.put(f"    {name}: {done} pictures, built {built} times")
 
 
@@ -84,26 +89,29 @@ def start_door(path: str) -> "subprocess.Popen[bytes]":
 def main() -> None:
     with tempfile.TemporaryDirectory() as folder:
         path = os.path.join(folder, "socket")
-        begun: Any = multiprocessing.Semaphore(0)
+        begun: List[Any] = [multiprocessing.Event() for _ in range(2)]
         told: Any = multiprocessing.SimpleQueue()
         door = start_door(path)
         programs: List[multiprocessing.Process] = [
-            multiprocessing.Process(target=work, args=(path, name, build, begun, told))
-            for name, build in (("front", outlines), ("belt", clean))]
+            multiprocessing.Process(target=work, args=(path, name, build, event, told))
+            for (name, build), event in zip((("front", outlines), ("belt", clean)), begun)]
         for one in programs:
             one.start()
-        for _ in programs:
-            begun.acquire()
+        for event in begun:
+            event.wait(30)
+        time.sleep(1)
         door.terminate()
         door.wait()
         time.sleep(1)
         door = start_door(path)
-        for line in sorted(told.get() for _ in programs):
-            print(line)
         for one in programs:
             one.join()
+        for line in sorted(told.get() for one in programs if one.exitcode == 0):
+            print(line)
         door.terminate()
         print(f"    the door ended with status {door.wait()}")
+        if any(one.exitcode for one in programs):
+            sys.exit("examples/robot.py: a program gave up")
 
 
 if __name__ == "__main__":

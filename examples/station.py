@@ -6,9 +6,9 @@
 Inspects 5-megapixel pictures of two types of parts. OpenCV aligns each part with its reference by
 phase correlation. A graph marks pixels that are clearly brighter or darker than all pixels of the
 reference within two pixels, so small remaining shifts don't count. If pixels are marked, OpenCV
-finds their connected regions. A picture of another size is rejected, and the station continues.
-Prints the result and the time of each picture, and writes FOLDER/station.png: a part with its
-regions framed.
+finds their connected regions. A picture of another size or type is rejected, and the station
+continues. Prints the result and the time of each picture, and writes FOLDER/station.png: a part
+with its regions framed.
 """
 
 from __future__ import annotations
@@ -67,7 +67,7 @@ class Recipe:
         self._graph.min_max_loc(self._marks, self._extremes)
         self._graph.verify()
 
-    def inspect(self, picture: Picture) -> Tuple[Picture, List[vx.Region]]:
+    def inspect(self, picture: vx.Picture) -> Tuple[vx.Picture, List[vx.Region]]:
         """Returns the picture aligned with the reference, and the regions that differ. Raises
         vx.BadPicture for a frame of the wrong size or type."""
         aligned = self._align(picture)
@@ -78,8 +78,9 @@ class Recipe:
             return aligned, []
         return aligned, vx.regions(self._marks, least=LEAST)
 
-    def _align(self, picture: Picture) -> Picture:
-        if picture.shape != (HEIGHT, WIDTH):
+    def _align(self, picture: vx.Picture) -> vx.Picture:
+        # write() refuses these. bytes_of() would turn samples of another type into wrong ones.
+        if picture.shape != (HEIGHT, WIDTH) or picture.dtype != numpy.uint8:
             return picture
         (across, down), _ = cv2.phaseCorrelate(self._small, quarter_of(picture))
         move = numpy.array([[1, 0, -round(QUARTER * across)], [0, 1, -round(QUARTER * down)]],
@@ -117,10 +118,12 @@ def main() -> None:
                   f"{1000 * seconds:.0f} ms")
             if found:
                 vx.write_png(os.path.join(folder, "station.png"), drawn(aligned, found))
-        try:
-            recipes["ring"].inspect(picture[:-8])
-        except vx.BadPicture as refused:
-            print(f"    a wrong frame: {refused}")
+        wrong: List[vx.Picture] = [picture[:-8], 16 * picture.astype(numpy.uint16)]
+        for frame in wrong:
+            try:
+                recipes["ring"].inspect(frame)
+            except vx.BadPicture as refused:
+                print(f"    a wrong frame: {refused}")
         print(f"    {context.usage()}")
 
 

@@ -15,7 +15,7 @@ import os
 import sys
 import threading
 import time
-from typing import Any, List, NamedTuple, Optional
+from typing import Any, List, NamedTuple, Optional, Tuple
 
 import feqyldan as vx
 from bounds import add_bounds, rectangle_of
@@ -30,7 +30,8 @@ except ImportError:
     sys.exit(0)
 
 WIDTH, HEIGHT, RATE, FRAMES = 1920, 1080, 25, 75
-SHOWN, SHOWN_WIDTH = 4, 480
+# How many frames are drawn, how wide, and at most how many are kept for that.
+SHOWN, SHOWN_WIDTH, KEPT = 4, 480, 12
 RED = (30, 30, 230)
 
 
@@ -72,15 +73,18 @@ class Camera(threading.Thread):
 
     def run(self) -> None:
         due = time.monotonic()
-        is_there, frame = self._video.read()
-        while is_there:
-            due += 1 / self.rate
-            time.sleep(max(0.0, due - time.monotonic()))
-            self._put(frame)
+        try:
             is_there, frame = self._video.read()
-        with self._changed:
-            self._has_ended = True
-            self._changed.notify()
+            while is_there:
+                due += 1 / self.rate
+                time.sleep(max(0.0, due - time.monotonic()))
+                self._put(frame)
+                is_there, frame = self._video.read()
+        finally:
+            # Also after an error: take() would wait for ever.
+            with self._changed:
+                self._has_ended = True
+                self._changed.notify()
 
     def _put(self, frame: Any) -> None:
         with self._changed:
@@ -100,9 +104,30 @@ class Camera(threading.Thread):
 # ---- motion
 
 class Seen(NamedTuple):
-    frame: Any
     around: Optional[vx.Rectangle]
     seconds: float
+
+
+class Shown(NamedTuple):
+    frame: Any
+    around: Optional[vx.Rectangle]
+
+
+class Thinned:
+    """Keeps every frame at first, then every second one, then every fourth one and so on, so that a
+    long video takes no more memory than a short one."""
+
+    def __init__(self) -> None:
+        self.kept: List[Shown] = []
+        self._added, self._step = 0, 1
+
+    def add(self, frame: Any, around: Optional[vx.Rectangle]) -> None:
+        if self._added % self._step == 0:
+            self.kept.append(Shown(frame, around))
+        self._added += 1
+        if len(self.kept) > KEPT:
+            del self.kept[1::2]
+            self._step *= 2
 
 
 class Watch:
@@ -130,25 +155,32 @@ class Watch:
         return rectangle_of([found.value() for found in asked], self._width)
 
 
-def watch(camera: Camera) -> List[Seen]:
+def watch(camera: Camera) -> Tuple[List[Seen], List[Shown]]:
+    """Returns what was seen in each frame but the first one, and some of these frames."""
     seen: List[Seen] = []
+    some = Thinned()
     with vx.Server() as server, server.context() as context:
         graph = Watch(context, camera.width, camera.height)
         camera.start()
         frame = camera.take()
+        # Before the first frame the delay is 0 everywhere, so every bright pixel counts as moved.
+        if frame is not None:
+            graph.look(frame)
+            frame = camera.take()
         while frame is not None:
             start = time.monotonic()
             around = graph.look(frame)
-            seen.append(Seen(frame, around, time.monotonic() - start))
+            seen.append(Seen(around, time.monotonic() - start))
+            some.add(frame, around)
             frame = camera.take()
-    return seen
+    return seen, some.kept
 
 
-def drawn(seen: Seen) -> Any:
+def drawn(shown: Shown) -> Any:
     """Returns a reduced frame with the rectangle, in PNG's channel order."""
-    frame = seen.frame.copy()
-    if seen.around:
-        x0, y0, x1, y1 = seen.around
+    frame = shown.frame.copy()
+    if shown.around:
+        x0, y0, x1, y1 = shown.around
         cv2.rectangle(frame, (x0 - 6, y0 - 6), (x1 + 5, y1 + 5), RED, 8)
     height = frame.shape[0] * SHOWN_WIDTH // frame.shape[1]
     return cv2.cvtColor(cv2.resize(frame, (SHOWN_WIDTH, height), interpolation=cv2.INTER_AREA),
@@ -161,8 +193,7 @@ def main() -> None:
     camera = Camera(name)
     if not camera.width:
         sys.exit(f"examples/video.py: OpenCV can't read {name!r}: give a video")
-    # Before the first frame the delay is 0 everywhere, so every bright pixel counts as moved.
-    seen = watch(camera)[1:]
+    seen, kept = watch(camera)
     if not seen:
         sys.exit(f"examples/video.py: {name!r} has fewer than two frames: give a longer video")
     times = sorted(one.seconds for one in seen)
@@ -171,8 +202,12 @@ def main() -> None:
     print(f"    each took {1000 * times[len(times) // 2]:.0f} ms, and none more than "
           f"{1000 * times[-1]:.0f} ms; something moved in "
           f"{sum(one.around is not None for one in seen)} of {len(seen)}")
-    shown = [drawn(seen[k * (len(seen) - 1) // (SHOWN - 1)]) for k in range(SHOWN)]
+    shown = [drawn(kept[k * (len(kept) - 1) // (SHOWN - 1)]) for k in range(SHOWN)]
     vx.write_png(os.path.join(folder, "video.png"), numpy.hstack(shown))
 
 
-main()
+if __name__ == "__main__":
+    try:
+        main()
+    except vx.FeqyldanError as error:
+        sys.exit(f"examples/video.py: {error}")

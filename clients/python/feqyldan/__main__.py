@@ -13,6 +13,7 @@ import contextlib
 import glob
 import io
 import os
+import re
 import signal
 import sys
 import threading
@@ -38,6 +39,8 @@ FAULTS = FeqyldanError, OSError, ValueError, ImportError
 SKIPPED = 3
 # The ends of the names of picture files.
 PICTURES = ".pgm", ".png", ".jpg", ".jpeg", ".bmp", ".tif", ".tiff", ".webp", ".npy"
+# The characters that control a terminal, but for the end of a line.
+CONTROLS = re.compile("[\0-\x09\x0b-\x1f\x7f-\x9f]")
 # The graph file of the studio if none is named.
 STATION = "station.json"
 
@@ -62,8 +65,9 @@ def arguments(words: Optional[Sequence[str]]) -> argparse.Namespace:
                      "exist (default: no images are saved); files are named after the pictures, as "
                      "PNG, or as NumPy .npy for U32 images and negative samples")
     run.add_argument("--csv", metavar="FILE", help="file for numbers, or - for standard output; "
-                     "its folder is created if it doesn't exist (default: standard output without "
-                     "--out, otherwise none)")
+                     "its folder is created if it doesn't exist, and an older file stays until "
+                     "there is a result, or all pictures were skipped (default: standard output "
+                     "without --out, otherwise none)")
     run.add_argument("--regions", type=least_from, metavar="LEAST", help="add a column with the "
                      "number of regions of at least LEAST nonzero samples of each image; needs "
                      "OpenCV or SciPy (default: no such column)")
@@ -90,7 +94,10 @@ def arguments(words: Optional[Sequence[str]]) -> argparse.Namespace:
     studio.add_argument("--port", type=port_from, default=0,
                         help="port at 127.0.0.1 (default: any free one)")
     studio.add_argument("--no-browser", action="store_true", help="only print the page's address")
-    return parser.parse_args(words)
+    told = parser.parse_args(words)
+    if told.command == "run" and told.regions is not None and told.csv is None and told.out:
+        run.error("--regions adds a column of numbers, which --out alone doesn't save: give --csv")
+    return told
 
 
 def port_from(text: str) -> int:
@@ -116,8 +123,12 @@ def main(words: Optional[Sequence[str]] = None) -> int:
         return status
     except KeyboardInterrupt:
         return 130
-    except BrokenPipeError:
-        drop_output()
+    except BrokenPipeError as error:
+        # A reader of standard output that has ended needs no words.
+        if error.filename in (None, STANDARD_OUTPUT_NAME):
+            drop_output()
+        else:
+            say(str(error))
         return 1
     except FAULTS as error:
         if isinstance(error, OSError) and error.filename == STANDARD_OUTPUT_NAME:
@@ -144,9 +155,11 @@ def written_arguments(words: Optional[Sequence[str]]) -> argparse.Namespace:
 @contextlib.contextmanager
 def ended_by_signals() -> Iterator[None]:
     """Within the `with` SIGTERM and SIGHUP end the program as Ctrl-C does: it closes its server,
-    and removes a file that isn't complete."""
+    and removes a file that isn't complete. Another one doesn't interrupt that: systemd may send
+    both, and a terminal that is closed SIGHUP twice."""
     def end(number: int, _: Any) -> None:
-        raise SystemExit(128 + number)
+        if not isinstance(sys.exc_info()[1], (KeyboardInterrupt, SystemExit)):
+            raise SystemExit(128 + number)
 
     is_main = threading.current_thread() is threading.main_thread()
     taken = [number for number in (signal.SIGTERM, signal.SIGHUP)
@@ -167,17 +180,20 @@ def drop_output() -> None:
 
 
 def say(words: str) -> None:
-    """Writes a line to standard error."""
+    """Writes a line to standard error. A picture's name in it can't control a terminal."""
+    shown = CONTROLS.sub(lambda found: repr(found[0])[1:-1], words)
     # print() would take standard output if standard error is closed.
     if sys.stderr is not None:
-        print(f"feqyldan: {words}", file=sys.stderr)
+        print(f"feqyldan: {shown}", file=sys.stderr)
 
 
 def draw(told: argparse.Namespace) -> int:
     drawing = drawing_of_file(told.graph)
     with writing_to(STANDARD_OUTPUT_NAME):
-        standard_output().write(drawing.dot if told.dot else drawing.svg)
-        standard_output().flush()
+        # An SVG file, and one of Graphviz, is UTF-8 in any locale.
+        target = standard_output("utf-8")
+        target.write(drawing.dot if told.dot else drawing.svg)
+        target.flush()
     return 0
 
 
@@ -216,6 +232,8 @@ def run(told: argparse.Namespace) -> int:
         results = station.graph.stream(pictures, camera, list(station.outputs.values()))
         for path, values in with_paths(results, pictures):
             report.add(path, dict(zip(station.outputs, values)))
+        # If all pictures were skipped, the CSV file has only its head.
+        report.end()
     if pictures.skipped:
         say(f"{pictures.skipped} of {len(paths)} pictures were skipped")
     return SKIPPED if pictures.skipped else 0
@@ -273,7 +291,7 @@ def in_words(error: BaseException, path: str) -> str:
     if isinstance(error, Refused):
         # The place is a line of this file, which tells the user nothing.
         words = words.replace(error.place, error.place.partition(",")[0])
-    return words if path in words else f"{path}: {words}"
+    return words if not path or words.startswith(f"{path}: ") else f"{path}: {words}"
 
 
 def paths_of(patterns: Sequence[str], takes_missing: bool = False) -> List[str]:
@@ -284,14 +302,27 @@ def paths_of(patterns: Sequence[str], takes_missing: bool = False) -> List[str]:
         if os.path.isdir(pattern):
             inside = os.path.join(pattern, "*.png")
             raise IsADirectoryError(f"{pattern} is a folder: name its pictures, as in '{inside}'")
-        paths = [pattern] if os.path.exists(pattern) else sorted(
-            filter(os.path.isfile, glob.glob(pattern, recursive=True)), key=natural)
+        paths = matches_of(pattern)
         if not paths and takes_missing and glob.escape(pattern) == pattern:
             paths = [pattern]
         if not paths:
             raise FileNotFoundError(f"no file matches {pattern}: check the name or the pattern")
         found += paths
     return found
+
+
+def matches_of(pattern: str) -> List[str]:
+    """Returns the files of a name or a pattern, in natural order. Raises ValueError for a name such
+    as part[1].pgm if there is a part1.pgm too: nobody knows which of them is meant."""
+    # What can't be read, as a link to nothing, is told by whoever reads it.
+    found = sorted((path for path in glob.glob(pattern, recursive=True) if not os.path.isdir(path)),
+                   key=natural)
+    if pattern in found or not os.path.exists(pattern):
+        return found
+    if found:
+        raise ValueError(f"{pattern} is the name of a file, and a pattern that matches {found[0]}: "
+                         f"rename the file, or name it alone, as in '{glob.escape(pattern)}'")
+    return [pattern]
 
 
 def progress(paths: List[str], is_quiet: bool) -> Iterator[str]:

@@ -43,6 +43,8 @@ PARTS, REQUESTS = 64, 16
 PAUSE = 0.0005
 # Milliseconds that look() waits for the rest of a reply that has begun.
 REST = 5
+# Seconds. poll() takes no more than about two million; who waits longer waits again.
+LONGEST_WAIT = 1e6
 # The words of what isn't a request of its own, in errors.
 WAITING = "wait for replies"
 # The modules with the classes of connections.
@@ -184,8 +186,9 @@ class Request:
         if self.on_refusal is not None and code != 0:
             self.on_refusal(self)
         self.answer = reply, end
-        # The connection keeps the last request, whose functions would keep its context alive.
-        self.on_success = None
+        # The connection keeps the last request, whose functions would keep its context alive, and
+        # whose place an array of the caller.
+        self.on_success = self.into = None
         if code == 0:
             self.explain = None
 
@@ -271,11 +274,16 @@ class Replies:
         """Makes one read call. All replies before the position `at` were taken. Returns whether
         bytes came; False at the end of the replies."""
         received = self._counts[-1]
-        if received == at:
-            self._into = self._chunk, at, None
+        self.let_go_before(at)
         buffer, base, _ = self._into
         moved(self._counts, os.readv, self._descriptor, [buffer[received - base :]])
         return self._counts[-1] > received
+
+    def let_go_before(self, at: int) -> None:
+        """Drops the memory of the last frame, if nothing after the position `at` was read. All
+        replies before it were taken."""
+        if self._counts[-1] == at:
+            self._into = self._chunk, at, None
 
     @property
     def received(self) -> int:
@@ -354,11 +362,13 @@ class Replies:
 def free(lock: Any, words: str) -> Any:
     """Returns the lock of a connection. Raises NestedCall if it was taken by a call that goes on in
     this thread, which a signal's handler interrupts."""
-    # After an interruption at the very end of a `with` the thread has the lock without such a call.
-    if lock._is_owned() and is_within_a_call():
-        raise NestedCall(f"{words}: a call of this server was interrupted, by a signal's handler "
-                         "say, and goes on only after it: note in the handler what is to be done, "
-                         "and do it later")
+    while lock._is_owned():
+        if is_within_a_call():
+            raise NestedCall(f"{words}: a call of this server was interrupted, by a signal's "
+                             "handler say, and goes on only after it: note in the handler what is "
+                             "to be done, and do it later")
+        # An interruption at the very end of a `with` has left it locked, also for other threads.
+        lock.release()
     return lock
 
 
@@ -695,10 +705,11 @@ class Connection:
         and each request has its own time.
         """
         if self._timeout is None:
-            return poll.poll(None if limit is None else limit * 1000 + 1)
+            return poll.poll(None if limit is None else min(limit, LONGEST_WAIT) * 1000 + 1)
         start = time.monotonic()
         left = max(0.0, self._timeout - self._waited)
-        ready = poll.poll((left if limit is None else min(left, limit)) * 1000 + 1)
+        most = LONGEST_WAIT if limit is None else min(limit, LONGEST_WAIT)
+        ready = poll.poll(min(left, most) * 1000 + 1)
         self._waited += time.monotonic() - start
         if self._waited >= self._timeout and not self._readable.poll(0):
             self._time_out()
@@ -759,6 +770,7 @@ class Connection:
         except UnexpectedReply as fault:
             self._fault = fault
             raise
+        self._replies.let_go_before(at)
         self._is_delivered = True
 
     def _hear_out(self) -> None:

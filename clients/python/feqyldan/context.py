@@ -11,6 +11,7 @@ import threading
 import weakref
 from collections import deque
 from functools import partial
+from itertools import starmap
 from types import TracebackType
 from typing import (
     TYPE_CHECKING, Any, Callable, Deque, Dict, Iterator, List, Optional, Set, Tuple, Type,
@@ -20,7 +21,7 @@ from . import wire
 from .connection import (
     GREATEST_REQUEST, Body, Connection, Explain, Part, Request, is_interrupted)
 from .direct import DirectConnection
-from .errors import Closed, Fault, FeqyldanError, InvalidScope, NestedCall
+from .errors import Closed, Fault, FeqyldanError, InvalidDimension, InvalidScope, NestedCall
 from .files import picture_in
 from .forks import HELD
 from .functions import FUNCTIONS, Call, Functions, functions_for_names
@@ -33,7 +34,8 @@ from .pgm import GREATEST_WIDE_MAXVAL, header_of, is_pgm
 from .pipeline import Pipeline, Stretch, calling_frame
 from .ranges import PARAMETER_RANGES
 from .samples import (
-    Format, Numbers, Rows, Samples, Size, entries_of, format_of, lengths_in_words, samples_of)
+    Format, Numbers, Rows, Samples, Size, entries_of, format_of, has_truths, lengths_in_words,
+    samples_of)
 from .storage import Path, name_of_file, naming, read_bytes
 from .uncopied import Uncopied
 from .usage import Usage, Used, wanted_bytes
@@ -47,6 +49,8 @@ Value = TypeVar("Value")
 # What ends a `with` for good: an error, the closing of a generator, and the cancelling of a task.
 # Other exceptions, such as KeyboardInterrupt, are interruptions.
 ENDS = Exception, GeneratorExit, asyncio.CancelledError
+# How often work after an interruption is tried that others interrupt.
+TRIES = 100
 
 
 class Vxu(Uncopied, Functions[None]):
@@ -245,6 +249,9 @@ class Context(Uncopied):
         limits = tuple(within(limit, "a threshold's limit", SIGNED,
                               "a whole number, a sample of its format")
                        for limit in ((above,) if between is None else two_limits(between)))
+        if has_truths((true_value, false_value)):
+            raise TypeError("a threshold's true and false values are samples, and one is True or "
+                            "False: write 255 or 0")
         outputs = (within(true_value, *_AN_OUTPUT), within(false_value, *_AN_OUTPUT))
         made = format_of(fmt)
         kind = "above" if between is None else "between"
@@ -262,12 +269,15 @@ class Context(Uncopied):
         divisor = whole(scale, "the scale of a convolution", "a whole number, a power of 2")
         exponent = divisor.bit_length() - 1
         is_power = divisor >= 1 and divisor == 1 << exponent
-        if not is_power or exponent > BYTE.greatest or len(rows) > BYTE.greatest:
+        if not is_power or exponent > BYTE.greatest:
             raise ValueError("the scale of a convolution must be a power of 2 up to 2^31, not "
                              f"{scale}")
         columns = len(rows[0]) if rows else 0
-        flat = [value for row in rows for value in row]
         words = f"create a convolution of {columns} by {len(rows)}"
+        if max(columns, len(rows)) > BYTE.greatest:
+            # A frame can't express it.
+            raise InvalidDimension(words, wire.CREATE_CONVOLUTION)
+        flat = [value for row in rows for value in row]
         number = self._create(words, wire.create_convolution, columns, len(rows), exponent, flat)
         return Convolution(self, Made(number, name), rows, divisor)
 
@@ -306,7 +316,7 @@ class Context(Uncopied):
     def graph(self, *, name: str = "") -> Graph:
         """Returns a graph without nodes."""
         graph = Graph(self, Made(self._create("create a graph", wire.create_graph), name))
-        self._used.graphs.add(graph)
+        self._used.add_graph(graph)
         return graph
 
     def load_graph(self, path: Path) -> GraphFile:
@@ -319,7 +329,8 @@ class Context(Uncopied):
 
     def graph_faults(self, path: Path) -> Tuple[GraphFileError, ...]:
         """Returns all faults of a graph file: of its objects, of its nodes, and those for which the
-        server refuses the graph. An empty tuple says that load_graph() and a run accept it."""
+        server refuses the graph. An empty tuple says that load_graph() and process() accept it.
+        Can't be called within a pipeline."""
         from .graph_drafts import graph_faults
         return graph_faults(self, path)
 
@@ -329,7 +340,8 @@ class Context(Uncopied):
         The package counts them itself. An object counts until it is closed or Python frees it, and
         after that while a node of a graph uses it.
         """
-        self._release_forgotten()
+        if not self.closed:
+            self._release_forgotten()
         return self._used.usage(self._server.quota)
 
     def _image_of(self, samples: Samples, name: str) -> Image:
@@ -372,6 +384,13 @@ class Context(Uncopied):
             raise ValueError(f"{words}: the iterator of a stream runs in another thread, so it "
                              "can't use the stream's context: open one for it by "
                              "server.context(), or give the stream a list")
+
+    def _look_at_pipeline(self, words: str) -> None:
+        """Raises ValueError within a pipeline, for a call whose result depends on a refusal, or on
+        the time until a reply comes."""
+        if self._open_pipeline() is not None:
+            raise ValueError(f"{words}: within a pipeline requests don't wait for their replies: "
+                             "make this call before the 'with' of the pipeline, or after it")
 
     def _open_pipeline(self) -> Optional[Pipeline]:
         return None if self._pipeline is None else self._pipeline()
@@ -458,8 +477,15 @@ class Context(Uncopied):
             request = self._send(words, make, body=body, into=into, waits=True)
             value = decode(self._reply_to(request))
         except BaseException:
-            if into is not None:
-                self._connection.let_go(into)
+            tries = TRIES
+            while into is not None and tries:
+                try:
+                    tries -= 1
+                    self._connection.let_go(into)
+                    into = None
+                except BaseException:
+                    # Another interruption. The call ends by the first one.
+                    pass
             raise
         pipeline = self._open_pipeline()
         if pipeline is not None:
@@ -647,9 +673,17 @@ class Context(Uncopied):
 
     async def run(self, function: Callable[..., Value], *arguments: Any) -> Value:
         """Runs a function that uses this context in a thread, and awaits it, so that other tasks of
-        the event loop go on. Only one task may use a context at a time."""
+        the event loop go on. Only one task may use a context at a time. A StopIteration, as of
+        next() without a default, becomes a RuntimeError."""
         loop = asyncio.get_running_loop()
-        return await loop.run_in_executor(None, partial(function, *arguments))
+        # A future can't hold StopIteration: whoever awaits it would wait forever. So it ends a list
+        # here. No frame of this package is added, see may_send().
+        call_all: Callable[[Iterator[Value]], List[Value]] = list
+        results = await loop.run_in_executor(None, call_all, starmap(function, [arguments]))
+        if not results:
+            raise RuntimeError("the function raised StopIteration, which can't be awaited: give "
+                               "next() a default, as in context.run(next, frames, None)")
+        return results[0]
 
     async def __aenter__(self) -> Context:
         return self

@@ -4,12 +4,12 @@ from __future__ import annotations
 
 import ctypes
 import os
-import sys
 from functools import lru_cache
 from typing import Any, Optional, Tuple
 
 from . import program
 from .errors import FeqyldanError, ProgramNotFound
+from .modules import imported
 
 VARIABLE = "FEQYLDAN_CORE"
 # The name by which the dynamic linker finds the library, for example that of Debian's package
@@ -140,10 +140,9 @@ def argument_of(memory: Any) -> Tuple[Any, Any]:
         return memory or b"", size
     if not memory.readonly:
         return ctypes.byref(ctypes.c_char.from_buffer(memory)), size
-    if sys.modules.get("numpy") is None:
+    numpy = imported("numpy")
+    if numpy is None:
         return bytes(memory), size
-    # It waits if another thread is importing NumPy, which has no names until then.
-    import numpy
     address = numpy.frombuffer(memory, numpy.uint8).__array_interface__["data"][0]
     return ctypes.c_void_p.from_param(address), size
 

@@ -18,7 +18,7 @@ from .errors import FeqyldanError, ServerEnded
 from .graphs import Graph, kept_by
 from .images import AnyImage
 from .log import LOG
-from .samples import is_array, numpy_module, of_two_sides, samples_of
+from .samples import array_from, is_array, of_two_sides, rows_in, samples_of
 from .server import Server
 from .streams import look_at_nodes
 
@@ -52,10 +52,11 @@ def map_pictures(client: Client, graph: Build, pictures: Iterable[Any], *,
     `graph` is a function, because functions can be sent to workers and objects of a context can't.
     It is called as graph(context, width, height), in samples, and returns the graph, the image that
     each picture is written to, and the image that is read after the run. A worker calls it for each
-    size, and again for each further graph that has to run at the same time. A worker may reuse what
-    the function returned. Objects that no node uses are dropped when the function returns. A graph
-    with a delay or with sums keeps something from one picture to the next, so it can't be spread
-    over servers: its pictures fail with ValueError.
+    size, and again for each further graph that has to run at the same time. So each call has to
+    create its own objects, in the context that it is given. A worker may reuse what the function
+    returned. Objects that no node uses are dropped when the function returns. A graph with a delay
+    or with sums keeps something from one picture to the next, so it can't be spread over servers:
+    its pictures fail with ValueError.
 
     `pictures` are NumPy arrays of shape (height, width), rows of numbers, or futures of them. The
     picture of a future never passes through the client. Other pictures are sent with their task.
@@ -75,7 +76,7 @@ def map_pictures(client: Client, graph: Build, pictures: Iterable[Any], *,
     if not callable(graph):
         raise TypeError("the graph must be a function of a context, a width and a height, not "
                         f"{graph!r}")
-    if is_array(pictures) and getattr(pictures, "ndim") == 2:
+    if getattr(pictures, "ndim", 0) == 2:
         raise TypeError("map_pictures takes several pictures, and this is one array of shape "
                         f"{getattr(pictures, 'shape')}: pass [picture]")
     job = Job(uuid.uuid4().hex, graph, program, quota, work)
@@ -115,17 +116,21 @@ class Line(NamedTuple):
 
 def line_of(context: Context, built: Any) -> Line:
     """Returns the line of what a job's function has built. Raises TypeError if that isn't a graph
-    and two images, and ValueError if the graph doesn't use them, or needs every picture."""
+    and two images, InvalidScope if they are of another context, and ValueError if the graph doesn't
+    use them, overwrites its input, or needs every picture."""
     if not (isinstance(built, tuple) and len(built) == 3 and isinstance(built[0], Graph)
             and isinstance(built[1], AnyImage) and isinstance(built[2], AnyImage)):
         raise TypeError("the function that builds the graph must return a tuple of the graph, its "
                         f"input image and its output image, not {built!r}")
-    look_at_nodes(built[0], built[1], [built[2]])
-    kept = kept_by(built[0])
+    graph, source, target = built
+    # A function that kept what it made for another context would give two threads one graph.
+    context._look_at("map_pictures", graph, source, target)
+    look_at_nodes(graph, source, [target])
+    kept = kept_by(graph)
     if kept:
-        raise ValueError(f"{built[0]} keeps {kept} from one picture to the next, and each worker "
-                         "gets only some of the pictures: run it on one server by graph.stream()")
-    return Line(context, *built)
+        raise ValueError(f"{graph} keeps {kept} from one picture to the next, and each worker gets "
+                         "only some of the pictures: run it on one server by graph.stream()")
+    return Line(context, graph, source, target)
 
 
 class WorkerServer:
@@ -192,7 +197,11 @@ def shape_of(picture: Any) -> Tuple[int, int]:
     """Returns the height and the width of a picture. Raises BadPicture if the value is no
     picture."""
     if is_array(picture):
-        height, width = of_two_sides(numpy_module().asarray(picture)).shape
+        height, width = of_two_sides(array_from(picture)).shape
+    elif isinstance(picture, (list, tuple)):
+        # The samples are of the format of the graph's input, which isn't built yet.
+        rows = rows_in(picture)
+        height, width = len(rows), len(rows[0])
     else:
         _, width, height, _ = samples_of(picture)
     return height, width
@@ -220,10 +229,10 @@ def server_of(job: Job) -> Server:
     try:
         return Server(job.program, quota=job.quota, work=job.work)
     except OSError as error:
+        where = f"on the worker's machine {socket.gethostname()}"
         if error.errno is None:
-            raise
-        words = f"{error.strerror}, on the worker's machine {socket.gethostname()}"
-        raise type(error)(error.errno, words, error.filename) from None
+            raise type(error)(f"{where}: {error}") from None
+        raise type(error)(error.errno, f"{error.strerror}, {where}", error.filename) from None
 
 
 def drop(worker: WorkerServer) -> None:

@@ -25,7 +25,7 @@ from queue import SimpleQueue
 from typing import Any, Deque, List, Optional, Sequence, Set, Tuple
 
 from .connection import (
-    BEFORE_SAMPLES, HEAD, HEAD_AND_NAME, LEAD, WAITING, Buffers, Part, Request, free)
+    BEFORE_SAMPLES, HEAD, HEAD_AND_NAME, LEAD, LONGEST_WAIT, WAITING, Buffers, Part, Request, free)
 from .core import NOTHING, Core, argument_of, number_of, size_of
 from .errors import Closed, FeqyldanError, UnexpectedReply
 from .log import LOG
@@ -51,20 +51,19 @@ class Bell:
         poll.register(self._here, select.POLLIN)
         if wake is not None:
             poll.register(wake, select.POLLIN)
-        ready = poll.poll(None if limit is None else max(0.0, limit) * 1000 + 1)
+        ready = poll.poll(None if limit is None else
+                          min(max(0.0, limit), LONGEST_WAIT) * 1000 + 1)
         if not ready or any(descriptor == wake for descriptor, _ in ready):
             return False
-        self._here.recv(1)
+        # Also the rings since the end of an earlier wait.
+        self._here.recv(4096)
         return True
 
-    def close(self) -> None:
-        self._here.close()
-        self._there.close()
-
     def __del__(self) -> None:
-        # After an interruption nobody has closed it, and maybe it wasn't made.
+        # After an interruption it may not have been made.
         with suppress(AttributeError):
-            self.close()
+            self._here.close()
+            self._there.close()
 
 
 class DirectConnection:
@@ -95,8 +94,11 @@ class DirectConnection:
         # no memory for a reply.
         self._wanted: Optional[SimpleQueue[Any]] = None
         self._lacks_memory = False
+        # The bells of the threads that wait, and those that no wait uses. A bell is used again,
+        # since an interruption is lost in its __del__. No lock guards them: a signal's handler may
+        # come at any moment. Each change is one step.
         self._bells: Set[Bell] = set()
-        self._bells_lock = threading.Lock()
+        self._idle: List[Bell] = []
 
     @property
     def fault(self) -> Optional[FeqyldanError]:
@@ -116,6 +118,8 @@ class DirectConnection:
             self.ask(request, parts)
             return
         self._refuse_if_ended()
+        # Who holds the lock is interrupted, and the thread would wait for it.
+        free(self._lock, request.words)
         request.parts, self._is_open = parts, is_followed
         self._line.append(request)
         if not is_followed:
@@ -160,12 +164,13 @@ class DirectConnection:
             self._core.close()
         if self._wanted is not None:
             self._wanted.put(None)
+        self._idle.clear()
         self._ring()
 
     def lose(self, why: str) -> None:
         """Ends the connection in the child of a fork, where a thread of the parent may hold the
         locks."""
-        self._lock, self._bells_lock = threading.RLock(), threading.Lock()
+        self._lock = threading.RLock()
         self._fault, self._wanted = Closed(why), None
         self._core.lose()
 
@@ -259,18 +264,16 @@ class DirectConnection:
 
     def _ring(self) -> None:
         """Wakes the threads that wait for replies."""
-        if self._bells:
-            with self._bells_lock:
-                for bell in self._bells:
-                    bell.ring()
+        # The list keeps a bell open while it is rung.
+        for bell in list(self._bells):
+            bell.ring()
 
     def _await(self, request: Request, limit: Optional[float], wake: Optional[int]) -> bool:
         """Waits while the thread serves the line, and returns whether the reply has come."""
         until = None if limit is None else time.monotonic() + limit
-        bell = Bell()
+        bell = self._idle_bell()
         try:
-            with self._bells_lock:
-                self._bells.add(bell)
+            self._bells.add(bell)
             # An interruption may have come before the thread was woken.
             self._wake_thread()
             while request.answer is None:
@@ -283,10 +286,15 @@ class DirectConnection:
                 elif not bell.await_ring(wake, left):
                     return False
         finally:
-            with self._bells_lock:
-                self._bells.discard(bell)
-            bell.close()
+            self._bells.discard(bell)
+            self._idle.append(bell)
         return True
+
+    def _idle_bell(self) -> Bell:
+        """Returns a bell that no wait uses. It may have been rung."""
+        with suppress(IndexError):
+            return self._idle.pop()
+        return Bell()
 
 
 def reply_of(request: Request, frame: Any, placed: int, length: int) -> memoryview:

@@ -243,8 +243,8 @@ ADVICE: Dict[Tuple[int, Optional[int]], str] = {
         "Another program has a context open under this client number: use another server.",
     (wire.NO_RESOURCES, wire.OPEN_CONTEXT):
         "The door or the broker has its limit of connections in all, of this process or of this "
-        "user: close one, or start it with a higher limit (--connections, --per-process, "
-        "--per-user).",
+        "user, or can start no server, as its log says: close one, or start it with a higher limit "
+        "(--connections, --per-process, --per-user).",
     (wire.INVALID_REFERENCE, wire.REMOVE_NODE):
         "The graph was closed, or the node was removed already.",
     (wire.INVALID_DIMENSION, wire.CREATE_IMAGE): _SIDES,

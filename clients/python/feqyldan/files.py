@@ -6,14 +6,14 @@ because OpenCV crashes on a name that isn't UTF-8, and doesn't notice a full dis
 
 from __future__ import annotations
 
-import importlib
 import io
 import os
 import re
-from typing import Any, Callable, Dict, List
+from typing import Any, Callable, Dict, List, Literal, Tuple
 
 from .errors import NotAPicture, WrongPicture
-from .pgm import TOO_GREAT, is_pgm, pixels_of
+from .modules import imported_now
+from .pgm import PPM_HEADER, TOO_GREAT, is_pgm, pixels_of
 from .pictures import npy, pgm, png
 from .samples import Readable, needed_numpy, numpy_module
 from .storage import Path, name_of_file, naming, read_bytes, write_bytes
@@ -21,7 +21,16 @@ from .wire import GREATEST_SIDE
 
 # The first bytes of files of some kinds.
 NPY, PNG, JPEG = b"\x93NUMPY", b"\x89PNG\r\n\x1a\n", b"\xff\xd8\xff"
+# A JPEG 2000 file, with or without boxes, and the first bytes of its segment with the sizes.
+JPEG_2000 = b"\0\0\0\x0cjP  \r\n\x87\n", b"\xff\x4f\xff\x51"
+SIZES = JPEG_2000[1]
 SUN_RASTER = b"\x59\xa6\x6a\x95"
+POSTSCRIPT = b"%!PS", b"\xc5\xd0\xd3\xc6"
+# The byte order of a TIFF file by its first bytes, and the bytes of its places and counts: BigTIFF
+# has longer ones. And its tag with the bits of each sample.
+TIFF: Dict[bytes, Tuple[Literal["little", "big"], int]] = {
+    b"II*\0": ("little", 4), b"MM\0*": ("big", 4), b"II+\0": ("little", 8), b"MM\0+": ("big", 8)}
+BITS_OF_SAMPLE = 258
 # Endings of formats that change U8 samples a little.
 LOSSY = {".jpg", ".jpeg", ".jpe", ".jfif", ".mpo", ".webp", ".avif"}
 # A marker of a JPEG file. Within samples 0xff is followed by 0, or by 0xd0 to 0xd7.
@@ -47,11 +56,13 @@ def picture_in(content: bytes, scale: bool) -> Any:
         raise WrongPicture("the file is empty: copy it again")
     if is_pgm(content):
         return pixels_of(content, scale)
-    if content.startswith(NPY):
-        pixels = _in_npy(content)
-        return _scaled(pixels) if scale else pixels
-    pixels = _decoded(content)
-    return _scaled(pixels) if scale else _narrowed(pixels)
+    is_npy = content.startswith(NPY)
+    pixels = _in_npy(content) if is_npy else _decoded(content)
+    if scale:
+        return _scaled(pixels)
+    # An .npy file may have the samples of any image, and these stay as they are.
+    is_wide = not is_npy or (pixels.dtype.kind, pixels.dtype.itemsize) == ("u", 2)
+    return _narrowed(pixels) if is_wide else pixels
 
 
 def _in_npy(content: bytes) -> Any:
@@ -74,9 +85,19 @@ def _decoded(content: bytes) -> Any:
             raise WrongPicture(f"this is a {kind} file without its end: it is cut off after "
                                f"{len(content):,} bytes; copy it again")
     _look_at_sides(content)
-    if cv2 is None and is_wide_in_colours(content):
-        raise WrongPicture("this is a PNG file of 16 bits in colours or with alpha, which PIL "
-                           "reads as 8 bits: install OpenCV, or convert the file to grey")
+    bits = bits_of_tiff(content)
+    if 8 < max(bits) < 16:
+        # OpenCV multiplies the samples of such a file so that they fill 16 bits, and PIL doesn't.
+        raise WrongPicture(f"this is a TIFF file of {max(bits)} bits a sample, which OpenCV and "
+                           "PIL read differently: convert it to 16 bits")
+    if cv2 is None and (is_wide_in_colours(content) or len(bits) > 1 and max(bits) > 8):
+        raise WrongPicture("this is a file of 16 bits in colours or with alpha, which PIL reads as "
+                           "8 bits: install OpenCV, or convert the file to grey")
+    maxval = maxval_of_ppm(content)
+    if maxval != 255 and (cv2 is None or maxval < 255 and content.startswith(b"P3")):
+        raise WrongPicture(f"this is a PPM file with the maxval {maxval}, whose samples "
+                           f"{'PIL' if cv2 is None else 'OpenCV'} changes: convert the file to "
+                           "grey, as PGM")
     if content.startswith(SUN_RASTER):
         # OpenCV returns zeros for one without a map of colours.
         cv2 = None
@@ -101,8 +122,43 @@ def _look_at_sides(content: bytes) -> None:
 
 
 def is_wide_in_colours(content: bytes) -> bool:
-    """Returns whether a file is a PNG of 16 bits in colours or with alpha."""
+    """Returns whether a file is a PNG or JPEG 2000 of more than 8 bits in colours or with alpha."""
+    if content.startswith(JPEG_2000):
+        # The samples of a pixel, and the bits of the first one less 1, without its sign.
+        at = content.find(SIZES) + 40
+        bits = int.from_bytes(content[at + 2 : at + 3], "big") & 127
+        return content[at : at + 2] > b"\0\1" and bits > 7
     return content.startswith(PNG) and content[24:25] == b"\x10" and content[25:26] != b"\0"
+
+
+def maxval_of_ppm(content: bytes) -> int:
+    """Returns the maxval of a PPM file; 255 for any other file. PIL scales the samples of another
+    maxval so that it becomes 255, and OpenCV those of P3 if it is below 255."""
+    header = PPM_HEADER.match(content)
+    return int(header[3]) if header else 255
+
+
+def bits_of_tiff(content: bytes) -> Tuple[int, ...]:
+    """Returns the bits of the samples of a pixel in the first picture of a TIFF file, such as 8, 8
+    and 8; a single 0 if there are none, as in any other file."""
+    if content[:4] not in TIFF:
+        return (0,)
+    order, long = TIFF[content[:4]]
+
+    def number(at: int, size: int) -> int:
+        return int.from_bytes(content[at : at + size], order)
+
+    # The entries follow their number. Each has a tag, a type, a count and a value.
+    start, head, size = number(long, long), 2 if long == 4 else 8, 4 + 2 * long
+    first = start + head
+    for entry in range(first, first + size * min(65535, number(start, head)), size):
+        count = number(entry + 4, long)
+        if number(entry, 2) == BITS_OF_SAMPLE and count:
+            # The value is the numbers, if they have room in it, or else their place.
+            at = entry + 4 + long
+            at = at if 2 * count <= long else number(at, long)
+            return tuple(number(at + 2 * sample, 2) for sample in range(min(4, count)))
+    return (0,)
 
 
 def is_whole_png(content: bytes) -> bool:
@@ -125,7 +181,7 @@ def is_whole_jpeg(content: bytes) -> bool:
 def _module(name: str) -> Any:
     """Returns a module that needs NumPy here; None if the module or NumPy isn't installed."""
     try:
-        return importlib.import_module(name) if numpy_module() is not None else None
+        return imported_now(name) if numpy_module() is not None else None
     except ImportError:
         return None
 
@@ -152,8 +208,13 @@ def _by_cv2(cv2: Any, content: bytes) -> Any:
 
 def _by_pil(pil: Any, content: bytes) -> Any:
     numpy = numpy_module()
+    if content.startswith(POSTSCRIPT):
+        # Such a file is a program, which needn't end. PIL would let Ghostscript run it.
+        return None
     try:
         with pil.open(io.BytesIO(content)) as picture:
+            # This turns a TIFF file by its orientation, which may change the picture's sides.
+            picture.load()
             # "I;16B" and the like are 16 bits in some byte order.
             is_grey = picture.mode in ("L", "F") or picture.mode.startswith("I")
             pixels = numpy.asarray(picture if is_grey else picture.convert("L"))
@@ -168,7 +229,7 @@ def _by_pil(pil: Any, content: bytes) -> Any:
 def _narrowed(pixels: Any) -> Any:
     """Converts samples of 16 bits or more to int16. Raises BadPicture if they don't fit."""
     numpy = numpy_module()
-    if pixels.dtype.kind in "iu" and pixels.dtype.itemsize > 1:
+    if pixels.dtype.kind in "iu" and pixels.dtype.itemsize > 1 and pixels.size:
         least, greatest = int(pixels.min()), int(pixels.max())
         if least < -32768 or greatest > 32767:
             raise NotAPicture(f"it has samples from {least} to {greatest}, and {TOO_GREAT}")

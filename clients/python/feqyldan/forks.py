@@ -9,6 +9,7 @@ from __future__ import annotations
 import os
 import threading
 import weakref
+from typing import Iterator, Set
 
 # Why a server can't be used in the child.
 FORKED = "its server was opened before this process was forked: open a server in this process"
@@ -25,14 +26,32 @@ class Forked:
         raise NotImplementedError
 
 
+class Held:
+    """The things that Python hasn't freed yet. The callbacks are in C, unlike those of a WeakSet,
+    so no interruption is lost in them."""
+
+    def __init__(self) -> None:
+        self._references: Set[weakref.ref[Forked]] = set()
+
+    def add(self, thing: Forked) -> None:
+        self._references.add(weakref.ref(thing, self._references.discard))
+
+    def __contains__(self, thing: Forked) -> bool:
+        return weakref.ref(thing) in self._references
+
+    def __iter__(self) -> Iterator[Forked]:
+        things = (reference() for reference in list(self._references))
+        return (thing for thing in things if thing is not None)
+
+
 # Held from the opening of a pipe or a socket until its owner is in HELD.
 OPENING = threading.RLock()
-HELD: weakref.WeakSet[Forked] = weakref.WeakSet()
+HELD = Held()
 
 
 def _in_child() -> None:
     try:
-        for thing in list(HELD):
+        for thing in HELD:
             thing._lose()
     finally:
         OPENING.release()

@@ -7,10 +7,10 @@ import contextlib
 from typing import TYPE_CHECKING, Any, Callable, Dict, Iterator, List, Tuple
 
 from . import wire
-from .errors import Fault, Refused, ServerEnded, TimedOut, UnexpectedReply
+from .errors import Fault, Refused
 from .functions import OPERANDS, parameters_of
 from .graph_files import (
-    FAULTS, SLOT, GraphFileError, Place, Reader, fault_at, function_of, told_by)
+    FAULTS, OTHERS, SLOT, GraphFileError, Place, Reader, fault_at, function_of, told_by)
 from .graphs import Node
 from .storage import Path, name_of_file
 from .verdicts import ADDING, Cell, Member, explained
@@ -22,6 +22,7 @@ if TYPE_CHECKING:
 def graph_faults(context: Context, path: Path) -> Tuple[GraphFileError, ...]:
     """Returns all faults of a graph file, see Context.graph_faults()."""
     name = name_of_file(path)
+    context._look_at_pipeline(f"find the faults of {name}")
     try:
         contents = told_by(name)
     except GraphFileError as error:
@@ -79,6 +80,13 @@ class Draft(Reader):
                 for name, described in self._described() if described.get("input")
                 for words in [self._fault_of_input(name)] if words and name not in at_fault]
 
+    def _check_input(self, thing: Any) -> None:
+        """Raises ValueError if a node of the draft writes an input that a node uses. Names the node
+        by its position in the file, which isn't its number if the draft lacks an earlier node."""
+        for member in self._members():
+            if member.writes(thing._reference):
+                raise ValueError(f"it can't be an input: {member}, writes it")
+
     def _described(self) -> List[Tuple[str, Dict[str, Any]]]:
         return [(name, self._contents["objects"][name]) for name in self._things]
 
@@ -94,7 +102,7 @@ class Draft(Reader):
     def _noting(self, place: Place) -> Iterator[None]:
         try:
             yield
-        except (ServerEnded, TimedOut, UnexpectedReply):
+        except OTHERS:
             raise
         except FAULTS as error:
             # The connection keeps its last refusal. Its traceback would keep this draft too.
@@ -143,7 +151,7 @@ class Draft(Reader):
     def _note(self, place: Place, refused: Refused, fault: Fault) -> None:
         # The place is said once.
         node = self._contents["nodes"][place.node - 1] if place.node else {}
-        words = fault.words.removeprefix(f"Node {place.node}, {node.get('function')}: ")
+        words = fault.words.removeprefix(f"Node {place.node}, {node.get('function')}").lstrip(":, ")
         self.faults.append(GraphFileError(self._path, words or str(refused), place, refused.name,
                                           fault.operand, refused.advice))
 

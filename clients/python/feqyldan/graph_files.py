@@ -14,8 +14,9 @@ parameters.
        {"function": "threshold", "input": "away", "threshold": "limit", "output": "marks"}]}
 
 A slot of a delay is written as `smooth[0]` or `smooth[-1]`. An image may have a valid rectangle, as
-`"valid": [x0, y0, x1, y1]`, and one value for all samples, as `"fill": 0`. FIELDS lists the fields
-of each kind of object; a file with any other field is refused.
+`"valid": [x0, y0, x1, y1]`, and one value for all samples, as `"fill": 0`. An image of a `"file"`
+has the format and the size of the picture there. FIELDS lists the fields of each kind of object; a
+file with any other field is refused.
 """
 
 from __future__ import annotations
@@ -28,11 +29,12 @@ from typing import (
 
 from . import wire
 from .drawing import Box, Drawing
-from .errors import FeqyldanError, Refused
+from .errors import (
+    FeqyldanError, NestedCall, Refused, ServerEnded, TimedOut, UnexpectedReply)
 from .functions import (
     FUNCTIONS, OPERANDS, REPLICATE, UNDEFINED, Border, Call, Policy, constant, parameters_of)
 from .images import AnyImage, Delay, Image, Slot
-from .json_files import contents_of, packed, text_of, unpacked
+from .json_files import contents_of, number_of, packed, text_of, unpacked
 from .objects import Convolution, Distribution, Lut, MinMax, Named, Threshold
 from .samples import Format, samples_of
 from .storage import Path, cause_of, name_of_file, write_bytes
@@ -46,7 +48,7 @@ if TYPE_CHECKING:
 VERSION = 1
 # The most nodes of a graph.
 MOST_NODES = 256
-SLOT = re.compile(r"(.+)\[(0|-[0-9]+)\]")
+SLOT = re.compile(r"(.+)\[(0|-[0-9]+)\]", re.DOTALL)
 
 
 class Place(NamedTuple):
@@ -151,7 +153,7 @@ def fault_of_input(graph: Graph, image: Any) -> str:
     if not isinstance(image, Image) or image.context is not graph.context:
         return "an input must be an image of the graph's context"
     for member in graph._members:
-        if any(cell.reference == image._reference for cell in member.outputs):
+        if member.writes(image._reference):
             return f"{member}, writes it"
     return "" if image.name in graph._reads else "no node reads it"
 
@@ -171,7 +173,7 @@ class Names:
     def _enter(self, thing: Any) -> None:
         if thing.name not in self._names:
             name = thing.label or f"{thing._kind.replace(' ', '_')}_{thing.name}"
-            if name in self.things or SLOT.fullmatch(name):
+            while name in self.things or SLOT.fullmatch(name):
                 name = f"{name}_{thing.name}"
             self.things[name] = thing
             self._names[thing.name] = name
@@ -206,13 +208,21 @@ def _content(image: Image, graph: Graph, is_written: bool) -> Dict[str, Any]:
     and the valid rectangle, if no node writes the image or a node adds to it."""
     is_sum = any(call.name in ADDING and call.operands[2] is image
                  for call in graph._calls.values())
-    content: Dict[str, Any] = {}
-    if not is_written:
-        content.update(_samples(image))
+    content: Dict[str, Any] = {} if is_written else _samples(image)
     if is_sum or not is_written:
-        valid = image.valid
+        valid = _valid_of_sums(image) if is_written else image.valid
         content.update({} if valid == (0, 0, image.width, image.height) else {"valid": valid})
     return content
+
+
+def _valid_of_sums(image: Image) -> Tuple[int, ...]:
+    """Returns the valid rectangle that sums begin with: the one that was set, unless they were
+    written since, and not the one that a run has left."""
+    x0, y0, x1, y1 = image.valid
+    given = image._given_valid
+    if given and x0 >= given[0] and y0 >= given[1] and x1 <= given[2] and y1 <= given[3]:
+        return given
+    return 0, 0, image.width, image.height
 
 
 def _samples(image: Image) -> Dict[str, Any]:
@@ -271,8 +281,9 @@ def checked(told: Any, what: str, field: str) -> Dict[str, Any]:
     return told
 
 
-# The errors of reading a place of a file.
+# The errors of reading a place of a file, and those of a call, which aren't about the file.
 FAULTS = KeyError, TypeError, ValueError, OSError, ImportError, FeqyldanError
+OTHERS = NestedCall, ServerEnded, TimedOut, UnexpectedReply
 
 
 @contextlib.contextmanager
@@ -280,6 +291,8 @@ def at_place(path: Path, place: Place) -> Iterator[None]:
     """Yields once; errors within the `with` name the file and the place in it."""
     try:
         yield
+    except OTHERS:
+        raise
     except FAULTS as error:
         raise fault_at(path, place, error) from None
 
@@ -346,13 +359,29 @@ def fault_of_contents(told: Any) -> str:
     if unknown:
         return (f"a graph file has no field {unknown[0]!r}; it has 'feqyldan', 'objects' and "
                 "'nodes': leave it out")
-    if "" in told["objects"]:
-        return "the name of an object can't be empty"
+    for name in told["objects"]:
+        if not name:
+            return "the name of an object can't be empty"
+        if SLOT.fullmatch(name):
+            return f"{name!r} is the name of a slot: give the object a name without its end"
+        if not _is_text(name):
+            return f"the name {name!r} isn't text: give the object another name"
     for things, most in (("objects", MOST_OBJECTS), ("nodes", MOST_NODES)):
         if len(told[things]) > most:
             return (f"a graph file has at most {most:,} {things}, and this one has "
                     f"{len(told[things]):,}")
     return ""
+
+
+def _is_text(name: str) -> bool:
+    """Returns whether a name can be written. JSON may have halves of characters, such as \\ud800.
+    Those that stand for the bytes of a file's name can be written, as these bytes. The character 0
+    would end a name in C."""
+    try:
+        name.encode("utf-8", "surrogateescape")
+    except UnicodeEncodeError:
+        return False
+    return "\0" not in name
 
 
 def graph_text(contents: Dict[str, Any]) -> str:
@@ -472,8 +501,7 @@ class Reader:
         if "file" in told:
             if not isinstance(told["file"], str):
                 raise ValueError(f'"file" must be a path, not {told["file"]!r}')
-            return self._context.load(os.path.join(os.path.dirname(self._path), told["file"]),
-                                      name=name)
+            return self._of_file(name, told)
         image = self._context.image(format_named(told["format"]), told["width"], told["height"],
                                     name=name)
         if "fill" in told:
@@ -483,6 +511,16 @@ class Reader:
             self._context._tell(f"write samples to {image}", wire.write_image_head,
                                 image._reference, image.fmt, image.width, image.height,
                                 content=content)
+        return image
+
+    def _of_file(self, name: str, told: Dict[str, Any]) -> Image:
+        image = self._context.load(os.path.join(os.path.dirname(self._path), told["file"]),
+                                   name=name)
+        there = {"format": str(image.fmt), "width": image.width, "height": image.height}
+        if any(repr(told.get(field, value)) != repr(value) for field, value in there.items()):
+            raise ValueError(f"its file has {image.fmt} samples of {image.width} by {image.height} "
+                             "pixels, and its format, width or height says something else: leave "
+                             "them out")
         return image
 
     def _virtual_image(self, name: str, told: Dict[str, Any]) -> VirtualImage:
@@ -504,7 +542,10 @@ class Reader:
         return self._context.lut(format_named(told["format"]), told["entries"], name=name)
 
     def _convolution(self, name: str, told: Dict[str, Any]) -> Convolution:
-        return self._context.convolution(told["rows"], told.get("scale", 1), name=name)
+        rows = told["rows"]
+        if not isinstance(rows, list) or not all(isinstance(row, list) for row in rows):
+            raise ValueError("'rows' must be a list of lists")
+        return self._context.convolution(rows, told.get("scale", 1), name=name)
 
     def _distribution(self, name: str, told: Dict[str, Any]) -> Distribution:
         return self._context.distribution(told["bins"], told.get("offset", 0),
@@ -532,8 +573,10 @@ class Reader:
         return border_named(value) if name == "border" else value
 
     def _operand(self, name: Any) -> Any:
-        slot = SLOT.fullmatch(str(name))
-        thing = self._things.get(slot[1] if slot else str(name))
+        if not isinstance(name, str):
+            raise ValueError(f"an operand must be the name of an object, not {name!r}")
+        slot = SLOT.fullmatch(name)
+        thing = self._things.get(slot[1] if slot else name)
         if thing is None:
             raise ValueError(f'there is no object {name!r}: add it to "objects"')
         if slot:
@@ -541,7 +584,7 @@ class Reader:
                 raise ValueError(f"{slot[1]!r} isn't a delay, so it has no slots: leave out "
                                  f"[{slot[2]}]")
             try:
-                return thing[int(slot[2])]
+                return thing[number_of(slot[2])]
             except IndexError as error:
                 raise ValueError(f"there is no slot {name!r}: {error}") from None
         return thing

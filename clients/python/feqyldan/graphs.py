@@ -9,7 +9,7 @@ from typing import (
     Tuple, TypeVar, Union, overload)
 
 from . import wire
-from .errors import OptimizedAway, OrderWarning
+from .errors import InvalidReference, OptimizedAway, OrderWarning
 from .functions import Call, Functions
 from .hints import OF_GRAPHS
 from .images import AnyImage, Delay, Slot
@@ -244,7 +244,8 @@ class Graph(Named, Functions[Node]):
         """
         Runs each node by itself in immediate mode, and returns the time of each in seconds: the
         least of `rounds` runs. The result prints as a table. The runs use images of their own, so
-        the graph's outputs don't change; these images count towards the quota.
+        the graph's outputs don't change; these images count towards the quota. Can't be called
+        within a pipeline.
         """
         from .profiles import profile
         return profile(self, rounds)
@@ -253,11 +254,15 @@ class Graph(Named, Functions[Node]):
         """
         Writes the graph and its objects to a JSON file, for Context.load_graph() and the command
         line. `inputs` are the images that get a picture before each run. The file includes the
-        samples and the valid rectangles of all other images that nodes read and no node writes.
-        Without `inputs` nodes may read only one image that no node writes.
+        samples and the valid rectangles of all other images that nodes read and no node writes, and
+        the valid rectangles that were set of sums. Without `inputs` nodes may read only one image
+        that no node writes.
         """
         from .graph_files import write_graph
         self._context._settle()
+        if self._is_closed:
+            # Its nodes are gone: an empty graph would replace the file.
+            raise InvalidReference(f"save {self}")
         write_graph(self, path, inputs)
 
     def watch(self) -> Watch:

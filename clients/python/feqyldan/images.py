@@ -3,6 +3,7 @@
 from __future__ import annotations
 
 import struct
+from functools import partial
 from typing import TYPE_CHECKING, Any, Iterator, Optional, Tuple, Union, overload
 
 from . import wire
@@ -57,6 +58,7 @@ class ValidRectangle:
                              f"a whole number up to {wire.GREATEST_SIDE}") for side in given)
         image.context._tell(f"make {sides} the valid rectangle of {image}", wire.set_valid,
                             image._reference, sides)
+        image._note_valid(sides)
 
 
 class AnyImage(Readable):
@@ -129,6 +131,7 @@ class AnyImage(Readable):
         self.context._tell(self._words_for(given), wire.write_image_head, self._reference, fmt,
                            width, height, content=content,
                            explain=lambda code: self._fault_of(given, code))
+        self._note_valid(None)
 
     def _look_at_samples(self, given: Samples, place: str) -> None:
         """Raises the server's refusal of samples whose format or size isn't the image's, without
@@ -153,12 +156,15 @@ class AnyImage(Readable):
             f"The samples have the shape {(given.height, given.width)}, and the image "
             f"{self.shape}."))
 
+    def _note_valid(self, given: Optional[Tuple[int, ...]]) -> None:
+        """Notes the valid rectangle that was set; None after all samples were written."""
+
     def fill(self, value: int) -> None:
         """Writes one value to all samples; the whole image is then valid."""
-        row = [whole(value, f"a sample of {self.fmt}")] * self.width
-        line = samples_of([row], Size(self.fmt, self.width, 1)).content
+        line = samples_of([[value] * self.width], Size(self.fmt, self.width, 1)).content
         self.context._tell(f"fill {self} with {value}", wire.write_image_head, self._reference,
                            self.fmt, self.width, self.height, content=bytes(line) * self.height)
+        self._note_valid(None)
 
     def read(self, out: Optional[numpy.ndarray[Any, Any]] = None) -> Picture:
         """
@@ -180,7 +186,8 @@ class AnyImage(Readable):
         """Returns the request of read(), for a pipeline."""
         fmt, width, height = self._described
         described = struct.pack(">BHH", fmt, width, height)
-        return (f"read {self}", lambda client: wire.read_image(client, self._reference), picture_of,
+        return (f"read {self}", lambda client: wire.read_image(client, self._reference),
+                partial(picture_of, native=[]),
                 Body(len(described) + width * height * fmt.sample_bytes, described))
 
     def copy(self) -> Image:
@@ -229,6 +236,7 @@ class AnyImage(Readable):
         self.context._tell(f"write a PGM text to {self}", wire.write_image_pgm_head,
                            self._reference, len(content), content=content,
                            explain=lambda code: fault_of(text, code))
+        self._note_valid(None)
 
     def read_pgm(self) -> bytes:
         """Returns the picture of a U8 image as a PGM text (P5)."""
@@ -255,12 +263,18 @@ class AnyImage(Readable):
 class Image(Named, AnyImage):
     """An image that isn't in a slot of a delay."""
 
-    __slots__ = ("_size",)
+    __slots__ = ("_size", "_given_valid")
     _kind = "image"
 
     def __init__(self, context: Context, made: Made, fmt: Format, width: int, height: int) -> None:
         Named.__init__(self, context, made, in_words(fmt, width, height))
         self._size = Size(fmt, width, height)
+        # The valid rectangle that was set since the samples were written, if any; a run may leave a
+        # smaller one.
+        self._given_valid: Optional[Tuple[int, ...]] = None
+
+    def _note_valid(self, given: Optional[Tuple[int, ...]]) -> None:
+        self._given_valid = given
 
     @property
     def _described(self) -> Size:
@@ -344,6 +358,10 @@ class Delay(Named):
     def __iter__(self) -> Iterator[Slot]:
         """Iterates over the slots, the newest first."""
         return (Slot(self, -k) for k in range(self._slots))
+
+    def __reversed__(self) -> Iterator[Slot]:
+        """Iterates over the slots, the oldest first. By default Python would begin with slot 1."""
+        return (Slot(self, k) for k in range(1 - self._slots, 1))
 
     def _values(self) -> str:
         return f", {self._slots} slots"

@@ -75,6 +75,9 @@ class Named(Uncopied):
     _is_virtual = False
 
     def __init__(self, context: Context, made: Made, about: str = "") -> None:
+        if made.label and not isinstance(made.label, str):
+            # The object is released before the next request, since nobody has claimed it.
+            raise TypeError(f"the name of an object must be text, not {made.label!r}")
         self._context, self._made, self._about = context, made, about
         self._is_closed = False
         # For messages: the kind, the name, the label and the format or the sides, as far as there

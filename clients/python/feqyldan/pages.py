@@ -8,11 +8,12 @@ import fcntl
 import os
 import select
 import struct
-import sys
 import termios
 from functools import lru_cache
 from itertools import accumulate
 from typing import Any, List
+
+from .modules import imported
 
 # Bytes. A shorter part is copied, which takes less time.
 LEAST = 1 << 16
@@ -36,8 +37,7 @@ def vmsplice() -> Any:
 def can_lend() -> bool:
     """Returns whether NumPy is in use, which gives addresses of memory, and the system supports
     lending."""
-    # None stands for a module that must not be imported.
-    return sys.modules.get("numpy") is not None and vmsplice() is not None
+    return imported("numpy") is not None and vmsplice() is not None
 
 
 def lend(counts: List[int], pipe: int, part: Any) -> None:
@@ -48,7 +48,7 @@ def lend(counts: List[int], pipe: int, part: Any) -> None:
     lent.
     """
     import ctypes
-    import numpy
+    numpy = imported("numpy")
     start = numpy.frombuffer(part, numpy.uint8).__array_interface__["data"][0]
     # A struct iovec.
     vector = (ctypes.c_size_t * 2)(start, len(part))

@@ -12,8 +12,12 @@ from . import wire
 from .errors import Fault, NotAPicture, WrongPicture
 from .samples import LETTERS, Format, numpy_module
 
+WHITESPACE = b" \t\r\n"
 GAP = rb"(?:[ \t\r\n]|#[^\r\n]*[\r\n])+"
-HEADER = re.compile(rb"P[25]" + 3 * (GAP + rb"0*([0-9]{1,9})"))
+NUMBERS = 3 * (GAP + rb"0*([0-9]{1,9})")
+HEADER = re.compile(rb"P[25]" + NUMBERS)
+# The header of Netpbm's pictures in colours.
+PPM_HEADER = re.compile(rb"P[36]" + NUMBERS)
 COMMENT = re.compile(rb"#[^\r\n]*")
 # The greatest maxval of a picture for a U8 image, and for an S16 image.
 GREATEST_MAXVAL, GREATEST_WIDE_MAXVAL = 255, 32767
@@ -86,9 +90,12 @@ def _size_fault(header: Header, kind: bytes, size: int) -> str:
     """Returns in words that a text of this many bytes is too short or too long; empty if it
     isn't."""
     samples = header.width * header.height
-    # A sample of a plain text takes a digit and the byte before it.
-    needed = 2 * samples if kind == b"P2" else 1 + samples * header.fmt.sample_bytes
-    there = size - header.size
+    if kind == b"P2":
+        # A sample takes a digit and the byte before it.
+        needed, there = 2 * samples, size - header.size
+    else:
+        # One byte is between the maxval and the samples.
+        needed, there = samples * header.fmt.sample_bytes, max(0, size - header.size - 1)
     if there < needed:
         return (f"It is cut off: the samples of {header.width} by {header.height} pixels take "
                 f"{needed:,} bytes after the header, and {there:,} came: copy it again.")
@@ -130,6 +137,9 @@ def _numbers_in(text: bytes, header: Header) -> Any:
     letter = "B" if header.fmt == Format.U8 else "H"
     count, rest = header.width * header.height, text[header.size:]
     if text[:2] == b"P5":
+        if rest[0] not in WHITESPACE:
+            raise WrongPicture("no whitespace byte follows its maxval, so nobody knows where its "
+                               "samples begin")
         numbers = array.array(letter, rest[1:])
         if sys.byteorder == "little":
             numbers.byteswap()

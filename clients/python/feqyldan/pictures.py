@@ -8,7 +8,7 @@ from typing import Any, List, NamedTuple, Tuple
 
 from .errors import NotAPicture
 from .samples import (
-    Format, Picture, Readable, is_array, lengths_in_words, numpy_module, packed,
+    Format, Picture, Readable, array_from, is_array, lengths_in_words, numpy_module, packed,
     refuse_none_and_paths, samples_of)
 from .storage import Path, name_of_file, write_bytes
 from .thumbnails import greys
@@ -30,7 +30,7 @@ class Raster(NamedTuple):
 
 def write_pgm(path: Path, picture: Any) -> None:
     """Writes a PGM file (P5) of a U8 image, an array of shape (height, width) or rows of numbers.
-    Raises ValueError for other formats."""
+    Raises TypeError or ValueError for other samples."""
     name = name_of_file(path)
     write_bytes(name, pgm(picture))
 
@@ -46,7 +46,7 @@ def write_png(path: Path, picture: Any) -> None:
     """
     Writes a PNG file of an image, an array or rows of numbers. Grey has shape (height, width), and
     is U8 or S16 without negative samples; colour has shape (height, width, 3), with red, green and
-    blue from 0 to 255. Raises ValueError for other samples.
+    blue from 0 to 255. Raises TypeError or ValueError for other samples.
     """
     name = name_of_file(path)
     write_bytes(name, [png(picture)])
@@ -153,15 +153,17 @@ def _is_coloured(picture: Any) -> bool:
 
 def _coloured(picture: Any) -> Raster:
     if is_array(picture):
-        return _of_coloured_array(numpy_module().asarray(picture))
-    rows = picture.tolist() if hasattr(picture, "tolist") else picture
+        return _of_coloured_array(array_from(picture))
+    rows = [[tuple(pixel) for pixel in row]
+            for row in (picture.tolist() if hasattr(picture, "tolist") else picture)]
     height, width = len(rows), len(rows[0])
     numbers = [value for row in rows for pixel in row for value in pixel]
     try:
         content = packed(numbers, Format.U8, "a coloured sample").tobytes()
     except TypeError as error:
         raise NotAPicture(error) from None
-    if any(len(row) != width for row in rows) or len(content) != 3 * width * height:
+    if any(len(row) != width for row in rows) or {len(pixel) for row in rows
+                                                  for pixel in row} != {3}:
         raise ValueError(f"{_SHAPE_OF_COLOURS}, not {len(content)} numbers in "
                          f"{lengths_in_words(rows)}")
     return Raster(width, height, 3, memoryview(content))

@@ -181,15 +181,16 @@ class Pipeline(Uncopied):
 
     def read(self, thing: Union[AnyImage, Distribution, MinMax]) -> Result[Any]:
         """Sends the request of thing.read(), for a picture, counts or extremes."""
-        return self._ask(*asked_of(thing, "_reading", "an image, a distribution or extremes"))
+        return self._ask(*self._asked_of(thing, "_reading",
+                                         "an image, a distribution or extremes"))
 
     def read_pgm(self, image: AnyImage) -> Result[bytes]:
         """Sends the request of image.read_pgm()."""
-        return self._ask(*asked_of(image, "_reading_pgm", "an image"))
+        return self._ask(*self._asked_of(image, "_reading_pgm", "an image"))
 
     def query(self, image: Union[AnyImage, VirtualImage]) -> Result[Description]:
         """Sends the request of image.query()."""
-        return self._ask(*asked_of(image, "_querying", "an image"))
+        return self._ask(*self._asked_of(image, "_querying", "an image"))
 
     def wait(self) -> None:
         """
@@ -220,6 +221,8 @@ class Pipeline(Uncopied):
         return f"call {self._calls} of the pipeline"
 
     def __enter__(self) -> Pipeline:
+        # An earlier `with` of this pipeline has told its refusals.
+        self._stretch = Stretch()
         self._context._enter_pipeline(self)
         return self
 
@@ -231,19 +234,22 @@ class Pipeline(Uncopied):
             self._context._connection.wait()
             self._stretch.raise_untold()
 
+    def _asked_of(self, thing: Any, name: str, kinds: str) -> Any:
+        """Returns what an object's method with this name says of its request. Raises TypeError for
+        an object without it, and InvalidScope for one of another context."""
+        if not hasattr(thing, name):
+            raise TypeError(f"this call of a pipeline takes {kinds}, not {thing!r}")
+        asked = getattr(thing, name)()
+        self._context._look_at(asked[0], thing)
+        return asked
+
     def _ask(self, words: str, make: Callable[[int], bytes],
              decode: Callable[[memoryview], Value],
              body: Optional[Body] = None) -> Result[Value]:
         request = self._context._send(words, make, body=body)
-        return Result(self._context._connection, request, decode, self._stretch)
-
-
-def asked_of(thing: Any, name: str, kinds: str) -> Any:
-    """Returns what an object's method with this name says of its request. Raises TypeError for an
-    object without it."""
-    if not hasattr(thing, name):
-        raise TypeError(f"this call of a pipeline takes {kinds}, not {thing!r}")
-    return getattr(thing, name)()
+        # Another pipeline may be open, which has taken the request.
+        taker = self._context._open_pipeline() or self
+        return Result(self._context._connection, request, decode, taker._stretch)
 
 
 def number_of(request: Request) -> int:

@@ -3,6 +3,7 @@
 from __future__ import annotations
 
 import logging
+import os
 import signal
 import socket
 import subprocess
@@ -30,26 +31,29 @@ class Process:
         # Replies come by a socket: its buffers stay in the processor's cache, while a pipe takes
         # new pages for each picture.
         self._output, replies = socket.socketpair()
+        reader, writer = os.pipe()
+        requests, self._input = (open(reader, "rb", buffering=0), open(writer, "wb", buffering=0))
+        self._is_ending = self._is_end_logged = False
         try:
-            with replies:
-                self._process = subprocess.Popen(words, stdin=subprocess.PIPE,
-                                                 stdout=replies.fileno(),
-                                                 stderr=self._said,
-                                                 bufsize=0, start_new_session=True)
+            with requests, replies:
+                # A server doesn't expect what socket.setdefaulttimeout() does to them.
+                replies.setblocking(True)
+                self._process = subprocess.Popen(words, stdin=requests, stdout=replies.fileno(),
+                                                 stderr=self._said, start_new_session=True)
+            enlarge(self._input.fileno())
+            self.pid, self.terminate, self.kill = (
+                self._process.pid, self._process.terminate, self._process.kill)
+            self.connection = Connection(self._input.fileno(), self._output.fileno(), self._ended,
+                                         self.kill, timeout)
         except BaseException as error:
-            self._said.close()
+            # A server that has started ends with its input. An input of Popen's own would stay
+            # open after an interruption.
+            self._input.close()
             self._output.close()
+            self._said.close()
             if isinstance(error, FileNotFoundError):
                 raise ProgramNotFound(error.errno, "there is no such program", words[0]) from None
             raise
-        assert self._process.stdin is not None
-        self._input = self._process.stdin
-        enlarge(self._input.fileno())
-        self._is_ending = self._is_end_logged = False
-        self.pid, self.terminate, self.kill = (
-            self._process.pid, self._process.terminate, self._process.kill)
-        self.connection = Connection(self._input.fileno(), self._output.fileno(), self._ended,
-                                     self.kill, timeout)
 
     def __str__(self) -> str:
         return f"process {self.pid}, {self._name}"

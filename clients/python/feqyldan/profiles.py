@@ -29,8 +29,8 @@ class Profile(Tuple[Timing, ...]):
     __slots__ = ()
 
     def __str__(self) -> str:
-        total = sum(one.seconds for one in self) or 1.0
-        lines = [f"{1e3 * one.seconds:9.3f} ms {100 * one.seconds / total:5.1f} %  node "
+        total = sum(one.seconds for one in self)
+        lines = [f"{1e3 * one.seconds:9.3f} ms {100 * one.seconds / (total or 1):5.1f} %  node "
                  f"{one.node.number}, {one.node.function}"
                  for one in sorted(self, key=lambda one: -one.seconds)]
         return "\n".join([*lines, f"{1e3 * total:9.3f} ms together, one by one"])
@@ -45,6 +45,7 @@ def profile(graph: Graph, rounds: int) -> Profile:
     """Returns the time of each node by itself, in the order of the graph. The nodes write to
     substitutes, so the graph's outputs don't change."""
     rounds = max(1, whole(rounds, "the number of rounds of a profile"))
+    graph.context._look_at_pipeline(f"profile {graph}")
     graph.verify(warn=False)
     stand_ins = Doubles(graph)
     nodes = {node.number: node for node in graph.nodes}

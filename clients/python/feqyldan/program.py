@@ -38,7 +38,8 @@ def find() -> str:
         if not os.path.isfile(told):
             raise ProgramNotFound(f"{VARIABLE} is {told}, and there is no such file: set it to "
                                   "the server's program, or unset it")
-        return told
+        # A name without a folder would be looked up on PATH.
+        return os.path.abspath(told)
     on_path = (shutil.which(name) for name in NAMES)
     found = next((path for path in (*on_path, *inside(), *built())
                   if path and os.access(path, os.X_OK)), None)

@@ -5,8 +5,10 @@ from __future__ import annotations
 import argparse
 import contextlib
 import csv
+import io
 import json
 import os
+import stat
 import sys
 from contextlib import ExitStack
 from typing import Any, Dict, Iterable, Iterator, List, Optional, Sequence, TextIO, Tuple
@@ -19,6 +21,7 @@ from .objects import Distribution, MinMax
 from .pictures import write_npy, write_png
 from .regions import regions
 from .samples import Format, numpy_module
+from .storage import write_bytes
 
 # The value of --csv for standard output, and its name in messages.
 STANDARD_OUTPUT, STANDARD_OUTPUT_NAME = "-", "standard output"
@@ -37,20 +40,21 @@ class Report:
         self._kept = kept_by(station.graph)
         self._look_at_files(told, paths, others)
         if self._folder is not None:
-            make_folder(self._folder)
+            make_folder(f"--out {self._folder or repr(self._folder)}", self._folder)
+        # What the first lines follow, until they are written.
+        self._head = [["picture", *columns_of(station.outputs, self._least)]]
+        self._file_name: Optional[str] = told.csv
         self._lines: Any = None
-        self._file_name = told.csv
         if told.csv == STANDARD_OUTPUT or told.csv is None and self._folder is None:
-            self._file_name = STANDARD_OUTPUT_NAME
-            self._lines = csv.writer(standard_output())
+            self._file_name, self._lines = STANDARD_OUTPUT_NAME, standard_output("utf-8")
+            self._write_lines()
         elif told.csv is not None:
-            self._lines = csv.writer(ends.enter_context(opened(told.csv)))
-        self._write_line(["picture", *columns_of(station.outputs, self._least)])
+            self._lines = ends.enter_context(contextlib.closing(CsvFile(told.csv)))
 
     def _look_at_files(self, told: argparse.Namespace, paths: Sequence[str],
                        others: Sequence[str]) -> None:
-        """Raises ValueError if a result would overwrite an input file or the result of another
-        picture."""
+        """Raises ValueError if a result would overwrite an input file, the result of another
+        picture, or something else than a file."""
         read = {identity(path): path for path in (*paths, *others)}
         if told.csv not in (None, STANDARD_OUTPUT) and identity(told.csv) in read:
             raise ValueError(f"--csv {told.csv} would overwrite {read[identity(told.csv)]}, which "
@@ -64,18 +68,27 @@ class Report:
         numbers = None if told.csv in (None, STANDARD_OUTPUT) else identity(told.csv)
         writers: Dict[str, Tuple[int, str]] = {}
         for number, path, file in self._files_of(paths):
-            if identity(file) == numbers:
+            there = identity(file)
+            if there == numbers:
                 raise ValueError(f"--csv {told.csv} would be overwritten by the image of {path}: "
                                  "name another file")
-            if identity(file) in read:
+            if there in read:
                 raise ValueError(f"--out {self._folder}: the image of {path} would overwrite "
-                                 f"{read[identity(file)]}, which is read: name another folder")
+                                 f"{read[there]}, which is read: name another folder")
+            if os.path.lexists(file) and not stat.S_ISREG(os.lstat(file).st_mode):
+                # What a link leads to may be the image of another picture, or anybody's; a pipe
+                # may have no reader.
+                raise ValueError(f"--out {self._folder}: the image of {path} would be {file}, "
+                                 "which is a link, a folder or a pipe, and no file: remove it, or "
+                                 "name another folder")
             first, other = writers.setdefault(file, (number, path))
+            if first == number:
+                continue
             if identity(other) != identity(path):
                 raise ValueError(f"--out {self._folder}: the images of {other} and of {path} would "
                                  f"both be {file}: run them one after the other, each with its own "
                                  "folder")
-            if first != number and self._kept:
+            if self._kept:
                 raise ValueError(f"--out {self._folder}: {path} is named twice, and its images may "
                                  f"differ, since the graph keeps {self._kept}: copy the picture to "
                                  "another name")
@@ -92,26 +105,74 @@ class Report:
         return {name: f"{stem}.{name}" if len(self._images) > 1 else stem for name in self._images}
 
     def add(self, path: str, values: Dict[str, Any]) -> None:
-        """Adds the results of a picture."""
+        """Adds the results of a picture. Until the first ones an older CSV file stays as it was."""
         if self._folder is not None:
             for name, stem in self._stems_of(path).items():
                 write(stem, values[name])
-        if self._lines is not None:
-            self._write_line([path, *(number for value in values.values()
-                                      for number in numbers_in(value, self._least))])
+        if self._file_name is not None:
+            self._write_lines([path, *(number for value in values.values()
+                                       for number in numbers_in(value, self._least))])
 
-    def _write_line(self, cells: Sequence[Any]) -> None:
-        if self._lines is None:
-            return
-        with writing_to(self._file_name):
-            self._lines.writerow(cells)
+    def end(self) -> None:
+        """Writes the head of the CSV file if there was no result."""
+        if self._file_name is not None and self._head:
+            self._write_lines()
+
+    def _write_lines(self, *lines: Sequence[Any]) -> None:
+        text = io.StringIO()
+        csv.writer(text).writerows([*self._head, *lines])
+        with writing_to(str(self._file_name)):
+            self._lines.write(text.getvalue())
+        self._head = []
 
 
-def make_folder(path: str) -> None:
-    """Creates the folder for images, if it doesn't exist."""
-    if os.path.exists(path) and not os.path.isdir(path):
-        raise NotADirectoryError(f"--out {path} isn't a folder: name another one")
-    os.makedirs(path, exist_ok=True)
+class CsvFile:
+    """A file that lines are written to. It is created with the first ones, in a folder that needn't
+    exist, and then replaces an older one. Lines are written whole or not at all."""
+
+    def __init__(self, path: str) -> None:
+        self._path = path
+        self._file: Optional[io.FileIO] = None
+
+    def write(self, text: str) -> None:
+        # A file's name may have bytes that are no UTF-8.
+        data = text.encode("utf-8", "surrogateescape")
+        if self._file is None:
+            make_folder(f"the folder of --csv {self._path}", os.path.dirname(self._path) or ".")
+            is_replaced = self._can_be_replaced()
+            if is_replaced:
+                write_bytes(self._path, [data])
+                data = b""
+            self._file = open(self._path, "ab" if is_replaced else "wb", buffering=0)
+        self._append(self._file, data)
+
+    def _can_be_replaced(self) -> bool:
+        """Returns False for a pipe, a device, or a file in a folder of somebody else."""
+        real = os.path.realpath(self._path)
+        is_file = os.path.isfile(real) or not os.path.exists(self._path)
+        return is_file and os.access(os.path.dirname(real), os.W_OK)
+
+    def _append(self, file: io.FileIO, data: bytes) -> None:
+        size, sent = os.fstat(file.fileno()).st_size, 0
+        try:
+            while sent < len(data):
+                sent += file.write(data[sent:])
+        except BaseException:
+            with contextlib.suppress(OSError):
+                file.truncate(size)
+            raise
+
+    def close(self) -> None:
+        if self._file is not None:
+            self._file.close()
+
+
+def make_folder(words: str, path: str) -> None:
+    """Creates the folder of an option, if it doesn't exist. The words name it in an error."""
+    try:
+        os.makedirs(path, exist_ok=True)
+    except (FileNotFoundError, FileExistsError, NotADirectoryError):
+        raise NotADirectoryError(f"{words} isn't a folder: name another one") from None
 
 
 @contextlib.contextmanager
@@ -121,33 +182,21 @@ def writing_to(name: str) -> Iterator[None]:
     try:
         yield
     except OSError as error:
+        if error.errno is None:
+            # One of this package, which has its own words.
+            raise
         raise type(error)(error.errno, error.strerror, name) from None
 
 
-def standard_output() -> TextIO:
-    """Returns standard output, which writes each line when it is complete. Raises ValueError if it
-    is closed."""
+def standard_output(encoding: Optional[str] = None) -> TextIO:
+    """Returns standard output, which writes each line when it is complete, in an encoding, or else
+    in that of the locale. Raises ValueError if it is closed."""
     if sys.stdout is None:
         raise ValueError("standard output is closed: send it to a file, as in > FILE")
     if hasattr(sys.stdout, "reconfigure"):
         # A file's name may have bytes that are no UTF-8.
-        sys.stdout.reconfigure(errors="surrogateescape", line_buffering=True)
+        sys.stdout.reconfigure(encoding=encoding, errors="surrogateescape", line_buffering=True)
     return sys.stdout
-
-
-@contextlib.contextmanager
-def opened(path: str) -> Iterator[TextIO]:
-    """Opens a file to write lines to, and creates its folder if it doesn't exist."""
-    os.makedirs(os.path.dirname(path) or ".", exist_ok=True)
-    file = open(path, "w", newline="", encoding="utf-8", errors="surrogateescape", buffering=1)
-    try:
-        yield file
-    except BaseException:
-        # If the disk is full, closing would raise the error again, without the file's name.
-        with contextlib.suppress(OSError):
-            file.close()
-        raise
-    file.close()
 
 
 def files_read(path: str, contents: Dict[str, Any]) -> List[str]:
@@ -161,16 +210,19 @@ def fault_of_name(name: str) -> str:
         os.fsencode(name)
     except UnicodeEncodeError:
         return "has a character that a file name can't have"
-    return next((f"has a {json.dumps(letter)}" for letter in "/\0" if letter in name), "")
+    return 'has a "/"' if "/" in name else ""
 
 
 def identity(path: str) -> Tuple[Any, ...]:
     """Returns the identity of a file, whatever its path."""
-    try:
-        there = os.stat(path)
-    except OSError:
-        return (os.path.realpath(path),)
-    return there.st_dev, there.st_ino
+    # A folder before a ".." may not exist until it is created for the results. The real path leads
+    # to the file already. A path such as /dev/stdin may have no real one.
+    real = os.path.realpath(path)
+    for name in (path, real):
+        with contextlib.suppress(OSError):
+            there = os.stat(name)
+            return there.st_dev, there.st_ino
+    return (real,)
 
 
 # File name extensions for images of each format: PNG has no negative and no U32 samples.

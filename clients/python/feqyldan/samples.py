@@ -19,11 +19,13 @@ import sys
 from enum import IntEnum
 from functools import lru_cache
 from itertools import chain
-from typing import TYPE_CHECKING, Any, Iterable, NamedTuple, Optional, Sequence, Tuple, Union
+from typing import (
+    TYPE_CHECKING, Any, Iterable, List, NamedTuple, Optional, Sequence, Tuple, Union)
 
 from . import wire
 from .errors import NotAPicture, WrongPicture
-from .whole import first_not_whole, whole
+from .modules import imported_now
+from .whole import NO_SEQUENCE, first_not_whole, whole
 
 if TYPE_CHECKING:
     import numpy
@@ -107,10 +109,9 @@ class Readable:
 def numpy_module() -> Any:
     """Returns NumPy, imported when it is first needed; None if it isn't installed."""
     try:
-        import numpy
-    except ImportError:
+        return imported_now("numpy")
+    except ModuleNotFoundError:
         return None
-    return numpy
 
 
 def needed_numpy(what: str) -> Any:
@@ -171,32 +172,37 @@ def array_from(value: Any) -> Any:
     if hasattr(value, "getpalette") and getattr(value, "mode", None) in ("P", "PA"):
         raise NotAPicture("the samples of a PIL image with a palette are numbers of colours: "
                           "image.convert('L') has its greys, numpy.asarray(image) the numbers")
-    if hasattr(value, "__array__") or hasattr(value, "__array_interface__"):
-        return numpy.asarray(value)
-    return _from_dlpack(value)
-
-
-def _from_dlpack(value: Any) -> Any:
+    by_dlpack = not (hasattr(value, "__array__") or hasattr(value, "__array_interface__"))
     try:
-        return numpy_module().from_dlpack(value)
+        return numpy.from_dlpack(value) if by_dlpack else numpy.asarray(value)
     except Exception as error:
-        # Each library raises errors of its own, for example for samples on a graphics card.
-        raise NotAPicture(f"NumPy can't take the samples of this {type(value).__name__} by DLPack: "
-                          f"{error}; copy them to a NumPy array first") from None
+        # As for samples on a graphics card. By DLPack each library raises errors of its own; other
+        # errors of an array, such as OSError, aren't about what it is.
+        if not by_dlpack and not isinstance(error, (TypeError, RuntimeError)):
+            raise
+        raise NotAPicture(f"NumPy can't take the samples of this {type(value).__name__}"
+                          f"{' by DLPack' if by_dlpack else ''}: {error}; copy them to a NumPy "
+                          "array first") from None
 
 
 def entries_of(value: Any, fmt: Format) -> bytes:
     """Returns the big-endian bytes of numbers in one dimension; an array, also a memoryview, may
     have several rows."""
-    if is_array(value):
-        value = numpy_module().asarray(value).reshape(-1).tolist()
-    elif isinstance(value, memoryview) and value.ndim == 2:
-        rows: Any = value.tolist()
-        value = chain.from_iterable(rows)
-    if not isinstance(value, Iterable):
+    told = value
+    try:
+        if isinstance(value, (dict, set, frozenset)):
+            # Its keys would be the entries, whatever the values are.
+            raise TypeError
+        if is_array(value):
+            value = array_from(value).reshape(-1).tolist()
+        elif isinstance(value, memoryview) and value.ndim == 2:
+            rows: Any = value.tolist()
+            value = chain.from_iterable(rows)
+        entries = list(value)
+    except NO_SEQUENCE:
         raise TypeError("the entries of a lookup table must be whole numbers in a row, not "
-                        f"{value!r}")
-    return _ordered(packed(list(value), fmt, "an entry")).tobytes()
+                        f"{told!r}") from None
+    return _ordered(packed(entries, fmt, "an entry")).tobytes()
 
 
 def _of_array(pixels: Any, size: Optional[Size]) -> Samples:
@@ -294,19 +300,16 @@ def _of_buffer(view: memoryview, size: Optional[Size]) -> Samples:
 
 def _of_rows(value: Any, size: Optional[Size]) -> Samples:
     fmt = size.fmt if size else Format.U8
-    rows = _rows_in(value)
-    width = len(rows[0]) if rows else 0
-    if width == 0 or any(len(row) != width for row in rows):
-        raise WrongPicture("a picture must have rows of the same length, and at least one "
-                           f"sample, not {lengths_in_words(rows)}")
+    rows = rows_in(value)
+    width = len(rows[0])
     flat = [sample for row in rows for sample in row]
-    if bool in set(map(type, flat)):
-        raise NotAPicture("True and False are no samples: write [[255 * value for value in row] "
-                          "for row in rows] for a mask of 0 and 255")
     try:
         content = _ordered(packed(flat, fmt, "a sample"))
     except TypeError as error:
-        raise NotAPicture(error) from None
+        words = str(error) if not has_truths(flat) else (
+            "True and False are no samples: write [[255 * value for value in row] for row in rows] "
+            "for a mask of 0 and 255")
+        raise NotAPicture(words) from None
     except ValueError as error:
         at = first_outside(flat, fmt)
         raise WrongPicture(f"{error}; it is in row {at // width}, column {at % width}") from None
@@ -338,14 +341,19 @@ def of_two_sides(pixels: Any) -> Any:
     return pixels
 
 
-def _rows_in(value: Any) -> Sequence[Sequence[int]]:
-    """Returns the rows of numbers in a value. Raises BadPicture if it has none."""
+def rows_in(value: Any) -> Sequence[Sequence[int]]:
+    """Returns the rows in a value, whatever is in them. Raises BadPicture unless they have the same
+    length, and at least one sample."""
     refuse_none_and_paths(value)
     try:
-        return [list(row) for row in value]
-    except TypeError:
+        rows = [list(row) for row in value]
+    except NO_SEQUENCE:
         raise NotAPicture("a picture must be an array, a buffer or rows of numbers, not "
                           f"{type(value).__name__}") from None
+    if not rows or not rows[0] or any(len(row) != len(rows[0]) for row in rows):
+        raise WrongPicture("a picture must have rows of the same length, and at least one "
+                           f"sample, not {lengths_in_words(rows)}")
+    return rows
 
 
 # The least and the greatest sample of each format.
@@ -358,9 +366,18 @@ def first_outside(numbers: Sequence[int], fmt: Format) -> int:
     return next(at for at, number in enumerate(numbers) if not least <= number <= greatest)
 
 
+def has_truths(values: Sequence[Any]) -> bool:
+    """Returns whether one of the values is True or False, also of NumPy's type."""
+    # NumPy 2 names its type as Python does.
+    return any(kind.__name__ in ("bool", "bool_") for kind in set(map(type, values)))
+
+
 def packed(numbers: Sequence[int], fmt: Format, what: str) -> Any:
     """Returns the numbers as an array.array of a format's samples. Raises ValueError or TypeError
     for the first number that isn't one; `what` is the message's word for a number."""
+    if has_truths(numbers):
+        raise TypeError(f"{what} of {fmt} must be a whole number, and one is True or False: write "
+                        "1 or 0, or 255")
     try:
         if sys.version_info < (3, 10):
             # Python 3.9 would round numbers such as Decimal("2.5").
@@ -401,17 +418,18 @@ def _reordered(content: memoryview, fmt: Format) -> memoryview:
     return _ordered(numbers)
 
 
-def picture_of(reply: memoryview) -> Picture:
+def picture_of(reply: memoryview, native: Optional[List[Any]] = None) -> Picture:
     """Returns the samples in a reply to ReadImage. They are in a buffer of their own, which the
-    caller may write to."""
+    caller may write to. With the same list `native` it may be called again after an
+    interruption."""
     fmt, width, height = wire.size_of(reply)
-    return _array_of(reply[13:], Format(fmt), (height, width))
+    return _array_of(reply[13:], Format(fmt), (height, width), [] if native is None else native)
 
 
 def picture_from(samples: Samples) -> Picture:
     """Returns a copy of samples as an array, in this machine's byte order."""
     return _array_of(memoryview(bytearray(samples.content)), samples.fmt,
-                     (samples.height, samples.width))
+                     (samples.height, samples.width), [])
 
 
 def place_in(out: Any, described: Size) -> Optional[memoryview]:
@@ -420,7 +438,7 @@ def place_in(out: Any, described: Size) -> Optional[memoryview]:
     to."""
     fmt, width, height = described
     numpy = needed_numpy("an array to read into")
-    if not isinstance(out, numpy.ndarray):
+    if not isinstance(out, numpy.ndarray) or isinstance(out, numpy.ma.MaskedArray):
         raise NotAPicture(f"a picture is read into a NumPy array, not {type(out).__name__}")
     if out.dtype != dtype_of(fmt) or out.shape != (height, width) or not out.flags.writeable:
         kind = "" if out.flags.writeable else ", which can't be written to"
@@ -438,7 +456,10 @@ def turned(pixels: Picture) -> Picture:
     return pixels
 
 
-def _array_of(content: memoryview, fmt: Format, shape: Tuple[int, int]) -> Picture:
+def _array_of(content: memoryview, fmt: Format, shape: Tuple[int, int],
+              native: List[Any]) -> Picture:
+    """Returns the array of samples that frames have, converted in place. The list `native` gets
+    the converted array, which a later call returns."""
     there = numpy_module()
     if there is None:
         view: Any = _reordered(content, fmt).cast(LETTERS[fmt], shape)
@@ -446,8 +467,11 @@ def _array_of(content: memoryview, fmt: Format, shape: Tuple[int, int]) -> Pictu
     if fmt == Format.U8:
         bytewise: Picture = there.ndarray(shape, there.uint8, content)
         return bytewise
-    pixels = there.ndarray(shape, f">u{fmt.sample_bytes}" if fmt != Format.S16 else ">i2", content)
-    if IS_SWAPPED:
-        pixels.byteswap(inplace=True)
-    native: Picture = pixels.view(pixels.dtype.newbyteorder("="))
-    return native
+    if not native:
+        kind = f">u{fmt.sample_bytes}" if fmt != Format.S16 else ">i2"
+        pixels = (there.ndarray(shape, kind, content),)
+        # In C alone: no interruption comes between, so the bytes aren't swapped a second time.
+        native.extend(map(there.ndarray.byteswap, pixels, (True,)) if IS_SWAPPED else pixels)
+    swapped = native[0]
+    picture: Picture = swapped.view(swapped.dtype.newbyteorder("="))
+    return picture

@@ -270,10 +270,11 @@ def core_for(program: Union[Path, Sequence[str], None], process: Optional[bool],
              timeout: Optional[float]) -> Optional[str]:
     """Returns the path of the library if the server is to be in this process; None for a process of
     its own."""
-    if program is not None and process is False:
+    is_here = process is not None and not process
+    if program is not None and is_here:
         raise ValueError("a program can't run in this process: leave out the program, or "
                          "process=False")
-    if timeout is not None and process is False:
+    if timeout is not None and is_here:
         raise ValueError(f"timeout={timeout!r} can't be kept by a server in this process, where no "
                          "call can be given up: leave out the timeout, or process=False")
     asks = program is not None or timeout is not None or bool(os.environ.get(VARIABLE))

@@ -12,6 +12,7 @@ import struct
 import threading
 import time
 from collections import deque
+from contextlib import suppress
 from types import TracebackType
 from typing import Any, Deque, Dict, Optional, Set, Tuple, Type, Union
 
@@ -59,7 +60,7 @@ class SocketServer(Server):
         self._next: Optional[socket.socket] = None
         with OPENING:
             HELD.add(self)
-        self._next = self._connect()
+        self._next = self._connect(time.monotonic() + self._retry)
 
     @property
     def closed(self) -> bool:
@@ -72,29 +73,45 @@ class SocketServer(Server):
         until = time.monotonic() + self._retry
         while True:
             try:
-                return self._new_context()
+                return self._new_context(until)
             except BrokerFull:
                 if time.monotonic() >= until:
                     raise
             time.sleep(RETRY_PAUSE)
 
-    def _new_context(self) -> Context:
+    def _new_context(self, until: float) -> Context:
         if self._ended_by is not None:
             raise Closed(f"open a context: {self._ended_by}")
         self._close_left()
         self._release_dead()
         with self._lock:
             waiting, self._next = self._next, None
-        stream = waiting or self._connect()
+        if waiting is None:
+            return self._context_on(self._connect(until))
+        try:
+            return self._context_on(waiting)
+        except ServerEnded as ended:
+            # It may have been idle for too long.
+            try:
+                stream = self._connect(until)
+            except OSError:
+                raise ended from None
+        return self._context_on(stream)
+
+    def _context_on(self, stream: socket.socket) -> Context:
+        """Opens a context on a connection."""
         connection = Connection(stream.fileno(), stream.fileno(), socket_ended,
                                 lambda: shut(stream), self._timeout)
+        number = stream.fileno()
+        # Noted first: close() in another thread must not close a descriptor that this one uses.
+        self._connected[number] = connection, stream
         try:
             context = Context(self, connection, 0)
         except BaseException:
+            self._disconnect(number)
             self._drop(stream)
             raise
-        self._connected[stream.fileno()] = connection, stream
-        self._watch(context, stream.fileno())
+        self._watch(context, number)
         return context
 
     def _release_dead(self) -> None:
@@ -124,11 +141,15 @@ class SocketServer(Server):
     def close(self) -> None:
         """Closes all connections. The server then releases their contexts."""
         self._ended_by = self._ended_by or "the connection to the server was closed"
+        # The calls of other threads end now.
+        for stream in list(self._streams):
+            shut(stream)
         for number in list(self._connected):
             self._disconnect(number)
-        if self._next is not None:
-            self._drop(self._next)
-            self._next = None
+        self._next = None
+        # Also those whose context was interrupted before it was there.
+        for stream in list(self._streams):
+            self._drop(stream)
 
     def _lose(self) -> None:
         """Closes the sockets in the child of a fork; the connections belong to the parent."""
@@ -145,8 +166,9 @@ class SocketServer(Server):
     def __repr__(self) -> str:
         return f"<server at {self._path}{', closed' if self.closed else ''}>"
 
-    def _connect(self) -> socket.socket:
-        until = time.monotonic() + self._retry
+    def _connect(self, until: float) -> socket.socket:
+        """Returns a connection to the socket at the path. Tries until this time if nobody listens
+        there."""
         while True:
             try:
                 return self._reached()
@@ -162,9 +184,7 @@ class SocketServer(Server):
             stream = socket.socket(socket.AF_UNIX, socket.SOCK_STREAM)
             self._streams.add(stream)
         try:
-            if self._timeout is not None:
-                limit_connecting(stream, self._timeout)
-            stream.connect(self._path)
+            reach(stream, self._path, self._timeout)
             self._look_who_listens(stream)
         except BaseException as error:
             self._drop(stream)
@@ -172,7 +192,7 @@ class SocketServer(Server):
                 raise TimedOut(f"connect to {self._path}: not accepted in {self._timeout:g} "
                                "seconds: give a longer timeout, or see why the broker is "
                                "busy") from None
-            if isinstance(error, ConnectionRefusedError) and not is_socket(self._path):
+            if isinstance(error, ConnectionRefusedError) and is_other_file(self._path):
                 raise OSError(errno.ENOTSOCK, "this isn't a socket: give the path of a door's or a "
                                               "broker's --socket", self._path) from None
             if isinstance(error, (FileNotFoundError, ConnectionRefusedError)):
@@ -224,17 +244,38 @@ def user_number(user: Union[int, str]) -> int:
                          f"machine, not {user!r}") from None
 
 
-def is_socket(path: str) -> bool:
+def is_other_file(path: str) -> bool:
+    """Returns whether a file that isn't a socket is at this path. A door or a broker that is
+    starting removes an old socket."""
     try:
-        return stat.S_ISSOCK(os.stat(path).st_mode)
-    except OSError:
+        return not stat.S_ISSOCK(os.stat(path).st_mode)
+    except (OSError, ValueError):
+        # The path of an abstract socket is no path of a file.
         return False
 
 
-def limit_connecting(stream: socket.socket, seconds: float) -> None:
-    """Limits the time for connect(). settimeout() would make it fail immediately if many others
-    wait."""
-    whole, part = divmod(seconds, 1)
+def reach(stream: socket.socket, path: str, seconds: Optional[float]) -> None:
+    """Connects a Unix socket. Raises BlockingIOError if that takes longer than these seconds."""
+    until = None if seconds is None else time.monotonic() + seconds
+    is_connected = False
+    while not is_connected:
+        limit_connecting(stream, until)
+        stream.connect(path)
+        # If a signal's handler has interrupted it, Python takes the socket for connected, and it
+        # isn't.
+        with suppress(OSError):
+            stream.getpeername()
+            is_connected = True
+
+
+def limit_connecting(stream: socket.socket, until: Optional[float]) -> None:
+    """Limits the time for connect(), or lets it wait for ever. settimeout() would make it fail
+    immediately if many others wait, and so would socket.setdefaulttimeout()."""
+    stream.setblocking(True)
+    if until is None:
+        return
+    # A limit of 0 would be none.
+    whole, part = divmod(max(0.001, until - time.monotonic()), 1)
     stream.setsockopt(socket.SOL_SOCKET, socket.SO_SNDTIMEO,
                       struct.pack("@ll", int(whole), int(part * 1e6)))
 
@@ -251,8 +292,7 @@ def status(path: Path, *, timeout: float = 10.0) -> Dict[str, Any]:
     path, until = os.fspath(path), time.monotonic() + seconds
     with socket.socket(socket.AF_UNIX, socket.SOCK_STREAM) as stream:
         try:
-            limit_connecting(stream, timeout)
-            stream.connect(path)
+            reach(stream, path, seconds)
             stream.shutdown(socket.SHUT_WR)
             said = state_of(stream, until)
         except BlockingIOError:
@@ -305,5 +345,7 @@ def socket_ended(is_within_frame: bool) -> ServerEnded:
     """Returns why a connection ended, as far as this end knows. A broker knows more, for example
     that a connection was idle for too long, and logs it."""
     where = " in the middle of a reply" if is_within_frame else ""
-    return ServerEnded(f"the server closed the connection{where}; a broker's or a door's "
-                       "standard error says why")
+    words = (f"the server closed the connection{where}; a broker's or a door's standard error says "
+             "why")
+    LOG.warning("%s", words)
+    return ServerEnded(words)

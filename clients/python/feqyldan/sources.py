@@ -18,7 +18,7 @@ from typing import (
 
 from .errors import Closed, WrongPicture
 from .forks import FORKED, HELD, Forked
-from .samples import is_array
+from .samples import array_from, is_array
 
 if TYPE_CHECKING:
     from .context import Context
@@ -83,7 +83,8 @@ class Listed(Source):
         return self._frames[self._at - 1]
 
     def close(self) -> None:
-        self._at = len(self._frames)
+        # The sequence may become longer.
+        self._frames, self._at = (), 0
 
 
 class Taker(threading.Thread):
@@ -184,6 +185,8 @@ class Taking(Forked):
         self.wanted.put(None)
         self.is_closed = self.is_over = False
         self.reader, self.writer = socket.socketpair()
+        # Whatever socket.setdefaulttimeout() says: a frame is ready before its byte has come.
+        self.reader.setblocking(True)
         HELD.add(self)
 
     def start_for(self, owner: Threaded, frames: Iterator[Any]) -> None:
@@ -278,6 +281,9 @@ class Threaded(Source):
 
 
 def source_of(frames: Iterable[Any], contexts: Sequence[Context]) -> Source:
+    if hasattr(frames, "iloc") and is_array(frames):
+        # A series of pandas is indexed by its labels, in whatever order they are.
+        frames = array_from(frames)
     if isinstance(frames, (list, tuple)) or is_array(frames):
         return Listed(frames)  # type: ignore[arg-type]
     return Threaded(frames, contexts)

@@ -74,9 +74,9 @@ def write_bytes(path: Path, parts: Sequence[Any]) -> None:
     # A symbolic link stays, and its target is replaced.
     target = os.path.realpath(name)
     try:
-        if os.path.exists(target) and not os.path.isfile(target):
-            # A device or a pipe can't be replaced.
-            with open(target, "wb") as file:
+        if os.path.exists(name) and not os.path.isfile(name):
+            # A device or a pipe can't be replaced. A pipe at /dev/stdout has no other name.
+            with open(name, "wb") as file:
                 file.writelines(parts)
             return
         _replace(target, parts)

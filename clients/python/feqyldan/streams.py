@@ -18,6 +18,7 @@ from .objects import Distribution, MinMax, Named
 from .pipeline import Pipeline, Result
 from .samples import Samples, is_array, samples_of
 from .sources import source_of
+from .verdicts import ADDING
 from .whole import NO_SEQUENCE, whole
 
 if TYPE_CHECKING:
@@ -119,7 +120,9 @@ def _wait(sent: Sequence[Sent], wake: Optional[int]) -> None:
     if sent:
         sent[0].results[-1]._wait(wake)
     elif wake is not None:
-        select.select([wake], [], [])
+        poll = select.poll()
+        poll.register(wake, select.POLLIN)
+        poll.poll()
 
 
 class FramePipeline(Pipeline):
@@ -304,8 +307,8 @@ def look_at_output(thing: Any) -> None:
 
 
 def look_at_nodes(graph: Graph, camera: AnyImage, out: Sequence[Any]) -> None:
-    """Raises ValueError if no node reads the camera, if an output is used by no node, or if no node
-    writes an output: results would have no meaning."""
+    """Raises ValueError if no node reads the camera, if a node overwrites it, if an output is used
+    by no node, or if no node writes an output: results would have no meaning."""
     if graph.closed and not graph.context.closed:
         raise InvalidReference("run the stream", None, "Close it after the stream.", "",
                                f"It uses {graph}.")
@@ -313,6 +316,10 @@ def look_at_nodes(graph: Graph, camera: AnyImage, out: Sequence[Any]) -> None:
     if name_of(camera) not in read:
         raise ValueError(f"the frames of a stream go to {camera}, which no node of {graph} reads: "
                          "are camera and out in the order of stream(frames, camera, out)?")
+    for member in graph._members:
+        if member.function not in ADDING and member.writes(camera._reference):
+            raise ValueError(f"the frames of a stream go to {camera}, and {member}, writes over "
+                             "them: give the stream an image that no node writes")
     unused = [thing for thing in out if name_of(thing) not in read | written]
     if unused or not any(name_of(thing) in written for thing in out):
         raise ValueError(f"a stream reads {(unused or out)[0]}, which no node of {graph} writes: "

@@ -34,13 +34,18 @@ class Used:
         self._released: Set[int] = set()
         # When there are more released objects, those that no graph uses are dropped.
         self._most_released = SPARE
-        self.graphs: weakref.WeakSet[Graph] = weakref.WeakSet()
+        self._graphs: Set[weakref.ref[Graph]] = set()
 
     def add(self, name: int, size: int) -> None:
         self._sizes[name] = size
         if len(self._released) > self._most_released:
             self._drop()
             self._most_released = SPARE + 2 * len(self._released)
+
+    def add_graph(self, graph: Graph) -> None:
+        """Adds a graph that may use objects, until Python frees it."""
+        # The callback is in C, so no interruption is lost in it.
+        self._graphs.add(weakref.ref(graph, self._graphs.discard))
 
     def release(self, name: int) -> None:
         self._released.add(name)
@@ -60,7 +65,10 @@ class Used:
 
     def _drop(self) -> None:
         """Drops the released objects that no graph uses."""
-        in_graphs = {name for graph in self.graphs if not graph.closed for name in graph._uses}
+        # Each list is made in one step: a signal's handler may add a graph or a node meanwhile.
+        graphs = [reference() for reference in list(self._graphs)]
+        in_graphs = {name for graph in graphs if graph is not None and not graph.closed
+                     for name in list(graph._uses)}
         for name in self._released - in_graphs:
             self._sizes.pop(name, None)
         self._released &= in_graphs

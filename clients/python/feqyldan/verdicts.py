@@ -124,6 +124,10 @@ class Member(NamedTuple):
         """The inputs and outputs, each with its parameter."""
         return list(zip(self.parameters, (*self.inputs, *self.outputs)))
 
+    def writes(self, reference: bytes) -> bool:
+        """Returns whether the node writes the object of a reference."""
+        return any(cell.reference == reference for cell in self.outputs)
+
     def __str__(self) -> str:
         return f"node {self.number}, {self.words}"
 

@@ -30,10 +30,11 @@ class Watch(Mapping[Any, Written]):
         self._written = written
 
     def __getitem__(self, operand: Any) -> Written:
-        reference = getattr(operand, "_reference", None)
-        if reference not in self._written:
+        written = self._written.get(getattr(operand, "_reference", b""))
+        # Each context has objects of the same names.
+        if written is None or written.operand.context is not operand.context:
             raise KeyError(f"no node of the graph wrote {operand}")
-        return self._written[reference]
+        return written
 
     def __iter__(self) -> Iterator[Any]:
         return (one.operand for one in self._written.values())
@@ -44,6 +45,7 @@ class Watch(Mapping[Any, Written]):
 
 def watch(graph: Graph) -> Watch:
     """Runs each node in immediate mode, on doubles of all objects that nodes write."""
+    graph.context._look_at_pipeline(f"watch {graph}")
     graph.verify(warn=False)
     context, doubles = graph.context, Doubles(graph)
     with context.pipeline() as ahead:

@@ -3,6 +3,7 @@
 import array
 import copy
 import ctypes
+import mmap
 import pickle
 import sys
 import threading
@@ -46,6 +47,15 @@ class TestArrays(ProgramTest):
                     self.assertEqual(image.query().width, width)
                     self.assertTrue((image.read() == pixels).all())
 
+    def test_an_array_that_was_read_into_is_the_callers_alone(self):
+        """Nothing keeps its memory, which the caller may want to close."""
+        for side in (3, 300):
+            image = self.context.image_from(numpy.full((side, side), 7, numpy.uint8))
+            memory = mmap.mmap(-1, side * side)
+            image.read(out=numpy.frombuffer(memory, numpy.uint8).reshape(side, side))
+            self.assertEqual(memory[-1], 7)
+            memory.close()
+
     def test_read_into_an_array_in_a_pipeline(self):
         image, out = self.context.image_from([[1, 2], [3, 4]]), numpy.zeros((2, 2), "uint8")
         with self.context.pipeline() as ahead:
@@ -58,7 +68,7 @@ class TestArrays(ProgramTest):
         image, fixed = self.context.image_from([[1, 2]]), numpy.zeros((1, 2), "uint8")
         fixed.flags.writeable = False
         for out in (numpy.zeros((2, 1), "uint8"), numpy.zeros((1, 2), "int16"), fixed,
-                    bytearray(2)):
+                    numpy.ma.masked_equal(numpy.zeros((1, 2), "uint8"), 0), bytearray(2)):
             with self.assertRaisesRegex(vx.BadPicture, "read into a NumPy array"):
                 image.read(out)
         self.assertEqual(image.read().tolist(), [[1, 2]])
@@ -116,6 +126,24 @@ class TestArrays(ProgramTest):
                                                     "copy them to a NumPy array"):
             self.context.image_from(Remote(numpy.zeros((1, 1), numpy.uint8)))
 
+    def test_arrays_that_refuse(self):
+        """As tensors do on a graphics card, or if they record their gradient. An error of a file
+        that an array reads isn't one of its type."""
+        class Tensor:
+            def __init__(self, error):
+                self.error = error
+
+            def __array__(self, dtype=None, copy=None):
+                raise self.error
+
+        for error in TypeError("use Tensor.cpu"), RuntimeError("use Tensor.detach"):
+            with self.assertRaisesRegex(vx.NotAPicture, f"of this Tensor: {error}; copy them"):
+                self.context.image_from(Tensor(error))
+        for error in OSError("read"), vx.ServerEnded("it has ended"):
+            with self.assertRaises(type(error)) as caught:
+                self.context.image_from(Tensor(error))
+            self.assertIs(caught.exception, error)
+
     def test_one_image_into_another(self):
         image, other = self.context.image_from([[1, 2]]), self.context.image(U8, 2, 1)
         other.write(image)
@@ -139,7 +167,33 @@ class TestBuffers(ProgramTest):
         for rows in ([[True, False]], [[1, True]], [(0, False)]):
             with self.assertRaisesRegex(vx.NotAPicture, "True and False are no samples"):
                 image.write(rows)
+        self.assertRaisesRegex(vx.NotAPicture, "True and False are no samples", image.fill, True)
         self.holds(image, [[0, 0]])
+        for entries in ([True] * 256, [0] * 255 + [False]):
+            with self.assertRaisesRegex(TypeError, "an entry of U8 .* one is True or False"):
+                self.context.lut(U8, entries)
+
+    @needs_numpy
+    def test_true_and_false_of_numpy(self):
+        mask = numpy.array([[True, False]])
+        with self.assertRaisesRegex(vx.NotAPicture, "True and False are no samples"):
+            self.context.image_from(list(mask))
+        with self.assertRaisesRegex(TypeError, "one is True or False"):
+            self.context.lut(U8, numpy.arange(256) > 99)
+        with self.assertRaisesRegex(vx.BadPicture, "some of these samples are masked"):
+            self.context.lut(U8, numpy.ma.masked_equal(numpy.arange(256, dtype="uint8"), 7))
+
+    def test_a_list_of_rows_in_memory(self):
+        """Two pictures, for example, as read() returns them without NumPy."""
+        picture = memoryview(bytes(4)).cast("B", [2, 2])
+        with self.assertRaisesRegex(vx.NotAPicture, "rows of numbers, not list"):
+            self.context.image_from([picture, picture])
+
+    def test_entries_of_odd_memory(self):
+        for wrong in (memoryview(bytes(256)).cast("B", [4, 8, 8]), memoryview(ctypes.c_int16(7)),
+                      (ctypes.c_int16 * 256)()):
+            with self.assertRaisesRegex(TypeError, "must be whole numbers in a row"):
+                self.context.lut(U8, memoryview(wrong))
 
 
 class TestWithoutNumpy(ProgramTest):

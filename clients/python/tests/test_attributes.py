@@ -1,7 +1,10 @@
 """The attributes of objects: those that can be read, names, values, usage."""
 
+import contextlib
 import gc
 import inspect
+import signal
+import time
 import unittest
 
 from program import ProgramTest, vx
@@ -86,6 +89,10 @@ class TestAttributes(ProgramTest):
         for thing in things:
             self.assertEqual(thing.label, "n")
             self.assertIn(' "n"', str(thing))
+        for wrong in (3, b"n", ["n"]):
+            with self.assertRaisesRegex(TypeError, "the name of an object must be text, not "):
+                self.context.image(vx.U8, 6, 4, name=wrong)
+        self.assertEqual(self.context.usage().objects, 3 + len(things))
         graph.not_(moved, camera)
         moved_words, camera_words = r'virtual image 3 "moved" \(open\)', r'image 1 "camera" \(U8'
         with self.assertRaisesRegex(vx.InvalidLink,
@@ -111,6 +118,34 @@ class TestUsage(ProgramTest):
         self.assertEqual(self.context.usage(), (2, 1024, 300, 1000))
         graph.close()
         self.assertEqual(self.context.usage(), (0, 1024, 0, 1000))
+
+    def test_a_context_that_was_closed(self):
+        """Another context may have its number, and objects of the same names."""
+        image = self.context.image(vx.U8, 2, 1)
+        self.context.close()
+        with self.server.context() as other:
+            kept = other.image_from([[1, 2]])
+            self.assertEqual((other._number, kept.name), (self.context._number, image.name))
+            del image
+            gc.collect()
+            self.context.usage()
+            self.holds(kept, [[1, 2]])
+
+    def test_a_graph_that_is_made_meanwhile(self):
+        """By a signal's handler, while usage() looks through the graphs."""
+        kept = [self.context.graph() for _ in range(200)]
+
+        def handler(*_):
+            with contextlib.suppress(vx.NestedCall):
+                kept.append(self.context.graph())
+            del kept[300:]
+
+        self.addCleanup(signal.signal, signal.SIGALRM, signal.signal(signal.SIGALRM, handler))
+        signal.setitimer(signal.ITIMER_REAL, 0.001, 0.001)
+        self.addCleanup(signal.setitimer, signal.ITIMER_REAL, 0)
+        end = time.monotonic() + 1
+        while time.monotonic() < end:
+            self.context.usage()
 
     def test_what_is_gone_is_forgotten(self):
         """Usage stays small, however many objects come and go."""

@@ -8,9 +8,10 @@ import signal
 import tempfile
 import time
 import unittest
+from unittest import mock
 
 from program import CORE, SERVED, needs_program, of_a_process, vx
-from feqyldan.dask import SERVERS, Job, map_pictures, shape_of
+from feqyldan.dask import SERVERS, Job, map_pictures, server_of, shape_of, worker_server_of
 
 try:
     import distributed
@@ -71,10 +72,27 @@ def comparing(context, width, height):
 
 def looping(context, width, height):
     """Returns a graph that can't run."""
-    image = context.image(vx.U8, width, height)
+    graph, source, target = inverse(context, width, height)
+    round_about = graph.virtual_image()
+    graph.min(source, round_about, round_about)
+    return graph, source, target
+
+
+def overwriting(context, width, height):
+    """Returns a graph that writes its input before it reads it."""
+    images = [context.image(vx.U8, width, height) for _ in range(3)]
     graph = context.graph()
-    graph.not_(image, image)
-    return graph, image, image
+    graph.not_(images[0], images[1])
+    graph.not_(images[1], images[2])
+    return graph, images[1], images[2]
+
+
+def doubling(context, width, height):
+    """Returns a graph of S16 that doubles the samples."""
+    image, doubled = (context.image(vx.S16, width, height) for _ in range(2))
+    graph = context.graph()
+    graph.add(image, image, vx.SATURATE, doubled)
+    return graph, image, doubled
 
 
 def picture(number, width=WIDTH):
@@ -128,6 +146,8 @@ class TestMistakes(unittest.TestCase):
     def test_what_is_no_graph_and_no_pictures(self):
         with self.assertRaisesRegex(TypeError, "a function of a context"):
             map_pictures(NoClient(), None, [picture(1)], program="vx_main")
+        with self.assertRaisesRegex(TypeError, r"one array of shape \(2, 2\): pass \[picture\]"):
+            map_pictures(NoClient(), inverse, memoryview(bytes(4)).cast("B", (2, 2)))
         try:
             import numpy
         except ImportError:
@@ -137,6 +157,31 @@ class TestMistakes(unittest.TestCase):
         with self.assertRaisesRegex(vx.BadPicture, r"\(2, 4, 3\): make a grey one of it"):
             shape_of(numpy.zeros((2, 4, 3), numpy.uint8))
         self.assertEqual(shape_of(numpy.zeros((2, 4, 1), numpy.uint8)), (2, 4))
+
+        class Tensor:
+            """An array that NumPy knows by DLPack alone."""
+
+            def __dlpack__(self, stream=None):
+                return numpy.zeros((2, 4), numpy.uint8).__dlpack__(stream=stream)
+
+            def __dlpack_device__(self):
+                return numpy.zeros((2, 4), numpy.uint8).__dlpack_device__()
+
+        self.assertEqual(shape_of(Tensor()), (2, 4))
+
+    def test_an_iterator_without_a_shape(self):
+        """PIL's images are arrays for NumPy, and don't say how many dimensions they have."""
+        class Picture:
+            __array_interface__ = {}
+
+        with self.assertRaisesRegex(TypeError, "'Picture' object is not iterable"):
+            map_pictures(NoClient(), inverse, Picture())
+
+    def test_a_program_that_a_worker_lacks(self):
+        with mock.patch("feqyldan.dask.Server", side_effect=vx.ProgramNotFound("no program")):
+            with self.assertRaisesRegex(vx.ProgramNotFound,
+                                        "^on the worker's machine .+: no program$"):
+                server_of(Job("one", inverse, None, None, None))
 
 
 def send_output(job, pipe):
@@ -151,6 +196,44 @@ class TestGraphsThatKeepSomething(unittest.TestCase):
             job = Job("one", build, SERVED, None, None)
             with self.assertRaisesRegex(ValueError, f"keeps {kept}.* by graph.stream"):
                 job.run(picture(1))
+
+
+@needs_program
+class TestLines(unittest.TestCase):
+    """The graphs that a job's function builds on a worker."""
+
+    def setUp(self):
+        self.addCleanup(lambda: SERVERS.pop((SERVED, None, None)).server.close())
+
+    def job(self, build):
+        return Job("one", build, SERVED, None, None)
+
+    def test_a_function_that_keeps_its_objects(self):
+        """Two threads would write their pictures to one image. Each context has objects of the same
+        names."""
+        for at in range(3):
+            kept = []
+
+            def build(*given):
+                built = inverse(*given)
+                kept.append(built[at])
+                return (*built[:at], kept[0], *built[at + 1 :])
+
+            job = self.job(build)
+            line = worker_server_of(job).take(("one", WIDTH, HEIGHT), build)
+            with self.assertRaisesRegex(vx.InvalidScope, "belongs to another context"):
+                job.run(picture(1))
+            self.assertEqual(rows_of(line.run(picture(1))), inverted(picture(1)))
+
+    def test_an_input_that_the_graph_overwrites(self):
+        """The output would be the same for every picture."""
+        with self.assertRaisesRegex(ValueError, "and node 1, .*, writes over them"):
+            self.job(overwriting).run(picture(1))
+
+    def test_rows_of_wide_samples(self):
+        self.assertEqual(rows_of(self.job(doubling).run([[300, -4]])), [[600, -8]])
+        with self.assertRaisesRegex(vx.WrongPicture, "S16 must be .* not 40000"):
+            self.job(doubling).run([[40000, 1]])
 
 
 @needs_program

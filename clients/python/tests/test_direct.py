@@ -89,11 +89,13 @@ class TestChoice(unittest.TestCase):
         with self.assertRaisesRegex(vx.ProgramNotFound, "FEQYLDAN_CORE isn't set, .* the system "
                                     "has none: libfeqyldan-none.so.0: "):
             vx.Server(process=False)
-        with self.assertRaisesRegex(ValueError, "a program can't run in this process"):
-            vx.Server("/usr/bin/vx_main", process=False)
         os.environ[core.VARIABLE] = PATH
-        with self.assertRaisesRegex(ValueError, "timeout=5 can't be kept.*process=False"):
-            vx.Server(process=False, timeout=5)
+        # 0 is as good as False.
+        for process in (False, 0):
+            with self.assertRaisesRegex(ValueError, "a program can't run in this process"):
+                vx.Server("/usr/bin/vx_main", process=process)
+            with self.assertRaisesRegex(ValueError, "timeout=5 can't be kept.*process=False"):
+                vx.Server(process=process, timeout=5)
         os.environ[core.VARIABLE] = "/no/such/library"
         with self.assertRaisesRegex(vx.ProgramNotFound, "FEQYLDAN_CORE is /no/such/library"):
             vx.Server()
@@ -443,6 +445,23 @@ class TestInterruptions(CoreTest):
             number += 1
         self.assertGreater(number, 50)
 
+    def test_a_stream_after_each_line(self):
+        """Its thread finds no lock that the interrupted call has left locked."""
+        def request(number):
+            return Request("image", 7, number), [wire.frame(7, number)]
+
+        number, is_interrupted = 1, True
+        while is_interrupted:
+            with contextlib.closing(opened()) as connection:
+                is_interrupted = Everywhere(number, ("direct.py", "connection.py")).interrupts(
+                    connection.ask, *request(wire.CREATE_GRAPH))
+                ahead, parts = request(wire.CREATE_MIN_MAX)
+                ahead.is_ahead = True
+                connection.send(ahead, parts)
+                self.assertTrue(connection.wait(ahead, 10), number)
+            number += 1
+        self.assertGreater(number, 15)
+
     def test_a_place_at_each_line(self):
         """After an interruption nothing more comes into the place, and the next reads are
         right."""
@@ -476,18 +495,29 @@ class TestInterruptions(CoreTest):
         return is_interrupted
 
     def test_a_call_ends_first(self):
-        """Ctrl-C interrupts when the server has answered, and the result is there."""
+        """Ctrl-C interrupts before the call or when the server has answered, and then the whole
+        result is there."""
         image = self.context.image(vx.U8, 4096, 4096)
+        image.fill(7)
         graph = self.context.graph()
         images = [image, *(graph.virtual_image() for _ in range(15)),
                   self.context.image_like(image)]
         for one, other in zip(images, images[1:]):
             graph.median3x3(one, other, border=vx.REPLICATE)
         graph.verify()
+        before, after_it = (bytes([shade]) * 4096 * 4096 for shade in (0, 7))
+        found = before
         with interrupting() as after:
-            after(0.001)
-            self.assertRaises(KeyboardInterrupt, graph.process)
-        self.assertEqual(images[-1].query().valid, (0, 0, 4096, 4096))
+            # It comes before the call where this process has to wait for a processor.
+            for _ in range(100):
+                with self.assertRaises(KeyboardInterrupt):
+                    after(0.001)
+                    graph.process()
+                    time.sleep(60)
+                found = images[-1].read_bytes()
+                if found != before:
+                    break
+        self.assertTrue(found == after_it)
 
     def test_the_start_of_the_thread(self):
         """A stream's first frame starts it. An interruption is KeyboardInterrupt at every line of
@@ -509,6 +539,35 @@ class TestInterruptions(CoreTest):
             number += 1
         self.assertGreater(number, 8)
 
+    def test_the_wait_of_a_stream_at_each_line(self):
+        """No interruption is lost, and what a wait opens is used by the next one."""
+        serve = DirectConnection._serve_in_thread
+
+        def serve_late(connection):
+            while not connection._bells and connection.fault is None:
+                time.sleep(0.0001)
+            serve(connection)
+
+        def wait(connection):
+            request = Request("image", 7, wire.CREATE_IMAGE)
+            request.is_ahead = True
+            connection.send(request, [wire.create_image(7, vx.U8, 1, 1)])
+            self.assertTrue(connection.wait(request, 30))
+            self.assertIsNone(request.error)
+
+        with contextlib.closing(opened()) as connection, \
+                mock.patch.object(DirectConnection, "_serve_in_thread", serve_late):
+            number = 1
+            while Everywhere(number, ("direct.py",), ("line", "return")).interrupts(
+                    wait, connection):
+                wait(connection)
+                number += 1
+            self.assertGreater(number, 30)
+            files = len(os.listdir("/proc/self/fd"))
+            for _ in range(100):
+                wait(connection)
+            self.assertLessEqual(len(os.listdir("/proc/self/fd")), files)
+
     def test_a_stream_at_random(self):
         loop = Loop(self.context, 300, 200, False)
         with interrupting() as after:
@@ -523,28 +582,61 @@ class TestInterruptions(CoreTest):
 
 
 class TestAddresses(unittest.TestCase):
-    def test_while_another_thread_imports_numpy(self):
-        """The address is asked for in the middle of the import, and waits for its end."""
+    def test_in_the_middle_of_an_import_of_numpy(self):
+        """By another thread, or by what a signal's handler has interrupted: memory is copied, and
+        what needs NumPy says why it isn't there."""
         script = """if True:
-            import os, sys, tempfile, threading
-            from feqyldan import core
-            core.asked = threading.Event()
+            import os, sys, tempfile
+            from feqyldan import core, pages, samples
             kept = tempfile.TemporaryDirectory()
-            folder = kept.name
-            with open(os.path.join(folder, "numpy.py"), "w") as file:
-                print("import time, types", "from feqyldan import core", "core.asked.wait(60)",
-                      "time.sleep(0.2)", "uint8 = None", "def frombuffer(memory, kind):",
-                      "    return types.SimpleNamespace(__array_interface__={'data': (7, True)})",
-                      sep=chr(10), file=file)
-            sys.path.insert(0, folder)
-            importing = threading.Thread(target=__import__, args=("numpy",))
-            importing.start()
-            while "numpy" not in sys.modules:
+            with open(os.path.join(kept.name, "numpy.py"), "w") as file:
+                print("from feqyldan import core, pages, samples",
+                      "print(core.argument_of(memoryview(bytes(4)))[0], pages.can_lend())",
+                      "try:", "    samples.numpy_module()", "except ImportError as error:",
+                      "    print(error)", sep=chr(10), file=file)
+            sys.path.insert(0, kept.name)
+            print(samples.numpy_module() is sys.modules["numpy"])"""
+        self.assertEqual(run(script), (0, (
+            "b'\\x00\\x00\\x00\\x00' False\nnumpy was being imported when this signal came: "
+            "import it before the signal's handler is set\nTrue\n")))
+
+
+# A handler of signals makes calls while a stream runs, in the stream's context or in another one.
+HANDLERS = """if True:
+    import faulthandler, random, signal, sys, time
+    import feqyldan as vx
+    faulthandler.dump_traceback_later(110, exit=True)
+    random.seed(1)
+    with vx.Server(process=False) as server, server.context() as context, server.context() as two:
+        camera, out = (context.image(vx.U8, 64, 48) for _ in range(2))
+        mine, graph = two.image(vx.U8, 8, 8), context.graph()
+        graph.not_(camera, out)
+        def handler(*_):
+            try:
+                CALL
+            except vx.NestedCall:
                 pass
-            core.asked.set()
-            print(core.argument_of(memoryview(bytes(4))))
-            importing.join()"""
-        self.assertEqual(run(script), (0, "(<cparam 'P' (0x7)>, <cparam 'L' (4)>)\n"))
+            signal.setitimer(signal.ITIMER_REAL, random.uniform(0.0001, 0.002))
+        signal.signal(signal.SIGALRM, handler)
+        signal.setitimer(signal.ITIMER_REAL, 0.002)
+        frames = [bytes([number]) * 64 * 48 for number in range(200)]
+        end = time.monotonic() + 3
+        while time.monotonic() < end:
+            for frame, marks in graph.stream(frames, camera, out):
+                assert bytes(marks)[0] == 255 - frame[0]
+                kept = context.image(vx.U8, 300, 300)
+        signal.setitimer(signal.ITIMER_REAL, 0)
+    print("done")"""
+
+
+@needs_core
+class TestHandlers(CoreTest):
+    def test_calls_while_a_stream_runs(self):
+        """They run or raise NestedCall. The stream's thread and a handler waited for each other's
+        lock."""
+        for call in ("context.image(vx.U8, 8, 8)", "mine.fill(3)"):
+            with self.subTest(call):
+                self.assertEqual(run(HANDLERS.replace("CALL", call)), (0, "done\n"))
 
 
 @needs_core

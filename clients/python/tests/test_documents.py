@@ -235,6 +235,8 @@ class TestRecipes(ProgramTest):
             self.assertGreaterEqual(int(differing.sum()), limit)
         self.assertEqual(int(differing.sum()), 0)
         self.assertRaises(cv2.error, self.names["aligned"], 0 * reference, reference)
+        # The light is off.
+        self.assertFalse(self.names["levelled"](0 * picture, white, 100.0).any())
 
     def test_the_examples_compare_as_the_recipe_does(self):
         """The function is the same, but for the names of types that Python 3.8 lacks."""
@@ -244,11 +246,11 @@ class TestRecipes(ProgramTest):
 
     @needs_numpy
     def test_a_camera_of_12_bits(self):
-        graph, camera = self.names["twelve_bits"](self.context, 3, 3)
+        graph, camera, smooth, extremes = self.names["twelve_bits"](self.context, 3, 3)
         camera.write(numpy.full((3, 3), 4095, numpy.int16))
         graph.process()
-        smooth, = (call.operands[2] for call in graph._calls.values() if call.name == "gaussian3x3")
         self.holds(smooth, [[255] * 3] * 3)
+        self.assertEqual(extremes.read()[:2], (4095, 4095))
 
     def test_a_part(self):
         camera = self.context.image(vx.U8, SIDE, SIDE)

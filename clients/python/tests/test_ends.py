@@ -108,6 +108,12 @@ class TestTasks(EndTest):
         """The call runs on in its thread, and can't use the context any more."""
         goes_on, seen = threading.Event(), []
 
+        def let_go(context):
+            if context.closed:
+                goes_on.set()
+            else:
+                asyncio.get_running_loop().call_later(0.01, let_go, context)
+
         def call(context):
             self.assertTrue(goes_on.wait(PATIENCE))
             try:
@@ -119,11 +125,20 @@ class TestTasks(EndTest):
             try:
                 await context.run(call, context)
             finally:
-                asyncio.get_running_loop().call_later(0.1, goes_on.set)
+                let_go(context)
 
         held = self.cancelled(wait)
         self.assertEqual(len(seen), 1)
         self.has_ended(held)
+
+    def test_the_end_of_an_iterator(self):
+        """A future can't hold StopIteration: this would wait forever."""
+        async def run(function, *arguments):
+            return await asyncio.wait_for(self.context.run(function, *arguments), PATIENCE)
+
+        with self.assertRaisesRegex(RuntimeError, "give next.. a default"):
+            asyncio.run(run(next, iter([])))
+        self.assertIsNone(asyncio.run(run(next, iter([]), None)))
 
     def test_an_async_generator(self):
         async def generator(held):

@@ -79,6 +79,15 @@ class TestFinding(unittest.TestCase):
                                         "FEQYLDAN_PROGRAM is .*/gone, and there is no such file"):
                 vx.Server()
 
+    def test_a_program_in_the_current_folder(self):
+        """Not the one of its name on PATH."""
+        self.put("bin", "mine")
+        mine = self.put("here", "mine")
+        self.addCleanup(os.chdir, os.getcwd())
+        os.chdir(os.path.dirname(mine))
+        with mock.patch.dict(os.environ, {program.VARIABLE: "mine"}):
+            self.assertEqual(program.find(), os.path.realpath(mine))
+
     @needs_program
     def test_a_server_of_it(self):
         with mock.patch.dict(os.environ, {program.VARIABLE: PROGRAM}):

@@ -7,6 +7,7 @@ import json
 import os
 import pickle
 import random
+import shutil
 import signal
 import subprocess
 import sys
@@ -15,6 +16,7 @@ import time
 import tracemalloc
 import unittest
 import xml.etree.ElementTree
+from functools import partial
 from unittest import mock
 
 from program import HERE, SERVED, VARIABLES, ProgramTest, needs_program, vx
@@ -110,6 +112,22 @@ class TestFiles(FolderTest, ProgramTest):
                                     r"inputs=\[camera\]"):
             graph.save(self.path("a.json"))
 
+    def test_names_that_differ_in_the_file(self):
+        """A name that is taken gets the object's number, and may be taken with that too."""
+        first, second, third = (self.context.image_from([[number]], name=name)
+                                for number, name in ((1, "a_3"), (2, "a"), (3, "a")))
+        delay = self.context.delay(first, 2, name="last\nframe")
+        outs = [self.context.image(vx.U8, 1, 1, name=f"out{number}") for number in range(3)]
+        graph = self.context.graph()
+        for image, out in zip((first, second, third), outs):
+            graph.max(image, delay[-1], out)
+        graph.save(self.path("a.json"), inputs=[first])
+        again = self.context.load_graph(self.path("a.json"))
+        again.inputs["a_3"].write([[7]])
+        again.graph.process()
+        self.assertEqual([again.outputs[f"out{number}"].read()[0, 0] for number in range(3)],
+                         [7, 2, 3])
+
     def test_what_is_no_input(self):
         camera, out, other = (self.context.image(vx.U8, 2, 1, name=name)
                               for name in ("camera", "out", "other"))
@@ -162,6 +180,41 @@ class TestFiles(FolderTest, ProgramTest):
             self.assertEqual(outputs["found"].read().min_count, 30)
         self.assertEqual(again.objects["window"].valid, (1, 2, 5, 6))
 
+    def test_sums_are_saved_as_before_the_first_run(self):
+        """A run leaves a smaller valid rectangle, which would tie the graph to a size, and leave
+        samples of later pictures out."""
+        camera, sums = self.context.image(vx.U8, 8, 6), self.context.image(vx.S16, 8, 6)
+        graph = self.context.graph()
+        graph.accumulate(camera, sums)
+        for given, kept in ((None, None), ((1, 0, 7, 6), [1, 0, 7, 6])):
+            if given:
+                sums.valid = given
+            for _ in range(2):
+                graph.save(self.path("a.json"), inputs=[camera])
+                with open(self.path("a.json")) as file:
+                    objects = json.load(file)["objects"]
+                self.assertEqual([thing.get("valid") for thing in objects.values()], [None, kept])
+                camera.fill(7)
+                camera.valid = (0, 0, 3, 3)
+                graph.process()
+            sums.fill(0)
+
+    def test_sums_that_were_reset_are_saved_as_wholly_valid(self):
+        """A run leaves a rectangle within the one that was set before the reset."""
+        camera, sums = self.context.image(vx.U8, 8, 6), self.context.image(vx.S16, 8, 6)
+        graph = self.context.graph()
+        graph.accumulate(camera, sums)
+        for reset in (lambda: sums.fill(0), lambda: sums.write([[0] * 8] * 6),
+                      lambda: sums.write_pgm(b"P2 8 6 300 " + b"0 " * 48)):
+            sums.valid = (1, 0, 7, 6)
+            reset()
+            camera.fill(7)
+            camera.valid = (2, 1, 4, 4)
+            graph.process()
+            graph.save(self.path("a.json"), inputs=[camera])
+            again = self.context.load_graph(self.path("a.json"))
+            self.assertEqual(again.objects[f"image_{sums.name}"].valid, (0, 0, 8, 6))
+
     def test_a_constant_image_has_one_number(self):
         """It comes back, and ties the graph to no size."""
         for fmt, value in ((vx.U8, 200), (vx.S16, -5)):
@@ -202,6 +255,22 @@ class TestFiles(FolderTest, ProgramTest):
         objects = self.context.load_graph(path).objects
         self.holds(objects["clean"], [[9, 8]])
         self.holds(objects["part"], [[0, 8]])
+
+    def test_what_an_object_says_about_its_picture(self):
+        """Fields beside "file" that aren't those of the picture were taken without a word."""
+        vx.write_pgm(self.path("clean.pgm"), [[9, 8]])
+        image = {"kind": "image", "file": "clean.pgm"}
+        for fields in ({"format": "U8"}, {"width": 2, "height": 1}):
+            path = self.put("a.json", {"feqyldan": 1, "nodes": [],
+                                       "objects": {"a": {**image, **fields}}})
+            self.holds(self.context.load_graph(path).objects["a"], [[9, 8]])
+        for fields in ({"format": "S16"}, {"width": 3}, {"height": 2}, {"width": 2.0}):
+            path = self.put("a.json", {"feqyldan": 1, "nodes": [],
+                                       "objects": {"a": {**image, **fields}}})
+            with self.subTest(fields), self.assertRaisesRegex(
+                    vx.GraphFileError, "its file has U8 samples of 2 by 1 pixels, and its format, "
+                                       "width or height says something else: leave them out"):
+                self.context.load_graph(path)
 
     def test_what_is_wrong_and_where(self):
         image = {"kind": "image", "format": "U8", "width": 2, "height": 1}
@@ -271,6 +340,38 @@ class TestFiles(FolderTest, ProgramTest):
                 ({"a": {**image, "width": True}}, [], "object \"a\": \"width\" can't be true"),
                 ({"a": {"kind": "convolution", "rows": [[1, 0, 1], [0, False, 0], [0, 0, 0]]}}, [],
                  "object \"a\": \"rows\" can't be false"),
+                ({"a": {"kind": "convolution", "rows": "smooth"}}, [],
+                 "object \"a\": 'rows' must be a list of lists"),
+                ({"a": {"kind": "convolution", "rows": {}}}, [],
+                 "object \"a\": 'rows' must be a list of lists"),
+                (both, [{"function": "not_", "input": 5, "output": "b"}],
+                 "node 1: an operand must be the name of an object, not 5"),
+                ({"a": {"kind": "lookup table", "format": "U32", "entries": [300] * 256}}, [],
+                 "object \"a\": create a U32 lookup table: INVALID_FORMAT"),
+                ({"a": {"kind": "threshold", "format": "U32", "above": 3}}, [],
+                 "object \"a\": create a U32 threshold above 3: INVALID_FORMAT"),
+                ({"a": {"kind": "threshold", "format": "U8", "above": 3, "true_value": None}}, [],
+                 "object \"a\": .* not None"),
+                ({"a": {"kind": "distribution", "bins": 3, "range": None}}, [],
+                 "object \"a\": .* not None"),
+                ({"a": {"kind": "convolution", "rows": [[1] * 3] * 3, "scale": None}}, [],
+                 "object \"a\": .* not None"),
+                ({"a": {"kind": "convolution", "rows": [[1, 2], [3, 4]]}}, [],
+                 "object \"a\": create a convolution of 2 by 2: INVALID_DIMENSION"),
+                ({"a": {"kind": "threshold", "format": "U8", "between": [9, 3]}}, [],
+                 "object \"a\": create a U8 threshold between 9 and 3: INVALID_VALUE"),
+                ({"a": {**image, "valid": [2, 0, 1, 1]}}, [], 'object "a": make .* the valid rect'),
+                ({"a": {**image, "samples": packed(b"12").replace("J", "\u00fc")}}, [],
+                 "object \"a\": its samples aren't compressed text"),
+                ({**both, "b": {**image, "format": "S16"}},
+                 [{"function": "sobel3x3", "input": "a", "output_x": None}],
+                 "node 1: "),
+                ({"old": {**image, "kind": "delay", "slots": 2}, "b": image},
+                 [{"function": "not_", "input": f"old[-{'9' * 5000}]", "output": "b"}],
+                 "node 1: it has a number of 5,000 digits, and no number has more than 18$"),
+                ({"a[-1]": image}, [], r"'a\[-1\]' is the name of a slot"),
+                ({"a\ud800": image}, [], r"the name 'a\\ud800' isn't text: give the object"),
+                ({"a\0": image}, [], r"the name 'a\\x00' isn't text: give the object"),
                 ({"": image}, [], "the name of an object can't be empty")):
             path = self.put("a.json", {"feqyldan": 1, "objects": objects, "nodes": nodes})
             with self.subTest(words), self.assertRaisesRegex(vx.GraphFileError,
@@ -282,9 +383,12 @@ class TestFiles(FolderTest, ProgramTest):
                 ('{"feqyldan": 1.0, "objects": {}, "nodes": []}', 'it lacks "feqyldan": 1; '),
                 ('{"feqyldan": 1, "objects": {}, "nodes": []} {}', "the file isn't JSON: "),
                 ('{"feqyldan": 1}', 'needs "objects"'), ("[" * 100_000, "nested too deeply"),
+                ('{"feqyldan": ' + "[" * 2000 + "]" * 2000 + "}", "nested too deeply"),
                 ('{"feqyldan": 1, "objects": {}, "nodes": [], "node": []}', "has no field 'node'"),
                 ('{"feqyldan": 1, "objects": {"a": {}, "a": {}}, "nodes": []}',
                  "the key 'a' twice"),
+                ('{"feqyldan": 1, "objects": {}, "nodes": [-' + "9" * 6000 + "]}",
+                 "it has a number of 6,000 digits, and no number has more than 18$"),
                 ({"feqyldan": 1, "objects": {}, "nodes": 257 * [{}]}, "at most 256 nodes"),
                 ({"feqyldan": 1, "objects": {str(k): {} for k in range(1025)}, "nodes": []},
                  "at most 1,024 objects, and this one has 1,025")):
@@ -293,6 +397,30 @@ class TestFiles(FolderTest, ProgramTest):
                 with self.subTest(words), self.assertRaisesRegex(vx.GraphFileError,
                                                                  f"{path}: .*{words}"):
                     load(path)
+
+    def test_the_encoding_of_a_file(self):
+        """UTF-8, with a mark at its beginning or without one."""
+        path, text = self.path("a.json"), '{"feqyldan": 1, "objects": {}, "nodes": []}'
+        for encoding in ("utf-8", "utf-8-sig", "utf-16", "utf-32"):
+            with open(path, "w", encoding=encoding) as file:
+                file.write(text)
+            if encoding.startswith("utf-8"):
+                self.context.load_graph(path)
+            else:
+                with self.assertRaisesRegex(vx.GraphFileError, "the file isn't JSON: "):
+                    self.context.load_graph(path)
+
+    def test_errors_that_are_not_about_the_file(self):
+        """A program that reaches a server again has to know that it has ended."""
+        path = self.put("a.json", {"feqyldan": 1, "nodes": [], "objects": {
+            "limit": {"kind": "threshold", "format": "U8", "above": 24}}})
+        for error in (vx.ServerEnded("the server ended", -9), vx.TimedOut("no answer"),
+                      vx.UnexpectedReply("another server"), vx.NestedCall("a handler's call")):
+            for read in (self.context.load_graph, self.context.graph_faults):
+                with mock.patch.object(vx.Context, "threshold", side_effect=error):
+                    with self.assertRaises(type(error)) as caught:
+                        read(path)
+                self.assertIs(caught.exception, error)
 
     def test_samples_that_unpack_to_more(self):
         """Only what the image takes is unpacked."""
@@ -331,6 +459,24 @@ class TestFiles(FolderTest, ProgramTest):
         self.assertEqual(vx.graph_text(contents), text)
         contents["objects"]["clean"] = {"kind": "image", "file": "clean.pgm"}
         self.assertEqual(json.loads(vx.graph_text(contents)), contents)
+
+    def test_a_text_that_would_be_refused(self):
+        """It isn't written."""
+        def lists(count):
+            found = []
+            for _ in range(count):
+                found = [found]
+            return found
+
+        for nodes, words in ((lists(100_000), "nested too deeply"), (lists(100), "too deeply"),
+                             ([10**18], "a number of 19 digits")):
+            with self.subTest(words), self.assertRaisesRegex(ValueError, words):
+                vx.graph_text({"feqyldan": 1, "objects": {}, "nodes": nodes})
+        out, graph = self.context.image(vx.U8, 1, 1, name="\ud800"), self.context.graph()
+        graph.not_(self.context.image(vx.U8, 1, 1), out)
+        with self.assertRaisesRegex(ValueError, "isn't text"):
+            graph.save(self.path("a.json"))
+        self.assertEqual(os.listdir(self.folder), [])
 
     def test_a_fault_as_data(self):
         image = {"kind": "image", "format": "U8", "width": 2, "height": 1}
@@ -429,6 +575,8 @@ class TestAllFaults(FolderTest, ProgramTest):
         found = self.faults(cycle)
         self.assertEqual([fault.code for fault in found], ["INVALID_GRAPH"] * 2 + [""])
         self.assertEqual(found[2].words, "it can't be an input: node 1, not_, writes it")
+        _, found = self.faults([{"function": "noth"}, cycle[0]])
+        self.assertEqual(found.words, "it can't be an input: node 2, not_, writes it")
 
     def test_no_graph_file(self):
         fault, = self.context.graph_faults(self.put("a.json", "{"))
@@ -640,7 +788,7 @@ class TestHelpers(FolderTest, ProgramTest):
             file.write(read_bytes(self.path("colours.png"))[:-30])
         for missing in ((), ("cv2",), ("PIL.Image",)):
             importer = importlib.import_module
-            with mock.patch.object(files.importlib, "import_module", lambda name: (
+            with mock.patch.object(importlib, "import_module", lambda name: (
                     importer(name if name not in missing else "no_such_module"))):
                 grey = self.context.load(self.path("colours.png"))
                 wanted = cv2.cvtColor(colours, cv2.COLOR_BGR2GRAY).astype(int)
@@ -754,6 +902,11 @@ class TestCommandLine(FolderTest):
         said, _ = self.run_command("run", "station.json", "--in", "part1.pgm")
         self.assertEqual(said.splitlines()[1].split(",")[0], "part1.pgm")
 
+    def test_a_name_that_controls_a_terminal(self):
+        self.put("a\x1b]0;b\x07\x9b.pgm", "")
+        _, said = self.run_command("run", "station.json", "--in", "a*.pgm", "--skip", status=3)
+        self.assertIn(r"skipped a\x1b]0;b\x07\x9b.pgm: ", said)
+
     def test_pictures_that_are_skipped(self):
         vx.write_pgm(self.path("part1.pgm"), [[1, 2]])
         self.put("part3.pgm", "P5 8 6 255 cut")
@@ -776,6 +929,56 @@ class TestCommandLine(FolderTest):
                                    status=3)
         self.assertIn("skipped none.pgm: No such file", said)
         self.run_command("run", "station.json", "--in", "none*.pgm", "--skip", status=1)
+
+    def test_a_file_whose_name_is_the_pattern(self):
+        """It hid the other files that match."""
+        def pictures_of(*words, **others):
+            lines, said = self.run_command("run", "station.json", "--in", *words, **others)
+            return said or [line.partition(",")[0] for line in lines.splitlines()[1:]]
+
+        for name in ("part*.pgm", "part[12].pgm", "one[3].pgm"):
+            shutil.copy(self.path("part0.pgm"), self.path(name))
+        self.assertEqual(pictures_of("part*.pgm"), ["part0.pgm", "part1.pgm", "part2.pgm",
+                                                    "part*.pgm", "part[12].pgm"])
+        self.assertEqual(pictures_of("part[12].pgm", status=1),
+                         "feqyldan: part[12].pgm is the name of a file, and a pattern that matches "
+                         "part1.pgm: rename the file, or name it alone, as in 'part[[]12].pgm'\n")
+        self.assertEqual(pictures_of("part[[]12].pgm", "one[3].pgm"), ["part[12].pgm",
+                                                                       "one[3].pgm"])
+
+    def test_a_csv_file_of_an_earlier_run(self):
+        """It stays until there is a result."""
+        self.put("cut.pgm", "P5 8 6 255 cut")
+        self.put("found.csv", "of an earlier run")
+        words = "run", "station.json", "--csv", "found.csv", "--in", "cut.pgm"
+        self.run_command(*words, status=1)
+        self.assertEqual(read_bytes(self.path("found.csv")), b"of an earlier run")
+        # No picture has a result.
+        self.run_command(*words, "--skip", status=3)
+        lines = read_bytes(self.path("found.csv")).splitlines()
+        self.assertTrue(len(lines) == 1 and lines[0].startswith(b"picture,"), lines)
+
+    def test_a_pattern_of_what_cannot_be_read(self):
+        """A link to nothing and a named pipe were left out without a word."""
+        os.symlink("nothing.pgm", self.path("part3.pgm"))
+        os.mkfifo(self.path("part4.pgm"))
+        words = "run", "station.json", "--in", "part[234].pgm"
+        _, said = self.run_command(*words, "--skip", status=3)
+        self.assertRegex(said, r"skipped part3.pgm: No such file(.|\n)*skipped part4.pgm: it isn't "
+                               r"a regular file(.|\n)*feqyldan: 2 of 3 pictures were skipped$")
+        self.run_command(*words, status=1)
+
+    def test_a_message_names_its_picture(self):
+        """Also one whose name is among the words."""
+        self.copying(8, 6)
+        for name in ("1", "U8", "write"):
+            vx.write_pgm(self.path(name), [[1, 2]])
+        _, said = self.run_command("run", "copy.json", "--in", "1", "U8", "write", "--skip",
+                                   status=3)
+        self.assertEqual([line.partition(" 2 by 1 U8 ")[0] for line in said.splitlines()[:3]],
+                         [f"feqyldan: skipped {name}: write" for name in ("1", "U8", "write")])
+        _, said = self.run_command("run", "copy.json", "--in", "part1.pgm", "1", status=1)
+        self.assertTrue(said.startswith("feqyldan: 1: write 2 by 1 U8 "), said)
 
     def test_patterns_in_two_options(self):
         words = "run", "station.json", "--in", "part1.pgm"
@@ -800,6 +1003,15 @@ class TestCommandLine(FolderTest):
             _, said = self.run_command(*command, status=1, before="exec > >(exec true); sleep 1; ")
             self.assertEqual(said, "")
 
+    def test_a_reader_of_the_numbers_that_ends(self):
+        """The lines are more than a pipe holds, so the run can't end before its reader."""
+        self.counting()
+        os.mkfifo(self.path("pipe"))
+        reader = "timeout 60 head -c 1 pipe > /dev/null 2>&1 & "
+        _, said = self.run_command("run", "counts.json", "--in", *["part1.pgm"] * 200, "--csv",
+                                   "pipe", status=1, before=reader)
+        self.assertEqual(said, "feqyldan: [Errno 32] Broken pipe: 'pipe'\n")
+
     def test_full_disks(self):
         words = "run", "station.json", "--in", "part*.pgm"
         # Python may write each text at once, or what is left at the end.
@@ -820,19 +1032,63 @@ class TestCommandLine(FolderTest):
         self.assertEqual(said, "feqyldan: [Errno 27] File too large: 'marks/noise.png'\n")
         self.assertEqual(os.listdir(self.path("marks")), [])
 
+    def test_an_older_csv_file_stays_until_there_is_a_result(self):
+        """Neither an image nor the first lines that can't be saved replace it. A file may have
+        1,024 bytes."""
+        self.copying(64, 64)
+        vx.write_pgm(self.path("noise.pgm"), memoryview(os.urandom(4096)).cast("B", [64, 64]))
+        self.counting()
+        for words, file in ((("copy.json", "--in", "noise.pgm", "--out", "marks"),
+                             "marks/noise.png"),
+                            (("counts.json", "--in", "part1.pgm"), "found.csv")):
+            self.put("found.csv", "old")
+            _, said = self.run_command("run", *words, "--csv", "found.csv", status=1,
+                                       before="ulimit -f 1; ")
+            self.assertEqual(said, f"feqyldan: [Errno 27] File too large: '{file}'\n")
+            self.assertEqual(read_bytes(self.path("found.csv")), b"old")
+            self.assertEqual([name for name in os.listdir(self.folder) if name[0] == "."], [])
+
+    def test_each_line_of_a_csv_file_is_whole(self):
+        """Also the last one on a full disk."""
+        words = "run", "station.json", "--in", *["part1.pgm"] * 60, "--csv", "found.csv"
+        self.run_command(*words)
+        whole = read_bytes(self.path("found.csv")).splitlines(keepends=True)
+        self.run_command(*words, status=1, before="ulimit -f 1; ")
+        found = read_bytes(self.path("found.csv")).splitlines(keepends=True)
+        self.assertEqual(found, whole[: len(found)])
+        self.assertLess(1024, sum(map(len, whole[: len(found) + 1])))
+
     def test_a_signal_leaves_no_file(self):
-        """It comes when a picture is on its way to the disk."""
+        """It comes when a picture is on its way to the disk, and another one when the file is
+        removed."""
         self.copying(8, 6)
-        for number in (signal.SIGTERM, signal.SIGHUP):
+        both = [signal.SIGTERM, signal.SIGHUP]
+        for first, second in (both, both[::-1]):
             # nohup has programs ignore SIGHUP.
-            code = (f"import os, signal, sys; signal.signal({number}, signal.SIG_DFL); "
-                    f"os.fsync = lambda _: os.kill(os.getpid(), {number}); "
-                    "from feqyldan.__main__ import main; sys.exit(main(sys.argv[1:]))")
+            code = ("import os, signal, sys\n"
+                    f"for number in {[*map(int, both)]}:\n"
+                    "    signal.signal(number, signal.SIG_DFL)\n"
+                    "def written(_):\n"
+                    "    os.unlink = removed\n"
+                    f"    os.kill(os.getpid(), {int(first)})\n"
+                    "def removed(path):\n"
+                    f"    os.kill(os.getpid(), {int(second)})\n"
+                    "    os.remove(path)\n"
+                    "os.fsync = written\n"
+                    "from feqyldan.__main__ import main\n"
+                    "sys.exit(main(sys.argv[1:]))")
             run = subprocess.run([sys.executable, "-c", code, "run", "copy.json", "--in",
                                   "part1.pgm", "--out", "marks"], cwd=self.folder, timeout=90,
                                  env={**os.environ, "PYTHONPATH": PACKAGE, **VARIABLES})
-            self.assertEqual(run.returncode, 128 + number)
+            self.assertEqual(run.returncode, 128 + first)
             self.assertEqual(os.listdir(self.path("marks")), [])
+
+    def counting(self):
+        """Writes a graph of 256 counts to a file."""
+        self.put("counts.json", {"feqyldan": 1, "objects": {
+            "camera": {"kind": "image", "format": "U8", "width": 8, "height": 6, "input": True},
+            "counts": {"kind": "distribution", "bins": 256}}, "nodes": [
+                {"function": "histogram", "input": "camera", "distribution": "counts"}]})
 
     def copying(self, width, height):
         """Writes a graph that copies its input to a file."""
@@ -883,6 +1139,12 @@ class TestCommandLine(FolderTest):
         self.assertIn("<svg", said)
         dot, _ = self.run_command("draw", "station.json", "--dot")
         self.assertIn("smooth[-1]", dot)
+        # In any locale.
+        self.plain("\u03a9")
+        for words in ((), ("--dot",)):
+            said, _ = self.run_command("draw", "plain.json", *words,
+                                       before="PYTHONIOENCODING=latin-1 ")
+            self.assertIn("\u03a9", said)
 
     def test_faults(self):
         vx.write_pgm(self.path("short.pgm"), [[1, 2]])
@@ -898,6 +1160,10 @@ class TestCommandLine(FolderTest):
             self.assertIn(fault, said)
             self.assertEqual(len(said.splitlines()), 1, said)
         self.run_command("walk", status=2)
+        # No column would have their number.
+        _, errors = self.run_command("run", "station.json", "--in", "part1.pgm", "--out", "out",
+                                     "--regions", "40", status=2)
+        self.assertIn("which --out alone doesn't save: give --csv", errors)
         for least in ("0", "-1", "x"):
             self.run_command("run", "station.json", "--in", "part1.pgm", "--regions", least,
                              status=2)
@@ -913,7 +1179,7 @@ class TestCommandLine(FolderTest):
                                        **{name: image for name in outputs}},
             "nodes": [{"function": "not_", "input": "camera", "output": name} for name in outputs]})
         for folder in ("a", "b"):
-            os.mkdir(self.path(folder))
+            os.makedirs(self.path(folder), exist_ok=True)
             for number in range(12):
                 vx.write_pgm(self.path(f"{folder}/f{number}.pgm"), [[number, 0]])
                 vx.write_png(self.path(f"{folder}/f{number}.png"), [[number, 0]])
@@ -926,19 +1192,58 @@ class TestCommandLine(FolderTest):
     def test_nothing_is_written_over_what_is_read(self):
         self.plain("marks")
         os.symlink("a", self.path("link"))
-        before = self.contents("a")
+        # Folders that would be created, and a link to one.
+        os.symlink("new/deep", self.path("far"))
+        before = self.contents("a"), read_bytes(self.path("plain.json"))
         for words in (("--out", "a"), ("--out", "link"), ("--csv", "a/f7.png"),
-                      ("--csv", "plain.json"), ("--csv", "clean.pgm")):
+                      ("--csv", "plain.json"), ("--csv", "clean.pgm"), ("--out", "new/../a"),
+                      ("--csv", "new/../plain.json"),
+                      ("--out", "new/deep", "--csv", "far/../../a/f7.png")):
             with self.subTest(words):
                 _, said = self.run_command("run", "plain.json", "--in", "a/*.png", *words, status=1)
                 self.assertRegex(said, "would overwrite .*, which is read: name another")
-        self.assertEqual(self.contents("a"), before)
+        self.assertEqual((self.contents("a"), read_bytes(self.path("plain.json"))), before)
+        self.assertFalse(os.path.exists(self.path("new")))
         _, said = self.run_command("run", "plain.json", "--in", "b/f1.pgm", "--out", "c", "--csv",
                                    "c/f1.png", status=1)
         self.assertRegex(said, "--csv c/f1.png would be overwritten by the image of b/f1.pgm")
         # Of other names they may be where the pictures are.
         self.run_command("run", "plain.json", "--in", "b/f1.pgm", "--out", "b", "--csv", "b/b.csv")
         self.assertTrue(os.path.exists(self.path("b/b.csv")))
+
+    def test_what_is_no_file_at_the_name_of_an_image(self):
+        """By a link, two images went to one file, or one to a file that isn't in the folder. A pipe
+        waited for a reader."""
+        self.plain("marks")
+        self.put("a text", "words")
+        os.mkdir(self.path("marks"))
+        there = self.path("marks/f1.png")
+        for make in (*(partial(os.symlink, target) for target in ("f2.png", "../a text",
+                                                                  "../b/none")),
+                     os.mkfifo, os.mkdir):
+            make(there)
+            _, said = self.run_command("run", "plain.json", "--in", "a/*.pgm", "--out", "marks",
+                                       status=1)
+            self.assertIn("the image of a/f1.pgm would be marks/f1.png, which is a link, a folder "
+                          "or a pipe, and no file: remove it", said)
+            self.assertEqual(os.listdir(self.path("marks")), ["f1.png"])
+            (os.rmdir if make is os.mkdir else os.remove)(there)
+        self.assertEqual(read_bytes(self.path("a text")), b"words")
+
+    def test_folders_that_cannot_be_made(self):
+        self.plain("marks")
+        for words, named in ((("--out", ""), "--out ''"), (("--out", "a text/b"), "--out a text/b"),
+                             (("--csv", "a text/b"), "the folder of --csv a text/b")):
+            self.put("a text", "words")
+            _, said = self.run_command("run", "plain.json", "--in", "a/f1.pgm", *words, status=1)
+            self.assertEqual(said, f"feqyldan: {named} isn't a folder: name another one\n")
+
+    def test_numbers_for_standard_output_of_another_encoding(self):
+        """They are in UTF-8, as in a file."""
+        self.plain("m\xe4rk")
+        printed, _ = self.run_command("run", "plain.json", "--in", "a/f1.pgm",
+                                      before="PYTHONIOENCODING=ascii PYTHONUTF8=0 ")
+        self.assertIn("m\xe4rk.marked", printed)
 
     def test_pictures_of_one_name(self):
         self.plain("marks")
@@ -967,15 +1272,15 @@ class TestCommandLine(FolderTest):
         self.run_command(*words)
 
     def test_outputs_that_are_in_no_file_name(self):
-        self.plain("marks", "a\0b", "\ud800")
-        words = "run", "plain.json", "--in", "a/f1.pgm", "--out", "marks"
-        self.assertIn(r'the name "a\u0000b" has a "\u0000"', self.run_command(*words, status=1)[1])
-        contents = json.loads(read_bytes(self.path("plain.json")))
-        del contents["objects"]["a\0b"]
-        contents["nodes"] = [node for node in contents["nodes"] if "a\0b" not in node.values()]
-        self.put("plain.json", vx.graph_text(contents))
-        self.assertIn(r'the name "\ud800" has a character that a file name',
-                      self.run_command(*words, status=1)[1])
+        for name, fault, before in (
+                ("a\0b", "the name 'a\\x00b' isn't text", ""),
+                ("\u03a9", r'the name "\u03a9" has a character that a file name',
+                 "LC_ALL=C PYTHONCOERCECLOCALE=0 PYTHONUTF8=0 ")):
+            self.plain("marks", name)
+            _, said = self.run_command("run", "plain.json", "--in", "a/f1.pgm", "--out", "marks",
+                                       status=1, before=before)
+            self.assertIn(fault, said)
+            self.assertFalse(os.path.exists(self.path("marks")))
 
     def test_natural_order(self):
         """Folders aren't pictures; the folder of the CSV file is created."""

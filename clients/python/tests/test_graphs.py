@@ -1,6 +1,9 @@
 """Graphs: nodes, virtual images, verdicts and runs."""
 
 import gc
+import json
+import os
+import tempfile
 import unittest
 
 from program import ProgramTest, vx
@@ -36,6 +39,37 @@ class TestGraphs(ProgramTest):
         self.source.write([[90, 10, 10, 10, 10, 10]])
         self.graph.process()
         self.holds(self.target, [[0] * 6])
+
+    def test_what_a_pipeline_cant_answer(self):
+        """A refusal of the graph would come later, and a time would be that of the sending."""
+        self.graph.not_(self.source, self.target)
+        image = {"kind": "image", "format": "U8", "width": 1, "height": 1}
+        with tempfile.TemporaryDirectory() as folder:
+            path = os.path.join(folder, "a.json")
+            with open(path, "w", encoding="utf-8") as file:
+                json.dump({"feqyldan": 1, "objects": {"one": image, "wide": {**image, "width": 2}},
+                           "nodes": [{"function": "not_", "input": "one", "output": "wide"}]}, file)
+            with self.context.pipeline() as ahead:
+                for call in (self.graph.profile, self.graph.watch,
+                             lambda: self.context.graph_faults(path)):
+                    with self.assertRaisesRegex(ValueError, "before the 'with' of the pipeline"):
+                        call()
+                result = ahead.read(self.source)
+            self.assertEqual(result.value().tolist(), [[10, 10, 10, 90, 10, 10]])
+            fault, = self.context.graph_faults(path)
+        # The node is named once.
+        self.assertEqual(str(fault), f"{path}: node 1: has images of different sizes.")
+        self.assertEqual(len(self.graph.profile()), 1)
+
+    def test_what_is_watched_is_of_one_context(self):
+        """Each context has objects of the same names."""
+        self.graph.not_(self.source, self.target)
+        seen = self.graph.watch()
+        self.assertEqual(seen[self.target].value.tolist(), [[245, 245, 245, 165, 245, 245]])
+        with self.server.context() as other:
+            theirs = [other.image(U8, 6, 1) for _ in range(2)]
+            self.assertEqual(theirs[1]._reference, self.target._reference)
+            self.assertRaises(KeyError, seen.__getitem__, theirs[1])
 
     def test_nodes_are_removed(self):
         nodes = self.marking()
@@ -209,6 +243,18 @@ class TestGraphs(ProgramTest):
         graph.close()
         self.assertRaises(vx.InvalidReference, graph.process)
         self.assertRaises(vx.InvalidReference, graph.not_, self.source, self.target)
+
+    def test_a_graph_without_nodes(self):
+        """A profile of none takes no time. A closed graph has none, and doesn't replace a file."""
+        self.assertEqual(str(self.graph.profile()), "    0.000 ms together, one by one")
+        with tempfile.TemporaryDirectory() as folder:
+            path = os.path.join(folder, "station.json")
+            with self.context.graph() as graph:
+                graph.not_(self.source, self.target)
+                graph.save(path)
+            with self.assertRaisesRegex(vx.InvalidReference, "save closed graph 4: "):
+                graph.save(path)
+            self.assertEqual(len(self.context.load_graph(path).graph.nodes), 1)
 
     def test_a_node_keeps_its_graph(self):
         node = self.context.graph().not_(self.source, self.target)

@@ -10,9 +10,11 @@ feqyldan promises this for an exception from any signal handler. To run it by ha
 import contextlib
 import errno
 import fcntl
+import gc
 import os
 import random
 import signal
+import subprocess
 import sys
 import tempfile
 import threading
@@ -24,6 +26,7 @@ from unittest import mock
 from program import SERVED, ProgramTest, answering, needs_program, of_a_process, vx
 from feqyldan import pages, samples, storage, wire
 from feqyldan.connection import Body, Connection, Request
+from feqyldan.forks import HELD, Forked
 from feqyldan.pipes import enlarge
 from feqyldan.sources import Taker
 from test_processes import ProcessTest
@@ -198,7 +201,11 @@ class Everywhere:
         return self
 
     def interrupts(self, call, *arguments):
-        """Calls a function, and returns whether it was interrupted."""
+        """Calls a function, and returns whether it was interrupted. Fails if the interruption was
+        lost."""
+        left = self.left
+        # It would be lost in the end of an object that the collector frees.
+        gc.disable()
         try:
             sys.settrace(self)
             call(*arguments)
@@ -206,7 +213,11 @@ class Everywhere:
             return True
         finally:
             sys.settrace(None)
-        return self.act is not interrupt and self.left <= 0
+            gc.enable()
+        has_come = self.left <= 0 < left
+        if has_come and self.act is interrupt:
+            raise AssertionError("the interruption was lost")
+        return has_come
 
 
 def can_lend():
@@ -373,6 +384,28 @@ class TestEachLine(unittest.TestCase):
 
 
 class TestChanges(ProgramTest):
+    @unittest.skipUnless(samples.numpy_module(), "NumPy isn't installed")
+    def test_a_read_that_is_interrupted_again(self):
+        """While the first interruption ends it. Nothing more comes into the array."""
+        numpy = samples.numpy_module()
+        image, out = self.context.image_from([[1, 2]]), numpy.zeros((1, 2), "uint8")
+        connection = self.context._connection
+        let_go, left = connection.let_go, []
+
+        def interrupted(place):
+            left.append(place)
+            if len(left) < 3:
+                interrupt()
+            let_go(place)
+
+        with mock.patch.object(type(connection), "let_go", lambda _, place: interrupted(place)), \
+                mock.patch.object(type(self.context), "_reply_to", lambda *_: interrupt()):
+            self.assertRaises(KeyboardInterrupt, image.read, out)
+        self.assertEqual(len(left), 3)
+        out[:] = 9
+        self.holds(image, [[1, 2]])
+        self.assertEqual(out.tolist(), [[9, 9]])
+
     """After an interruption before each line in turn, the package and the server agree."""
 
     FILES = ("connection.py", "context.py", "direct.py", "graphs.py", "server.py")
@@ -435,6 +468,20 @@ class TestChanges(ProgramTest):
             self.assertTrue(context.closed)
             # Refused if the server still has a context with this number.
             type(context)(self.server, self.server._connection, context.number).close()
+
+    @unittest.skipUnless(samples.numpy_module(), "NumPy isn't installed")
+    def test_the_value_of_a_result(self):
+        """Its samples are converted in place. The next value() doesn't convert them back."""
+        for fmt, rows in ((vx.U8, [[1, 2, 3]]), (vx.S16, [[1, -2, 300]]), (vx.U32, [[1, 2, 9**9]])):
+            image, number, is_interrupted = self.context.image_from(rows, fmt), 0, True
+            while is_interrupted:
+                number += 1
+                with self.context.pipeline() as ahead:
+                    result = ahead.read(image)
+                trace = Everywhere(number, ("pipeline.py", "samples.py"), ("line", "return"))
+                is_interrupted = trace.interrupts(result.value)
+                self.assertEqual(result.value().tolist(), rows, number)
+            self.assertGreater(number, 20)
 
     def test_a_handler_between_the_lines_of_a_call(self):
         """Its own call releases nothing that the interrupted one asked for, and nothing twice."""
@@ -582,6 +629,23 @@ class TestStreams(ProgramTest):
         self.assertGreater(number, 50)
 
 
+class TestHeld(unittest.TestCase):
+    def test_what_python_frees(self):
+        """No interruption is lost, and nothing of it is left."""
+        class Thing(Forked):
+            pass
+
+        held, kept, number = type(HELD)(), Thing(), 1
+        held.add(kept)
+        while Everywhere(number, ("forks.py", "_weakrefset.py"), ("line", "return")).interrupts(
+                lambda: held.add(Thing())):
+            self.assertEqual(list(held), [kept])
+            number += 1
+        self.assertGreater(number, 2)
+        self.assertTrue(kept in held)
+        self.assertFalse(Thing() in held)
+
+
 LOOP = """
 import feqyldan as vx
 
@@ -628,6 +692,8 @@ class TestFiles(unittest.TestCase):
         self.addCleanup(folder.cleanup)
         path = os.path.join(folder.name, "picture")
         storage.write_bytes(path, [b"old"])
+        # What earlier tests have left would be closed meanwhile.
+        gc.collect()
         for call in (partial(storage.read_bytes, path),
                      partial(storage.write_bytes, path, [b"new"])):
             number, is_interrupted = 0, True
@@ -658,8 +724,23 @@ class TestQuietEnds(ProgramTest):
             with vx.Server() as server, server.context():
                 os.kill(server._process.pid, signal.SIGKILL)
 
+    def test_a_server_whose_start_is_interrupted(self):
+        """It ends, and leaves no descriptor."""
+        started, start = [], subprocess.Popen
+
+        def popen(*words, **options):
+            started.append(start(*words, **options))
+            return started[-1]
+
+        opened = os.listdir("/proc/self/fd")
+        with mock.patch("subprocess.Popen", popen), \
+                mock.patch("feqyldan.process.enlarge", interrupt):
+            self.assertRaises(KeyboardInterrupt, vx.Server, process=True)
+        self.assertEqual(started[0].wait(60), 0)
+        self.assertEqual(os.listdir("/proc/self/fd"), opened)
+
     def test_a_server_that_was_too_slow(self):
-        with vx.Server(answering(OPENED, 60.0), timeout=1) as server, server.context() as context:
+        with vx.Server(answering(OPENED, 60.0), timeout=5) as server, server.context() as context:
             self.assertRaises(vx.TimedOut, context.graph)
 
 

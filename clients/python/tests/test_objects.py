@@ -174,6 +174,8 @@ class TestParameters(ProgramTest):
         self.assertEqual([slot.read()[0, 0] for slot in (delay[0], delay[-1], delay[-2])],
                          [2, 0, 1])
         self.assertEqual((len(delay), delay[-1].shape, delay[-1].valid), (3, (2, 3), (0, 0, 3, 2)))
+        self.assertEqual([slot.number for slot in delay], [0, -1, -2])
+        self.assertEqual([slot.number for slot in reversed(delay)], [-2, -1, 0])
         for wrong in (1, -3):
             self.assertRaises(IndexError, delay.__getitem__, wrong)
         again = self.context.delay(delay[-1], 1)
@@ -204,6 +206,9 @@ class TestParameters(ProgramTest):
         for wrong in (5, (1,), (1, 2, 3)):
             with self.assertRaisesRegex(TypeError, r"two limits, \(lower, upper\), not [(5]"):
                 self.context.threshold(U8, between=wrong)
+        for outputs in ({"true_value": True}, {"true_value": 1, "false_value": False}):
+            with self.assertRaisesRegex(TypeError, "are samples, .*: write 255 or 0"):
+                self.context.threshold(U8, above=1, **outputs)
         for limits in ({"above": 256}, {"between": (20, 10)}):
             with self.assertRaises(vx.InvalidValue):
                 self.context.threshold(U8, **limits)
@@ -215,8 +220,9 @@ class TestParameters(ProgramTest):
         for wrong in ([1, 2, 1], 5, None):
             with self.assertRaisesRegex(TypeError, r"must be rows of numbers, .*, not [\[5N]"):
                 self.context.convolution(wrong)
-        with self.assertRaises(vx.InvalidDimension):
-            self.context.convolution([[1] * 4] * 3)
+        for wrong in ([[1] * 4] * 3, [[1] * 3] * 300, [[1] * 300] * 3):
+            with self.assertRaisesRegex(vx.InvalidDimension, "must have 3, 5, 7 or 9 rows"):
+                self.context.convolution(wrong)
         with self.assertRaises(vx.InvalidValue):
             self.context.convolution([[1] * 3] * 3, scale=2**32)
 

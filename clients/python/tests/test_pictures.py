@@ -8,6 +8,7 @@ import os
 import resource
 import stat
 import struct
+import subprocess
 import tempfile
 import unittest
 import zlib
@@ -37,7 +38,7 @@ def greatest_file(size):
 def without(module):
     """Within the `with` this package can't import a module."""
     importer = importlib.import_module
-    with mock.patch.object(files.importlib, "import_module", lambda name: (
+    with mock.patch.object(importlib, "import_module", lambda name: (
             importer(name if name != module else "no_such_module"))):
         yield
 
@@ -94,9 +95,18 @@ class TestPng(unittest.TestCase):
             self.assertEqual(decoded(vx.png(given)), wanted)
         for wrong, words in (([[(1, 2)]], "not 2 numbers in rows of 1"),
                              ([[(1, 2, 3)], [(1, 2, 3), (4, 5, 6)]], "in rows of 1 and 2"),
+                             ([[(1, 2), (3, 4, 5, 6)]], "not 6 numbers in rows of 2"),
                              ([[(1, 2, 256)]], "must be from 0 to 255, not 256")):
             with self.assertRaisesRegex(ValueError, words):
                 vx.png(wrong)
+
+    @unittest.skipUnless(numpy, "NumPy isn't installed")
+    def test_masked_samples(self):
+        """The mask would be lost."""
+        for shape in ((2, 3), (2, 3, 3)):
+            masked = numpy.ma.masked_less(numpy.arange(numpy.prod(shape)).reshape(shape), 2)
+            with self.assertRaisesRegex(vx.BadPicture, "some of these samples are masked"):
+                vx.png(masked.astype("uint8"))
 
     def test_what_is_no_picture(self):
         for wrong in ([], [[]], [[1], [1, 2]], b"123", [[256]]):
@@ -210,7 +220,8 @@ class TestFiles(ProgramTest):
                             (b"P2 2 1 255 7 8 9", "numbers after its header"),
                             (b"P2 2 1 255 7 999999999", "a sample of 999999, above its maxval"),
                             (b"P2 1 1 65536 65536", "its maxval is 65536, .* is at most 65535"),
-                            (b"P5 1 1 65536 \0\1", "its maxval is 65536, .* is at most 65535")):
+                            (b"P5 1 1 65536 \0\1", "its maxval is 65536, .* is at most 65535"),
+                            (b"P5 2 1 255ab\n", "no whitespace byte follows its maxval")):
             self.write(text)
             with self.assertRaisesRegex(vx.WrongPicture, f"picture: .*{words}"):
                 files.load(self.path)
@@ -307,9 +318,14 @@ class TestFiles(ProgramTest):
         self.assertEqual(os.listdir(os.path.dirname(self.path)), [])
         with self.assertRaisesRegex(FileNotFoundError, "none/a.png"):
             image.save(os.path.join(os.path.dirname(self.path), "none/a.png"))
-        # A device can't be replaced.
+        # A device can't be replaced, nor a pipe, such as that at /dev/stdout.
         vx.write_pgm("/dev/null", image)
         self.assertFalse(os.path.isfile("/dev/null"))
+        reader, writer = os.pipe()
+        with open(reader, "rb") as there:
+            with open(writer, "wb"):
+                vx.write_pgm(f"/dev/fd/{writer}", ROWS)
+            self.assertEqual(there.read(), b"P5\n3 2\n255\n" + bytes(sum(ROWS, [])))
 
     def test_a_file_that_is_write_protected(self):
         vx.write_png(self.path, ROWS)
@@ -430,6 +446,24 @@ class TestOtherFiles(ProgramTest):
             with self.assertRaisesRegex(vx.BadPicture, "b.npy: this isn't a whole .npy file"):
                 self.context.load(self.put("b.npy", content))
 
+    def test_samples_of_12_bits(self):
+        """They give the same image from a PNG and from a .npy file in either byte order."""
+        import cv2
+        wide = numpy.array([[0, 2048, 4095]], numpy.uint16)
+        path = os.path.join(self.folder, "a.npy")
+        self.put("a.png", cv2.imencode(".png", wide)[1].tobytes())
+        for name, order in (("a.png", ""), ("a.npy", "<u2"), ("a.npy", ">u2")):
+            if order:
+                numpy.save(path, wide.astype(order))
+            image = self.context.load(os.path.join(self.folder, name))
+            self.assertEqual(image.fmt, vx.S16)
+            self.holds(image, wide.tolist())
+        for wrong, words in ((16 * wide, "it has samples from 0 to 65520"),
+                             (wide[:0], "samples must be"), (wide[None], "a grey picture must")):
+            numpy.save(path, wrong)
+            with self.assertRaisesRegex(vx.BadPicture, f"a.npy: {words}"):
+                self.context.load(path)
+
     def test_palettes(self):
         """The numbers of a palette image aren't its greys."""
         import PIL.Image
@@ -460,6 +494,59 @@ class TestOtherFiles(ProgramTest):
                 else:
                     self.assertEqual(self.context.load(path).fmt, vx.S16)
 
+    def test_tiff_files_of_16_bits_in_colours(self):
+        """PIL reads them as 8 bits."""
+        for order in "<>":
+            content = struct.pack(order + "6H", *[1000] * 3, *[30000] * 3)
+            path = self.put("a.tif", self.tiff((1, 2), [16] * 3, content, order=order))
+            for missing in self.readers():
+                if missing == "cv2":
+                    self.assertRaisesRegex(vx.BadPicture, "which PIL reads as 8 bits: install Open",
+                                           self.context.load, path)
+                else:
+                    self.holds(self.context.load(path), [[1000, 30000]])
+            path = self.put("a.tif", self.tiff((1, 2), [8] * 3, bytes(6 * [77]), order=order))
+            for missing in self.readers():
+                self.holds(self.context.load(path), [[77, 77]])
+
+    def test_jpeg_2000_of_16_bits_in_colours(self):
+        """PIL reads them as 8 bits."""
+        import cv2
+        try:
+            there, content = cv2.imencode(".jp2", numpy.full((200, 200, 3), 1000, numpy.uint16))
+        except cv2.error:
+            there = False
+        if not there:
+            self.skipTest("OpenCV writes no JPEG 2000 here")
+        whole = content.tobytes()
+        # A file may also lack the boxes around its first segment.
+        for begin in (0, whole.index(b"\xff\x4f\xff\x51")):
+            path = self.put("a.jp2", whole[begin:])
+            for missing in self.readers():
+                if missing == "cv2":
+                    self.assertRaisesRegex(vx.BadPicture, "which PIL reads as 8 bits: install Open",
+                                           self.context.load, path)
+                else:
+                    self.assertEqual(self.context.load(path).read()[7, 9], 1000)
+
+    def test_colours_of_another_maxval(self):
+        """PIL scales them to 8 bits, and OpenCV some of them."""
+        wide = struct.pack(">6H", *[1000] * 3, *[30000] * 3)
+        for content, wanted, taken in (
+                (b"P6 2 1 65535 " + wide, [[1000, 30000]], ("PIL.Image",)),
+                (b"P6 # c\n2 1 0100\n" + bytes(6 * [50]), [[50, 50]], ("PIL.Image",)),
+                (b"P3 1 1 100 50 50 50\n", None, ()),
+                (b"P3 1 1 255 50 50 50\n", [[50]], ("cv2", "PIL.Image")),
+                (b"P6 1 1 255 " + bytes(3 * [77]), [[77]], ("cv2", "PIL.Image"))):
+            path = self.put("a.ppm", content)
+            for missing in self.readers():
+                with self.subTest(content, missing=missing):
+                    if missing in taken:
+                        self.holds(self.context.load(path), wanted)
+                    else:
+                        self.assertRaisesRegex(vx.BadPicture, "a.ppm: this is a PPM file with the "
+                                               "maxval [0-9]+, whose", self.context.load, path)
+
     def test_sun_rasters(self):
         """OpenCV returns zeros for one without a map of colours."""
         path = self.put("a.ras", struct.pack(">8I", 0x59a66a95, 2, 1, 8, 2, 1, 0, 0) + b"\x09\xc8")
@@ -469,6 +556,97 @@ class TestOtherFiles(ProgramTest):
             else:
                 self.assertRaisesRegex(vx.BadPicture, "a Sun raster, which takes PIL",
                                        self.context.load, path)
+
+    def tiff(self, shape, bits, content, *tags, order="<"):
+        """Returns a TIFF file of a grey picture, or of a coloured one for three numbers of bits.
+        Each of the tags is its number and its value."""
+        def entry(tag, value, count=1):
+            return struct.pack(order + "HHI", tag, 3, count) + (
+                struct.pack(order + "HH", value, 0) if count == 1 else
+                struct.pack(order + "I", value))
+
+        height, width = shape
+        start = 14 + len(content)
+        entries = [entry(256, width), entry(257, height),
+                   entry(258, bits[0] if len(bits) == 1 else 8, len(bits)), entry(259, 1),
+                   entry(262, 1 if len(bits) == 1 else 2), entry(273, 14),
+                   *(entry(*tag) for tag in tags), entry(277, len(bits)), entry(278, height),
+                   entry(279, len(content))]
+        return (struct.pack(order + "2sHI6s", b"II" if order == "<" else b"MM", 42, start,
+                            struct.pack(order + "3H", *(bits * 3)[:3]))
+                + content + struct.pack(order + "H", len(entries)) + b"".join(entries) + bytes(4))
+
+    def test_tiff_files_that_are_turned(self):
+        """PIL knows the sides of one that lies on its side only after it is loaded."""
+        rows = numpy.arange(0, 120, 5, numpy.uint8).reshape(3, 8)
+        turned = {1: rows, 3: rows[::-1, ::-1], 5: rows.T, 6: rows[::-1].T, 8: rows.T[::-1]}
+        for orientation, wanted in turned.items():
+            path = self.put("a.tif", self.tiff((3, 8), [8], rows.tobytes(), (274, orientation)))
+            for missing in self.readers():
+                with self.subTest(orientation, missing=missing):
+                    self.holds(self.context.load(path), wanted.tolist())
+
+    def test_tiff_files_of_12_bits(self):
+        """OpenCV multiplies their samples by 16."""
+        for order in "<>":
+            wide = numpy.array([[0, 2048, 4095]], numpy.uint16)
+            path = self.put("a.tif", self.tiff((1, 3), [16], wide.astype(f"{order}u2").tobytes(),
+                                               order=order))
+            for _ in self.readers():
+                self.holds(self.context.load(path), wide.tolist())
+            for bits in ([12], [10], [14], [12, 12, 12]):
+                path = self.put("a.tif", self.tiff((1, 1), bits, bytes(6), order=order))
+                for _ in self.readers():
+                    for scale in (False, True):
+                        with self.assertRaisesRegex(vx.BadPicture, "a.tif: this is a TIFF file of "
+                                                    f"{bits[0]} bits a sample, which OpenCV and"):
+                            self.context.load(path, scale)
+
+    def test_big_tiff_files(self):
+        """BigTIFF has the faults of TIFF."""
+        twelve = "a.tif: this is a TIFF file of 12 bits a sample"
+        for order in "<>":
+            path = self.put("a.tif", self.big_tiff((1, 1), [8], bytes([77]), order))
+            for missing in self.readers():
+                # PIL reads none of the other byte order.
+                if order == "<" or missing != "cv2":
+                    self.holds(self.context.load(path), [[77]])
+            for bits in ([12], [12] * 3):
+                path = self.put("a.tif", self.big_tiff((1, 1), bits, bytes(6), order))
+                for _ in self.readers():
+                    self.assertRaisesRegex(vx.BadPicture, twelve, self.context.load, path)
+            path = self.put("a.tif", self.big_tiff((1, 1), [16] * 3,
+                                                   struct.pack(order + "3H", *[1000] * 3), order))
+            for missing in self.readers():
+                if missing == "cv2":
+                    self.assertRaisesRegex(vx.BadPicture, "which PIL reads as 8 bits: install Open",
+                                           self.context.load, path)
+                else:
+                    self.holds(self.context.load(path), [[1000]])
+
+    def big_tiff(self, shape, bits, content, order):
+        """Returns a BigTIFF file, whose values of 8 bytes hold the bits of up to four samples."""
+        def entry(tag, *values):
+            kind, letter = (3, "H") if max(values) < 65536 else (16, "Q")
+            return struct.pack(order + "HHQ", tag, kind, len(values)) + struct.pack(
+                f"{order}{len(values)}{letter}", *values).ljust(8, b"\0")
+
+        entries = [entry(256, shape[1]), entry(257, shape[0]), entry(258, *bits), entry(259, 1),
+                   entry(262, 1 if len(bits) == 1 else 2), entry(273, 232), entry(277, len(bits)),
+                   entry(278, shape[0]), entry(279, len(content))]
+        return (struct.pack(order + "2s3H2Q", b"II" if order == "<" else b"MM", 43, 8, 0, 16,
+                            len(entries)) + b"".join(entries) + bytes(28) + content)
+
+    def test_no_program_is_run(self):
+        """A file of PostScript is one, which may have no end."""
+        endless = b"%!PS-Adobe-3.0 EPSF-3.0\n%%BoundingBox: 0 0 9 9\n%%EndComments\n{} loop\n"
+        of_dos = struct.pack("<4s6IH", b"\xc5\xd0\xd3\xc6", 30, len(endless), 0, 0, 0, 0, 0xffff)
+        for _ in self.readers():
+            for content in (endless, of_dos + endless):
+                with mock.patch.object(subprocess, "Popen", side_effect=OSError) as started:
+                    with self.assertRaisesRegex(vx.BadPicture, "a.png: this isn't a picture that"):
+                        self.context.load(self.put("a.png", content))
+                started.assert_not_called()
 
     def test_jpeg_2000(self):
         """OpenCV writes other samples than it got."""

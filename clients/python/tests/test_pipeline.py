@@ -105,6 +105,37 @@ class TestPipelines(ProgramTest):
                 self.context.image(vx.U8, 8193, 1)
         self.assertEqual(ahead.refusals, [])
 
+    def test_objects_of_another_context(self):
+        """Each context has objects of the same names."""
+        mine = self.context.image_from([[1]])
+        with self.server.context() as other, self.context.pipeline() as ahead:
+            theirs = other.image_from([[2]])
+            for ask in (ahead.read, ahead.read_pgm, ahead.query):
+                with self.assertRaisesRegex(vx.InvalidScope, "belongs to another context"):
+                    ask(theirs)
+            self.assertEqual(ahead.read(mine).value().tolist(), [[1]])
+
+    def test_one_that_is_entered_again(self):
+        """It tells its refusals each time, and none of an earlier time."""
+        image, ahead = self.context.image(vx.U8, 2, 1), self.context.pipeline()
+        for _ in range(2):
+            with self.assertRaises(vx.InvalidDimension), ahead:
+                image.write([[1]])
+        with ahead:
+            image.write([[1, 2]])
+            result = ahead.read(image)
+        self.assertEqual(result.value().tolist(), [[1, 2]])
+
+    def test_a_wait_without_end(self):
+        """poll() takes no such wait."""
+        image, out = (self.context.image(vx.U8, SIDE, SIDE) for _ in range(2))
+        for timeout in (float("inf"), 1e300):
+            with self.context.pipeline() as ahead:
+                for _ in range(PICTURES):
+                    self.context.vxu.not_(image, out)
+                result = ahead.read(out)
+                self.assertEqual(result.value(timeout)[0, 0], 255)
+
     def test_one_at_a_time(self):
         with self.context.pipeline():
             with self.assertRaises(ValueError):
@@ -112,6 +143,17 @@ class TestPipelines(ProgramTest):
                     pass
         with self.context.pipeline(), self.server.context() as other, other.pipeline():
             pass
+
+    def test_a_result_of_a_pipeline_that_has_ended(self):
+        """Its request belongs to the open pipeline, so it tells that one's refusals."""
+        image = self.context.image_from([[1, 2]])
+        with self.context.pipeline() as ended:
+            pass
+        with self.assertRaises(vx.InvalidDimension), self.context.pipeline():
+            image.write([[3]])
+            result = ended.read(image)
+        self.assertRaises(vx.InvalidDimension, result.value)
+        self.assertEqual(result.raw().tolist(), [[1, 2]])
 
     def test_an_error_within(self):
         image = self.context.image(vx.U8, 3, 1)

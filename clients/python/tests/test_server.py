@@ -78,6 +78,14 @@ class TestServers(ProgramTest):
         self.assertEqual(len(log.records), 5)
 
     @of_a_process
+    def test_a_default_timeout_of_sockets(self):
+        """A server's long reply waits for room in the socket that it is written to."""
+        self.addCleanup(socket.setdefaulttimeout, socket.getdefaulttimeout())
+        socket.setdefaulttimeout(60)
+        with vx.Server(SERVED) as server, server.context() as context:
+            self.assertEqual(context.image(vx.U8, 2000, 2000).read_bytes(), bytes(4_000_000))
+
+    @of_a_process
     def test_words_of_a_command(self):
         with vx.Server(["env", PROGRAM]) as server, server.context() as context:
             context.image(vx.U8, 1, 1)
@@ -181,8 +189,9 @@ class TestSockets(unittest.TestCase):
             self.assertEqual([result.value()[1023, 1023] for result in results], list(range(8)))
 
     def test_a_server_that_ends(self):
-        with self.assertRaisesRegex(vx.ServerEnded, "closed the connection; a broker's or a "
-                                                    "door's standard error says why"):
+        words = "closed the connection; a broker's or a door's standard error says why"
+        with self.assertLogs("feqyldan", "WARNING"), \
+                self.assertRaisesRegex(vx.ServerEnded, words):
             with vx.connect(self.path) as server, server.context() as context:
                 program = self.programs.get(timeout=10)
                 program.kill()

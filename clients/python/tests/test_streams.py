@@ -1,7 +1,11 @@
 """Streams, polled results, and results that can't be of an older picture."""
 
+import asyncio
 import itertools
+import os
 import pathlib
+import resource
+import socket
 import sys
 import threading
 import time
@@ -41,6 +45,13 @@ class TestFrames(unittest.TestCase):
             for frame in (bytes(4), memoryview(bytes(4)).cast("B", (2, 2))):
                 prints.take(frame)
                 prints.let_go(frame)
+
+    def test_a_default_timeout_of_sockets(self):
+        """A frame is ready before its byte has come, so the reader waits for the byte."""
+        self.addCleanup(socket.setdefaulttimeout, socket.getdefaulttimeout())
+        socket.setdefaulttimeout(60)
+        with sources.Threaded(iter([]), []) as source:
+            self.assertTrue(os.get_blocking(source.descriptor))
 
 
 class TestResultsAfterRefusals(StationTest):
@@ -152,6 +163,16 @@ class TestRefusedFrames(StationTest):
                     self.assertIn("the stream ends at frame 4: ", log.output[0])
                     self.has_run_for(1, 2, 3)
 
+    def test_frames_that_are_added_after_the_fault(self):
+        frames, shades = [self.picture(1), self.picture(2), [[1]]], []
+        with self.assertRaisesRegex(vx.BadPicture, "frame 3 .* The graph ran for frames 1 to 2"):
+            for frame, _ in self.adding.stream(frames, self.part, self.sums):
+                shades.append(frame[0][0])
+                frames.append(self.picture(3))
+                self.assertLess(len(frames), 10)
+        self.assertEqual(shades, [1, 2])
+        self.has_run_for(1, 2)
+
     def test_the_first_and_the_second_frame(self):
         for count, words in ((0, "for no frame"), (1, "for frame 1 only")):
             with self.assertRaisesRegex(vx.BadPicture, f"The graph ran {words}"):
@@ -221,9 +242,10 @@ class TestPolling(StationTest):
             waits.assert_not_called()
 
     def test_a_value_that_isnt_there_in_time(self):
-        graph = wire.reply_frame(0, wire.READ_MIN_MAX, 0, bytes(20))
+        read = wire.reply_frame(0, wire.READ_MIN_MAX, 0, bytes(20))
         made = wire.reply_frame(0, wire.CREATE_MIN_MAX, 0, b"\0\0\0\1")
-        with vx.Server(answering(OPENED, made, 1.0, graph, wire.reply_frame(
+        # It answers the first read when the second one has come.
+        with vx.Server(answering(OPENED, made, b"", 2 * read, wire.reply_frame(
                 0, wire.RELEASE_CONTEXT))) as server, server.context() as context:
             found = context.min_max()
             with context.pipeline() as ahead:
@@ -237,7 +259,8 @@ class TestPolling(StationTest):
                     result.value(timeout=0.01)
                 self.assertIsInstance(vx.NotYet("x"), TimeoutError)
                 # It goes on, and so does the connection.
-                self.assertEqual(result.value(timeout=PATIENCE).max, 0)
+                for again in (ahead.read(found), result):
+                    self.assertEqual(again.value(timeout=PATIENCE).max, 0)
 
     def test_is_there_after_the_servers_end(self):
         made = wire.reply_frame(0, wire.CREATE_MIN_MAX, 0, b"\0\0\0\1")
@@ -312,6 +335,47 @@ class TestStreams(StationTest):
             (_, out), = self.graph.stream(frames, self.part, self.out)
             self.assertEqual(out[0, 0], 7)
 
+    @unittest.skipUnless(samples.numpy_module(), "NumPy isn't installed")
+    def test_frames_that_are_indexed_by_labels(self):
+        """A series of pandas, after it was sorted."""
+        numpy = samples.numpy_module()
+        frames = [numpy.full((4, 6), number, numpy.uint8) for number in (1, 2, 3)]
+
+        class Series:
+            iloc = None
+
+            def __len__(self):
+                return len(frames)
+
+            def __getitem__(self, label):
+                return frames[[1, 2, 0][label]]
+
+            def __array__(self, dtype=None, copy=None):
+                found = numpy.empty(len(frames), object)
+                found[:] = frames
+                return found
+
+        self.assertEqual(self.shades(self.graph.stream(Series(), self.part, self.out)),
+                         [(1, 1), (2, 2), (3, 3)])
+
+    def test_descriptors_that_select_does_not_take(self):
+        soft, hard = resource.getrlimit(resource.RLIMIT_NOFILE)
+        if hard != resource.RLIM_INFINITY and hard < 2048:
+            self.skipTest("no process may have so many files")
+        resource.setrlimit(resource.RLIMIT_NOFILE, (max(soft, 2048), hard))
+        self.addCleanup(resource.setrlimit, resource.RLIMIT_NOFILE, (soft, hard))
+        opened = [os.open(os.devnull, os.O_RDONLY) for _ in range(1100)]
+        for one in opened:
+            self.addCleanup(os.close, one)
+
+        def camera():
+            for number in range(3):
+                time.sleep(0.01)
+                yield self.picture(number)
+
+        self.assertEqual(self.shades(self.graph.stream(camera(), self.part, self.out)),
+                         [(number, number) for number in range(3)])
+
     def test_an_error_of_the_frames(self):
         def camera():
             yield self.picture(1)
@@ -322,6 +386,18 @@ class TestStreams(StationTest):
             for _, result in self.graph.stream(camera(), self.part, self.out):
                 seen.append(result[0, 0])
         self.assertEqual(seen, [1])
+
+    def test_by_asyncio(self):
+        async def run():
+            stream = self.graph.stream([self.picture(7)], self.part, self.out)
+            _, result = await self.context.run(next, stream, None)
+            self.assertEqual(result[0, 0], 7)
+            self.assertIsNone(await self.context.run(next, stream, None))
+            # asyncio itself can't pass its end on.
+            with self.assertRaisesRegex(RuntimeError, "give next.. a default"):
+                await asyncio.wait_for(self.context.run(next, stream), PATIENCE)
+
+        asyncio.run(run())
 
     def test_a_result_comes_before_the_next_frame(self):
         """A camera that waits until the previous result was seen."""
@@ -455,6 +531,16 @@ class TestStreams(StationTest):
                 with self.assertRaisesRegex(ValueError, f"{fault}.*which no node of graph 3"):
                     next(self.graph.stream(frames, camera, out))
 
+    def test_a_camera_that_the_graph_overwrites(self):
+        """No result would depend on a frame."""
+        marks, delay = self.context.image_like(self.out), self.context.delay(self.out, 2)
+        for camera in (self.out, delay[0]):
+            graph = self.context.graph()
+            graph.not_(self.part, camera)
+            graph.not_(camera, marks)
+            with self.assertRaisesRegex(ValueError, "and node [0-9]+, not_.*, writes over them"):
+                next(graph.stream([self.picture(1)], camera, marks))
+
     def test_all_that_the_graph_uses(self):
         """Inputs next to an output; slots of a delay of which the graph names others; sums that
         frames are added to; and nodes that are added after the stream was opened."""
@@ -515,8 +601,12 @@ class TestStreams(StationTest):
 
 
 LEFT = """
-import os, sys, time
+import os, sys, threading, time
 import feqyldan as vx
+from feqyldan import sources
+
+asked = threading.Event()
+sources.PATIENCE = PATIENCE
 
 def say(word):
     os.write(1, word.encode() + b" ")
@@ -525,6 +615,7 @@ def camera():
     try:
         yield [[1]]
         say("asked")
+        asked.set()
         time.sleep(SECONDS)
         say("taken")
         yield [[2]]
@@ -538,6 +629,7 @@ with vx.Server() as server, server.context() as context:
     stream = graph.stream(camera(), part, out)
     next(stream)
     say("first")
+    asked.wait()
     if HOW == "fault":
         raise ValueError("a fault of mine")
     if HOW == "close":
@@ -597,19 +689,20 @@ class TestForks(ProcessTest):
 class TestEnds(ProcessTest):
     """Programs that end while the iterator of a stream waits for a frame."""
 
-    def ended(self, seconds, how):
+    def ended(self, seconds, how, patience):
         """Runs a program, and returns its exit status and output."""
-        client = self.start(f"SECONDS, HOW = {seconds}, {how!r}\n{LEFT}")
+        client = self.start(f"SECONDS, HOW, PATIENCE = {seconds}, {how!r}, {patience}\n{LEFT}")
         said = client.communicate(timeout=PATIENCE)[0]
         return client.returncode, sorted(said.split())
 
     def test_an_iterator_is_left_before_the_program_ends(self):
         """A thread in C++ at the end would abort the program."""
         for how, status in (("close", 0), ("fault", 1), ("nothing", 0)):
-            self.assertEqual(self.ended(0.3, how), (status, ["asked", "first", "left", "taken"]))
+            self.assertEqual(self.ended(0.3, how, PATIENCE),
+                             (status, ["asked", "first", "left", "taken"]))
 
     def test_an_iterator_that_hangs(self):
-        self.assertEqual(self.ended(1e6, "close"), (0, ["asked", "first"]))
+        self.assertEqual(self.ended(1e6, "close", sources.PATIENCE), (0, ["asked", "first"]))
 
 
 if __name__ == "__main__":

@@ -1,6 +1,7 @@
 """Requests that aren't answered in time, by a server that this program started and by one behind a
 socket."""
 
+import contextlib
 import os
 import signal
 import socket
@@ -12,6 +13,7 @@ from unittest import mock
 
 from program import SERVED, answering, needs_program, skip_module_in_process, vx
 from feqyldan import wire
+from test_interruptions import Everywhere
 
 skip_module_in_process("no call can be given up there")
 
@@ -153,6 +155,68 @@ class TestSockets(unittest.TestCase):
         thread.start()
         self.addCleanup(thread.join)
 
+    def test_a_first_connection_that_has_ended(self):
+        """The first context gets another one, as later contexts do: a door or a broker ends those
+        that are idle, and may have been restarted."""
+        self.listener.listen()
+        with vx.connect(self.path) as server:
+            self.listener.accept()[0].close()
+            self.serve(OPENED)
+            # Where no other connection comes, nobody waits for it.
+            self.addCleanup(self.listener.shutdown, socket.SHUT_RDWR)
+            self.assertFalse(server.context().closed)
+
+    def test_connections_after_interruptions(self):
+        """None stays open, whichever line was interrupted."""
+        threads = []
+
+        def answer(stream):
+            with stream:
+                if stream.recv(7):
+                    stream.sendall(OPENED)
+                while stream.recv(100):
+                    pass
+
+        def accept():
+            with contextlib.suppress(OSError):
+                while True:
+                    threads.append(threading.Thread(target=answer,
+                                                    args=self.listener.accept()[:1], daemon=True))
+                    threads[-1].start()
+
+        self.listener.listen()
+        accepting = threading.Thread(target=accept)
+        accepting.start()
+        with vx.connect(self.path) as server:
+            number = 1
+            while Everywhere(number, ("sockets.py",), ("line", "return")).interrupts(
+                    server.context):
+                number += 1
+        self.assertGreater(number, 30)
+        self.listener.shutdown(socket.SHUT_RDWR)
+        accepting.join()
+        for thread in threads:
+            thread.join(10)
+            self.assertFalse(thread.is_alive())
+
+    def test_a_server_that_is_closed_while_a_context_opens(self):
+        """The other thread's call ends, and uses no descriptor that was closed meanwhile."""
+        def open_one():
+            with self.assertRaises((vx.ServerEnded, vx.Closed)):
+                server.context()
+            ended.set()
+
+        self.listener.listen()
+        server, ended = vx.connect(self.path), threading.Event()
+        opening = threading.Thread(target=open_one)
+        opening.start()
+        self.addCleanup(opening.join)
+        with self.listener.accept()[0] as stream:
+            # It waits for the reply now.
+            self.assertEqual(stream.recv(7, socket.MSG_WAITALL), wire.open_context(0))
+            server.close()
+            self.assertTrue(ended.wait(TIMEOUT))
+
     def test_a_reply_that_is_late(self):
         self.serve(OPENED)
         with vx.connect(self.path, timeout=SHORT) as server:
@@ -182,15 +246,73 @@ class TestSockets(unittest.TestCase):
             vx.connect(self.path, retry=30).close()
         self.assertEqual(len(pauses), 2)
 
+    def test_a_socket_that_is_removed_meanwhile(self):
+        """A door that is starting removes an old one, maybe after it has refused a connection. So
+        connecting is tried again."""
+        with mock.patch("os.stat", side_effect=FileNotFoundError):
+            self.assertRaises(ConnectionRefusedError, vx.connect, self.path)
+        # An abstract socket has no file.
+        self.assertRaises(ConnectionRefusedError, vx.connect, "\0" + self.path)
+
+    def test_retry_limits_both_waits(self):
+        """The wait for a free connection, and then the wait for somebody who listens."""
+        now = [0.0]
+
+        def pause(seconds):
+            now[0] += seconds
+            if now[0] >= 5 and os.path.exists(self.path):
+                os.unlink(self.path)
+
+        self.listener.listen()
+        full = vx.BrokerFull("open a context", wire.OPEN_CONTEXT)
+        with vx.connect(self.path, retry=10) as server, \
+                mock.patch("time.monotonic", lambda: now[0]), mock.patch("time.sleep", pause), \
+                mock.patch.object(type(server), "_context_on", side_effect=full):
+            self.assertRaises(FileNotFoundError, server.context)
+        self.assertLess(9, now[0])
+        self.assertLess(now[0], 11)
+
+    def test_a_signal_while_a_connection_waits(self):
+        """Its handler interrupts connect(), and Python takes the socket for connected."""
+        self.listener.listen(0)
+        came = []
+
+        def note(_, frame):
+            if frame.f_code.co_filename.endswith("sockets.py"):
+                came.append(frame.f_lineno)
+            if len(came) == 3:
+                # Now there is room.
+                self.addCleanup(self.listener.accept()[0].close)
+
+        self.addCleanup(signal.signal, signal.SIGALRM, signal.signal(signal.SIGALRM, note))
+        with vx.connect(self.path):
+            signal.setitimer(signal.ITIMER_REAL, 0.01, 0.01)
+            try:
+                # Nobody owns what isn't connected.
+                vx.connect(self.path, owner=os.getuid()).close()
+            finally:
+                signal.setitimer(signal.ITIMER_REAL, 0)
+        self.assertGreaterEqual(len(came), 3)
+
     def test_a_connection_that_nobody_accepts(self):
         self.listener.listen(0)
         waiting = []
         self.addCleanup(lambda: [server.close() for server in waiting])
-        start = time.monotonic()
-        with self.assertRaisesRegex(vx.TimedOut, "not accepted in 1 seconds"):
-            for _ in range(5):
-                waiting.append(vx.connect(self.path, timeout=SHORT))
-        self.assertLess(time.monotonic() - start, 40)
+        self.addCleanup(socket.setdefaulttimeout, socket.getdefaulttimeout())
+        # The timeout that a program sets for its own sockets changes nothing.
+        for default in (None, 60):
+            socket.setdefaulttimeout(default)
+            for error, words, call in (
+                    (vx.TimedOut, "not accepted in 1 seconds",
+                     lambda: waiting.append(vx.connect(self.path, timeout=SHORT))),
+                    (TimeoutError, "not accepted in 1 seconds",
+                     lambda: vx.status(self.path, timeout=SHORT))):
+                start = time.monotonic()
+                with self.assertRaisesRegex(error, words):
+                    for _ in range(5):
+                        call()
+                self.assertLess(SHORT / 2, time.monotonic() - start)
+                self.assertLess(time.monotonic() - start, 40)
 
 
 if __name__ == "__main__":

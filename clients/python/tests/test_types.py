@@ -16,6 +16,7 @@ AROUND = """
 from __future__ import annotations
 import asyncio
 from collections.abc import Callable, Iterable, Iterator
+import time
 import cv2
 import numpy
 import feqyldan as vx

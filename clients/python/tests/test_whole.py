@@ -71,8 +71,10 @@ class TestWholeNumbers(ProgramTest):
         self.assertEqual(kernel.coefficients, ((0, 1, 2), (3, 4, 5), (6, 7, 8)))
         with self.assertRaisesRegex(ValueError, "needs 256 entries, .*, not 3"):
             self.context.lut(U8, [1, 2, 3])
-        with self.assertRaisesRegex(TypeError, "entries of a lookup table must be .*, not None"):
-            self.context.lut(U8, None)
+        # The keys of a dictionary aren't its entries.
+        for wrong in (None, {value: 255 - value for value in range(256)}, set(range(256))):
+            with self.assertRaisesRegex(TypeError, "entries of a lookup table must be .*, not "):
+                self.context.lut(U8, wrong)
 
     def test_limits_and_values(self):
         for wanted in ({"above": 0}, {"between": (0, 9)}):
