@@ -7,10 +7,15 @@ If the environment variable FEQYLDAN_CORE is set to the path of libfeqyldan-core
 the process of the tests instead, and tests about a server's process are skipped.
 """
 
+import contextlib
 import faulthandler
 import os
+import socket
 import sys
+import tempfile
+import threading
 import unittest
+from typing import Iterator, List, Tuple
 
 sys.dont_write_bytecode = True
 HERE = os.path.dirname(os.path.abspath(__file__))
@@ -21,7 +26,7 @@ import feqyldan as vx  # noqa: E402
 PROGRAM = os.environ.get("FEQYLDAN_PROGRAM")
 if PROGRAM:
     # A path that is valid in every folder, because some tests run the program elsewhere.
-    PROGRAM = os.path.realpath(PROGRAM)
+    PROGRAM = os.environ["FEQYLDAN_PROGRAM"] = os.path.realpath(PROGRAM)
 CORE = os.environ.get("FEQYLDAN_CORE")
 if CORE:
     CORE = os.environ["FEQYLDAN_CORE"] = os.path.realpath(CORE)
@@ -43,12 +48,20 @@ def skip_module_in_process(why):
 needs_program = unittest.skipUnless(SERVED or CORE,
                                     "FEQYLDAN_PROGRAM isn't set to the path of the server's "
                                     "program")
-# Ends the run, and says where it was, if a test waits forever. The limit is in seconds; the run
-# takes about 170 on an idle machine.
-faulthandler.dump_traceback_later(1800, exit=True)
-
-
+# Users' programs have output that is buffered, whatever the environment of these tests says.
+os.environ.pop("PYTHONUNBUFFERED", None)
+# The seconds after which a test that waits forever ends the run, which says where it was.
+LONGEST = 1200
 INTERRUPT = "interrupt"
+start_test = unittest.TestResult.startTest
+
+
+def start_within_limit(result, test):
+    faulthandler.dump_traceback_later(LONGEST, exit=True)
+    start_test(result, test)
+
+
+unittest.TestResult.startTest = start_within_limit
 
 
 def answering(*replies, end="", said="", status=0):
@@ -84,6 +97,30 @@ def answering(*replies, end="", said="", status=0):
         "sys.stderr.flush()\n"
         f"os._exit({status})\n")
     return [sys.executable, "-c", script]
+
+
+@contextlib.contextmanager
+def closing_each() -> Iterator[Tuple[str, List[socket.socket]]]:
+    """Yields the path of a socket that closes each connection, as systemd does where none is free,
+    and these connections. After the third one it refuses them."""
+    came: List[socket.socket] = []
+
+    def close_each() -> None:
+        with contextlib.suppress(OSError):
+            for _ in range(3):
+                came.append(listener.accept()[0])
+                came[-1].close()
+            listener.shutdown(socket.SHUT_RDWR)
+
+    with tempfile.TemporaryDirectory() as folder, socket.socket(socket.AF_UNIX) as listener:
+        path = os.path.join(folder, "socket")
+        listener.bind(path)
+        listener.listen()
+        closing = threading.Thread(target=close_each)
+        closing.start()
+        yield path, came
+        listener.shutdown(socket.SHUT_RDWR)
+        closing.join()
 
 
 @needs_program
