@@ -25,7 +25,7 @@ from typing import (
 from . import wire
 from .errors import NotAPicture, WrongPicture
 from .modules import imported_now
-from .whole import NO_SEQUENCE, first_not_whole, whole
+from .whole import NO_SEQUENCE, TRUTHS, first_not_whole, whole
 
 if TYPE_CHECKING:
     import numpy
@@ -368,8 +368,7 @@ def first_outside(numbers: Sequence[int], fmt: Format) -> int:
 
 def has_truths(values: Sequence[Any]) -> bool:
     """Returns whether one of the values is True or False, also of NumPy's type."""
-    # NumPy 2 names its type as Python does.
-    return any(kind.__name__ in ("bool", "bool_") for kind in set(map(type, values)))
+    return any(kind.__name__ in TRUTHS for kind in set(map(type, values)))
 
 
 def packed(numbers: Sequence[int], fmt: Format, what: str) -> Any:

@@ -248,7 +248,7 @@ def seconds_of(timeout: Optional[float]) -> Optional[float]:
         return None
     wrong = (f"a timeout must be a number of seconds above 0 and up to 1,000,000, or None, not "
              f"{timeout!r}")
-    if not hasattr(timeout, "__float__"):
+    if isinstance(timeout, bool) or not hasattr(timeout, "__float__"):
         raise TypeError(wrong)
     if not 0 < timeout <= 1e6:
         raise ValueError(wrong)

@@ -42,7 +42,7 @@ class SocketServer(Server):
 
     def __init__(self, path: Path, *, timeout: Optional[float] = None, retry: float = 0.0,
                  owner: Union[int, str, None] = None) -> None:
-        if not hasattr(retry, "__float__") or not retry >= 0:
+        if isinstance(retry, bool) or not hasattr(retry, "__float__") or not retry >= 0:
             raise ValueError(f"retry must be a number of seconds, 0 or more, not {retry!r}")
         self._path, self._timeout, self._retry = os.fspath(path), seconds_of(timeout), retry
         self._owner = None if owner is None else user_number(owner)

@@ -17,14 +17,19 @@ class Field(NamedTuple):
 BYTE, UNSIGNED, SIGNED = Field(0, 255), Field(0, 65535), Field(-32768, 32767)
 
 
+# The names of the types of True and False, Python's and NumPy's. NumPy 2 names its type as Python
+# does.
+TRUTHS = "bool", "bool_"
 # What the iteration over a value that is no sequence raises; the second for rows in memory.
 NO_SEQUENCE = TypeError, NotImplementedError
 
 
 def whole(value: Any, what: str, allowed: str = "a whole number") -> int:
-    """Returns a whole number as an int. Raises TypeError for anything else, even for 0.5 and
-    2.0."""
+    """Returns a whole number as an int. Raises TypeError for anything else, even for 0.5, 2.0 and
+    True, which is often a parameter at a wrong place."""
     try:
+        if type(value).__name__ in TRUTHS:
+            raise TypeError
         return operator.index(value)
     except TypeError:
         raise TypeError(f"{what} must be {allowed}, not {value!r}") from None

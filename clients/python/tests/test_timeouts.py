@@ -76,11 +76,12 @@ class TestOwnServers(unittest.TestCase):
             self.assertRaises(ValueError, vx.Server, answering(), timeout=wrong)
             self.assertRaises(ValueError, vx.connect, "/no/such/socket", timeout=wrong)
         for call in (vx.Server, vx.connect):
-            with self.assertRaisesRegex(TypeError, "timeout must be a number of .*, not '5'"):
-                call("/no/such", timeout="5")
+            for wrong in ("5", True):
+                with self.assertRaisesRegex(TypeError, f"timeout must be .*, not {wrong!r}"):
+                    call("/no/such", timeout=wrong)
         self.assertRaisesRegex(ValueError, "retry must be .*, not '5'", vx.connect, "/no/such",
                                retry="5")
-        for wrong in (-1, float("nan")):
+        for wrong in (-1, float("nan"), True):
             with self.assertRaisesRegex(ValueError, f"retry must be .*, not {wrong}"):
                 vx.connect("/no/such/socket", retry=wrong)
 

@@ -180,12 +180,31 @@ class TestWholeNumbers(ProgramTest):
             self.assertRaises((TypeError, ValueError), wide.write, array.array(letter, [0.5] * 3))
         self.holds(wide, [[0] * 24])
 
+    def test_truths(self):
+        """True at the place of a number is an argument at a wrong place, not a 1."""
+        context, vxu = self.context, self.context.vxu
+        image, deep = context.image(U8, 2, 2), context.image(S16, 2, 2)
+        slots = context.delay(image, 2)
+        for wrong in [True, False] + ([numpy.bool_(True)] if numpy else []):
+            for call in (lambda: vxu.multiply(image, image, wrong, vx.WRAP, deep),
+                         lambda: vxu.convert_depth(image, deep, vx.WRAP, wrong),
+                         lambda: vxu.accumulate_square(image, wrong, deep),
+                         lambda: vx.constant(wrong), lambda: context.image(wrong, 1, 1),
+                         lambda: context.image(U8, 1, wrong), lambda: context.delay(image, wrong),
+                         lambda: context.threshold(U8, above=wrong), lambda: slots[wrong],
+                         lambda: context.distribution(8, wrong),
+                         lambda: context.convolution([[wrong] * 3] * 3),
+                         lambda: setattr(image, "valid", (0, 0, 1, wrong)),
+                         lambda: vx.Server(SERVED, quota=wrong)):
+                self.assertRaisesRegex(TypeError, f"not {wrong!r}", call)
+        self.assertEqual(image.valid, (0, 0, 2, 2))
+
     def test_what_is_whole(self):
         class Three:
             def __index__(self):
                 return 3
 
-        self.assertEqual(self.context.image(U8, Three(), True).shape, (1, 3))
+        self.assertEqual(self.context.image(U8, Three(), 1).shape, (1, 3))
         if numpy:
             self.assertEqual(self.context.image(U8, numpy.int64(3), numpy.uint8(2)).shape, (2, 3))
 
