@@ -171,7 +171,7 @@ class AnyImage(Readable):
         Returns all samples as a NumPy array of shape (height, width) and dtype uint8, int16 or
         uint32; without NumPy as a memoryview of that shape. The caller owns the result, and may
         change it. With `out`, an array of that shape and dtype, reads the samples into `out` and
-        returns it. Raises BadPicture for any other `out`.
+        returns it. Raises BadPicture for any other `out`, and if its samples overlap in memory.
         """
         if out is None:
             return self.context._ask(*self._reading())

@@ -444,7 +444,21 @@ def place_in(out: Any, described: Size) -> Optional[memoryview]:
         raise WrongPicture(f"a {fmt} picture of {width} by {height} is read into a NumPy array of "
                            f"shape {(height, width)} and dtype {dtype_of(fmt)}, not one of "
                            f"{out.shape} and {out.dtype}{kind}")
+    if overlaps(out):
+        raise WrongPicture("a picture can't be read into an array whose samples overlap in memory, "
+                           f"as those of numpy.broadcast_to() do; its strides are {out.strides}")
     return memoryview(out).cast("B") if out.flags.c_contiguous else None
+
+
+def overlaps(pixels: Picture) -> bool:
+    """Returns whether samples of an array overlap in memory. Those of slices don't."""
+    end = pixels.itemsize
+    for stride, count in sorted((abs(stride), count)
+                                for stride, count in zip(pixels.strides, pixels.shape)):
+        if count > 1 and stride < end:
+            return True
+        end += stride * (count - 1)
+    return False
 
 
 def turned(pixels: Picture) -> Picture:

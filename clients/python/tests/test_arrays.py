@@ -73,6 +73,18 @@ class TestArrays(ProgramTest):
                 image.read(out)
         self.assertEqual(image.read().tolist(), [[1, 2]])
 
+    def test_a_picture_isnt_read_into_samples_that_overlap(self):
+        """The later rows would replace the earlier ones."""
+        image, memory = self.context.image(vx.U8, 4, 3), numpy.zeros(24, "uint8")
+        image.write(numpy.arange(12, dtype="uint8").reshape(3, 4))
+        for strides in ((0, 1), (4, 0), (1, 1), (3, 1), (1, 2)):
+            with self.assertRaisesRegex(vx.WrongPicture, "whose samples overlap in memory"):
+                image.read(numpy.lib.stride_tricks.as_strided(memory, (3, 4), strides))
+        self.assertFalse(memory.any())
+        for out in (memory.reshape(6, 4)[::-2], memory.reshape(3, 8)[:, ::-2],
+                    memory.reshape(4, 6)[:, :3].T):
+            self.assertEqual(image.read(out).tolist(), image.read().tolist())
+
     def test_both_signatures(self):
         """NumPy 1 calls it with nothing or a type; NumPy 2 also says whether a copy may be made."""
         image = self.context.image_from([[1, 2]])
