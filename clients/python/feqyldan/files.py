@@ -26,11 +26,14 @@ JPEG_2000 = b"\0\0\0\x0cjP  \r\n\x87\n", b"\xff\x4f\xff\x51"
 SIZES = JPEG_2000[1]
 SUN_RASTER = b"\x59\xa6\x6a\x95"
 POSTSCRIPT = b"%!PS", b"\xc5\xd0\xd3\xc6"
+# The begin of an SGI file of 16 bits, without or with compression; and that of a FITS file.
+WIDE_SGI = b"\x01\xda\0\2", b"\x01\xda\1\2"
+FITS = b"SIMPLE"
 # The byte order of a TIFF file by its first bytes, and the bytes of its places and counts: BigTIFF
-# has longer ones. And its tag with the bits of each sample.
+# has longer ones. And its tags with the bits of each sample, and with the kind of its number.
 TIFF: Dict[bytes, Tuple[Literal["little", "big"], int]] = {
     b"II*\0": ("little", 4), b"MM\0*": ("big", 4), b"II+\0": ("little", 8), b"MM\0+": ("big", 8)}
-BITS_OF_SAMPLE = 258
+BITS_OF_SAMPLE, KIND_OF_SAMPLE, SIGNED = 258, 339, 2
 # Endings of formats that change U8 samples a little.
 LOSSY = {".jpg", ".jpeg", ".jpe", ".jfif", ".mpo", ".webp", ".avif"}
 # A marker of a JPEG file. Within samples 0xff is followed by 0, or by 0xd0 to 0xd7.
@@ -93,6 +96,9 @@ def _decoded(content: bytes) -> Any:
     if cv2 is None and (is_wide_in_colours(content) or len(bits) > 1 and max(bits) > 8):
         raise WrongPicture("this is a file of 16 bits in colours or with alpha, which PIL reads as "
                            "8 bits: install OpenCV, or convert the file to grey")
+    if content.startswith(WIDE_SGI):
+        raise WrongPicture("this is an SGI file of 16 bits, which OpenCV doesn't read, and PIL "
+                           "reads as 8 bits: convert the file to PNG")
     maxval = maxval_of_ppm(content)
     if maxval != 255 and (cv2 is None or maxval < 255 and content.startswith(b"P3")):
         raise WrongPicture(f"this is a PPM file with the maxval {maxval}, whose samples "
@@ -138,9 +144,9 @@ def maxval_of_ppm(content: bytes) -> int:
     return int(header[3]) if header else 255
 
 
-def bits_of_tiff(content: bytes) -> Tuple[int, ...]:
+def bits_of_tiff(content: bytes, tag: int = BITS_OF_SAMPLE) -> Tuple[int, ...]:
     """Returns the bits of the samples of a pixel in the first picture of a TIFF file, such as 8, 8
-    and 8; a single 0 if there are none, as in any other file."""
+    and 8, or the numbers of another tag; a single 0 if there are none, as in any other file."""
     if content[:4] not in TIFF:
         return (0,)
     order, long = TIFF[content[:4]]
@@ -153,7 +159,7 @@ def bits_of_tiff(content: bytes) -> Tuple[int, ...]:
     first = start + head
     for entry in range(first, first + size * min(65535, number(start, head)), size):
         count = number(entry + 4, long)
-        if number(entry, 2) == BITS_OF_SAMPLE and count:
+        if number(entry, 2) == tag and count:
             # The value is the numbers, if they have room in it, or else their place.
             at = entry + 4 + long
             at = at if 2 * count <= long else number(at, long)
@@ -208,8 +214,9 @@ def _by_cv2(cv2: Any, content: bytes) -> Any:
 
 def _by_pil(pil: Any, content: bytes) -> Any:
     numpy = numpy_module()
-    if content.startswith(POSTSCRIPT):
-        # Such a file is a program, which needn't end. PIL would let Ghostscript run it.
+    if content.startswith((*POSTSCRIPT, FITS)):
+        # A file of PostScript is a program, which needn't end. PIL would let Ghostscript run it. It
+        # swaps the bytes of FITS.
         return None
     try:
         with pil.open(io.BytesIO(content)) as picture:
@@ -221,6 +228,10 @@ def _by_pil(pil: Any, content: bytes) -> Any:
     except Exception:
         # PIL raises errors of many classes for a file that is truncated or damaged.
         return None
+    if pixels.dtype == numpy.int32 and bits_of_tiff(content) == (32,) and (
+            bits_of_tiff(content, KIND_OF_SAMPLE) != (SIGNED,)):
+        # PIL takes the greatest unsigned samples of 32 bits for negative ones.
+        return pixels.view(numpy.uint32)
     # PIL holds the unsigned samples of a PNG file of 16 bits in 32.
     is_wide = pixels.dtype.kind == "i" and content.startswith(PNG)
     return pixels.astype(numpy.uint16) if is_wide else pixels

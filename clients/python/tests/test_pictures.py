@@ -529,6 +529,43 @@ class TestOtherFiles(ProgramTest):
                 else:
                     self.assertEqual(self.context.load(path).read()[7, 9], 1000)
 
+    def test_sgi_files_of_16_bits(self):
+        """PIL reads them as 8 bits."""
+        for samples_of_pixel in (1, 3, 4):
+            head = struct.pack(">H2B4H2i", 474, 0, 1, 2 if samples_of_pixel == 1 else 3, 2, 1,
+                               samples_of_pixel, 0, 255).ljust(512, b"\0")
+            narrow = self.put("a.sgi", head + bytes([9, 200]) * samples_of_pixel)
+            wide = self.put("b.sgi", head[:3] + b"\2" + head[4:]
+                            + struct.pack(">2H", 1000, 30000) * samples_of_pixel)
+            for missing in self.readers():
+                if missing == "cv2":
+                    self.holds(self.context.load(narrow), [[9, 200]])
+                for scale in (False, True):
+                    self.assertRaisesRegex(vx.BadPicture, "b.sgi: this is an SGI file of 16 bits",
+                                           self.context.load, wide, scale=scale)
+
+    def test_fits(self):
+        """PIL swaps the bytes of its samples."""
+        cards = ("SIMPLE  = T", "BITPIX  = 32", "NAXIS   = 2", "NAXIS1  = 2", "NAXIS2  = 1", "END")
+        path = self.put("a.fits", "".join(card.ljust(80) for card in cards).encode().ljust(2880)
+                        + struct.pack(">2i", 5 << 24, 7 << 24).ljust(2880, b"\0"))
+        for _ in self.readers():
+            self.assertRaisesRegex(vx.BadPicture, "a.fits: this isn't a picture that",
+                                   self.context.load, path)
+
+    def test_tiff_files_of_32_bits(self):
+        """PIL takes the greatest unsigned samples for negative ones."""
+        for order in "<>":
+            content = struct.pack(order + "2I", 5, 2**32 - 7)
+            signed = self.put("a.tif", self.tiff((1, 2), [32], content, (339, 2), order=order))
+            others = [self.put(f"{number}.tif", self.tiff((1, 2), [32], content, *tags,
+                                                          order=order))
+                      for number, tags in enumerate(([(339, 1)], []))]
+            for _ in self.readers():
+                self.holds(self.context.load(signed), [[5, -7]])
+                for path in others:
+                    self.assertRaises(vx.BadPicture, self.context.load, path)
+
     def test_colours_of_another_maxval(self):
         """PIL scales them to 8 bits, and OpenCV some of them."""
         wide = struct.pack(">6H", *[1000] * 3, *[30000] * 3)
