@@ -20,7 +20,7 @@ import threading
 import time
 from collections import deque
 from contextlib import ExitStack
-from typing import Any, Deque, Iterable, Iterator, List, Optional, Sequence, Tuple
+from typing import Any, Callable, Deque, Iterable, Iterator, List, Optional, Sequence, Tuple
 
 from . import __version__
 from .errors import FeqyldanError, Refused
@@ -228,7 +228,7 @@ def run(told: argparse.Namespace) -> int:
         station = Reader(context, told.graph).read(contents)
         camera = input_of(station, told.graph)
         report = Report(told, paths, files_read(told.graph, contents), station, ends)
-        pictures = Pictures(progress(paths, told.quiet), camera, told.skip)
+        pictures = Pictures(progress(paths, told.quiet), camera, report.skip if told.skip else None)
         results = station.graph.stream(pictures, camera, list(station.outputs.values()))
         for path, values in with_paths(results, pictures):
             report.add(path, dict(zip(station.outputs, values)))
@@ -241,12 +241,14 @@ def run(told: argparse.Namespace) -> int:
 
 class Pictures:
     """
-    Loads pictures for a stream. `pending` has the paths of those without a result. With `skips`, a
-    picture that can't be read, or that isn't one for the camera, is named and counted.
+    Loads pictures for a stream. `pending` has the paths of those without a result. With `skip`, a
+    picture that can't be read, or that isn't one for the camera, is named and counted, and skip()
+    gets its path.
     """
 
-    def __init__(self, paths: Iterable[str], camera: AnyImage, skips: bool) -> None:
-        self._paths, self._camera, self._skips = paths, camera, skips
+    def __init__(self, paths: Iterable[str], camera: AnyImage,
+                 skip: Optional[Callable[[str], None]]) -> None:
+        self._paths, self._camera, self._skip = paths, camera, skip
         self.pending: Deque[str] = deque()
         self.skipped = 0
 
@@ -255,17 +257,18 @@ class Pictures:
             try:
                 picture = self._load(path)
             except FAULTS as error:
-                if not self._skips:
+                if self._skip is None:
                     raise
                 self.skipped += 1
                 say(f"skipped {in_words(error, path)}")
+                self._skip(path)
                 continue
             self.pending.append(path)
             yield picture
 
     def _load(self, path: str) -> Any:
         picture = load(path)
-        if self._skips:
+        if self._skip is not None:
             self._camera._look_at_samples(samples_of(picture, self._camera._described), "")
         return picture
 

@@ -21,7 +21,7 @@ from .objects import Distribution, MinMax
 from .pictures import write_npy, write_png
 from .regions import regions
 from .samples import Format, numpy_module
-from .storage import write_bytes
+from .storage import fault_of_name, remove_result, write_bytes
 
 # The value of --csv for standard output, and its name in messages.
 STANDARD_OUTPUT, STANDARD_OUTPUT_NAME = "-", "standard output"
@@ -63,11 +63,16 @@ class Report:
             return
         for name, fault in ((name, fault_of_name(name)) for name in self._images):
             if fault and len(self._images) > 1:
-                raise ValueError(f"{told.graph}: the name {json.dumps(name)} {fault}, and --out "
-                                 "names files by images: rename the image")
+                quoted = json.dumps(name, ensure_ascii=False)
+                raise ValueError(f"{told.graph}: the name {quoted} {fault}, and --out names files "
+                                 "by images: rename the image")
         numbers = None if told.csv in (None, STANDARD_OUTPUT) else identity(told.csv)
         writers: Dict[str, Tuple[int, str]] = {}
         for number, path, file in self._files_of(paths):
+            fault = fault_of_name(os.path.basename(file))
+            if fault:
+                raise ValueError(f"--out {self._folder}: the image of {path} would be {file}, "
+                                 f"which {fault}: rename the picture, or the image in the graph")
             there = identity(file)
             if there == numbers:
                 raise ValueError(f"--csv {told.csv} would be overwritten by the image of {path}: "
@@ -108,10 +113,15 @@ class Report:
         """Adds the results of a picture. Until the first ones an older CSV file stays as it was."""
         if self._folder is not None:
             for name, stem in self._stems_of(path).items():
-                write(stem, values[name])
+                write(stem, values[name], ENDINGS[self._images[name].fmt])
         if self._file_name is not None:
             self._write_lines([path, *(number for value in values.values()
                                        for number in numbers_in(value, self._least))])
+
+    def skip(self, path: str) -> None:
+        """Removes the images of a picture that an earlier run has left, since this run has none."""
+        for _, _, file in self._files_of([path] if self._folder is not None else []):
+            remove_result(file)
 
     def end(self) -> None:
         """Writes the head of the CSV file if there was no result."""
@@ -204,15 +214,6 @@ def files_read(path: str, contents: Dict[str, Any]) -> List[str]:
     return [path, *(os.path.join(os.path.dirname(path), file) for file in files_in(contents))]
 
 
-def fault_of_name(name: str) -> str:
-    """Returns in words why an image's name can't be in the name of a file; empty if it can."""
-    try:
-        os.fsencode(name)
-    except UnicodeEncodeError:
-        return "has a character that a file name can't have"
-    return 'has a "/"' if "/" in name else ""
-
-
 def identity(path: str) -> Tuple[Any, ...]:
     """Returns the identity of a file, whatever its path."""
     # A folder before a ".." may not exist until it is created for the results. The real path leads
@@ -229,12 +230,18 @@ def identity(path: str) -> Tuple[Any, ...]:
 ENDINGS = {Format.U8: (".png",), Format.S16: (".png", ".npy"), Format.U32: (".npy",)}
 
 
-def write(path: str, picture: Any) -> None:
-    """Writes a PNG file, or an .npy file if there are negative or U32 samples."""
+def write(path: str, picture: Any, endings: Sequence[str]) -> None:
+    """Writes a PNG file, or an .npy file if there are negative or U32 samples. An earlier run may
+    have left a file with the other one of the endings, which is removed."""
+    ending = ".png"
     try:
         write_png(f"{path}.png", picture)
     except ValueError:
+        ending = ".npy"
         write_npy(f"{path}.npy", picture)
+    for other in endings:
+        if other != ending:
+            remove_result(path + other)
 
 
 def columns_of(outputs: Dict[str, Any], least: Optional[int]) -> Iterator[str]:

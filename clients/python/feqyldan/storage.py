@@ -15,6 +15,8 @@ from .errors import BadPicture, Closed, Refused
 Path = Union[str, "os.PathLike[str]"]
 # The most bytes of a file that is read: more than any picture for an image has.
 GREATEST_FILE = 1 << 29
+# The most bytes of the name of a file in its folder.
+MOST_NAME = 255
 
 
 def name_of_file(path: Any) -> str:
@@ -28,6 +30,20 @@ def name_of_file(path: Any) -> str:
         raise ValueError(f"a path has no byte 0, and this one begins with {name[:20]!r}: give the "
                          "path of the file, not its bytes")
     return name
+
+
+def fault_of_name(name: str) -> str:
+    """Returns in words why a file in a folder can't have a name, or a name with this part; empty if
+    it can."""
+    try:
+        count = len(os.fsencode(name))
+    except UnicodeEncodeError:
+        return "has a character that a file name can't have"
+    if "\0" in name:
+        return "has a character that a file name can't have"
+    if "/" in name:
+        return 'has a "/"'
+    return f"has {count} bytes, and a file name at most {MOST_NAME}" if count > MOST_NAME else ""
 
 
 def cause_of(error: Exception) -> str:
@@ -87,23 +103,49 @@ def write_bytes(path: Path, parts: Sequence[Any]) -> None:
 def _replace(target: str, parts: Sequence[Any]) -> None:
     """Writes a new file, and gives it the name and the mode of a target."""
     temporary = os.path.join(os.path.dirname(target), f".feqyldan-{secrets.token_hex(8)}")
-    exists = os.path.exists(target)
-    if exists and not os.access(target, os.W_OK):
-        raise PermissionError(errno.EACCES, os.strerror(errno.EACCES))
+    _check_writable(target)
     try:
-        with open(temporary, "xb") as file:
-            if exists:
-                os.fchmod(file.fileno(), stat.S_IMODE(os.stat(target).st_mode))
-            file.writelines(parts)
-            file.flush()
-            os.fsync(file.fileno())
-            if os.fstat(file.fileno()).st_size != sum(map(len, parts)):
-                raise OSError(errno.EIO, "the disk didn't take all bytes")
-        os.replace(temporary, target)
+        try:
+            _write_new(temporary, target, parts)
+            os.replace(temporary, target)
+        except BaseException:
+            _remove(temporary)
+            raise
     except BaseException:
-        with contextlib.suppress(OSError):
-            os.unlink(temporary)
+        # After an error of the disk, the first removal may have been interrupted.
+        _remove(temporary)
         raise
+
+
+def _write_new(temporary: str, target: str, parts: Sequence[Any]) -> None:
+    """Writes a new file, with the mode of the target if there is one."""
+    with open(temporary, "xb") as file:
+        if os.path.exists(target):
+            os.fchmod(file.fileno(), stat.S_IMODE(os.stat(target).st_mode))
+        file.writelines(parts)
+        file.flush()
+        os.fsync(file.fileno())
+        if os.fstat(file.fileno()).st_size != sum(map(len, parts)):
+            raise OSError(errno.EIO, "the disk didn't take all bytes")
+
+
+def _remove(path: str) -> None:
+    with contextlib.suppress(OSError):
+        os.unlink(path)
+
+
+def _check_writable(path: str) -> None:
+    """Raises PermissionError for a file that is write-protected."""
+    if os.path.exists(path) and not os.access(path, os.W_OK):
+        raise PermissionError(errno.EACCES, os.strerror(errno.EACCES), path)
+
+
+def remove_result(path: str) -> None:
+    """Removes a file that write_bytes() would replace, if there is one. Raises OSError, which names
+    the file, if it is write-protected or can't be removed."""
+    _check_writable(path)
+    with contextlib.suppress(FileNotFoundError):
+        os.unlink(path)
 
 
 @contextlib.contextmanager

@@ -930,6 +930,24 @@ class TestCommandLine(FolderTest):
         self.assertIn("skipped none.pgm: No such file", said)
         self.run_command("run", "station.json", "--in", "none*.pgm", "--skip", status=1)
 
+    def test_images_of_an_earlier_run(self):
+        """Those of a picture that is skipped now were taken for results of this run, and so were
+        those in the other format."""
+        words = "run", "station.json", "--in", "part1.pgm", "none.pgm", "part2.pgm", "--out", "out"
+        self.run_command(*words, "--skip", status=3)
+        there = sorted(os.listdir(self.path("out")))
+        for name in ("part1.edges.png", "none.marks.png", "part1.marks.npy", "part3.marks.png"):
+            self.put(f"out/{name}", "older")
+        vx.write_pgm(self.path("part2.pgm"), [[1, 2]])
+        self.run_command(*words, "--skip", status=3)
+        self.assertEqual(sorted(os.listdir(self.path("out"))), sorted(
+            ["part1.marks.npy", "part3.marks.png",
+             *(name for name in there if not name.startswith("part2"))]))
+        # Without --skip a run that fails removes nothing.
+        self.put("out/part2.marks.png", "older")
+        self.run_command(*words, status=1)
+        self.assertIn("part2.marks.png", os.listdir(self.path("out")))
+
     def test_a_file_whose_name_is_the_pattern(self):
         """It hid the other files that match."""
         def pictures_of(*words, **others):
@@ -1270,6 +1288,21 @@ class TestCommandLine(FolderTest):
         _, said = self.run_command(*words, "--out", "marks", status=1)
         self.assertIn('plain.json: the name "../evil" has a "/"', said)
         self.run_command(*words)
+
+    def test_outputs_with_a_letter(self):
+        """It is shown as it is."""
+        self.plain("marks", "Ma\xdf/e")
+        _, said = self.run_command("run", "plain.json", "--in", "a/f1.pgm", "--out", "marks",
+                                   status=1)
+        self.assertIn('the name "Ma\xdf/e" has a "/"', said)
+
+    def test_outputs_with_too_long_a_name(self):
+        self.plain("marks", "\xe4" * 125)
+        _, said = self.run_command("run", "plain.json", "--in", "a/f1.pgm", "--out", "marks",
+                                   status=1)
+        self.assertRegex(said, "the image of a/f1.pgm would be marks/f1.\xe4+.png, which has 257 "
+                         "bytes, and a file name at most 255: rename the picture, or the image")
+        self.assertFalse(os.path.exists(self.path("marks")))
 
     def test_outputs_that_are_in_no_file_name(self):
         for name, fault, before in (

@@ -707,6 +707,24 @@ class TestFiles(unittest.TestCase):
                 self.assertIn(storage.read_bytes(path), (b"old", b"new"))
             self.assertGreater(number, 8)
 
+    def test_each_line_after_an_error(self):
+        """The new file is removed, too, if its removal is interrupted."""
+        def save():
+            with self.assertRaises(OSError):
+                storage.write_bytes(path, [b"new"])
+
+        folder = tempfile.TemporaryDirectory()
+        self.addCleanup(folder.cleanup)
+        path = os.path.join(folder.name, "picture")
+        with mock.patch("os.fsync", side_effect=OSError):
+            number, is_interrupted = 0, True
+            while is_interrupted:
+                number += 1
+                trace = Everywhere(number, ("storage.py",), ("line", "return"))
+                is_interrupted = trace.interrupts(save)
+                self.assertEqual(os.listdir(folder.name), [])
+        self.assertGreater(number, 8)
+
 
 @of_a_process
 class TestQuietEnds(ProgramTest):
