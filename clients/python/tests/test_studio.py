@@ -10,6 +10,8 @@ import random
 import socket
 import stat
 import tempfile
+import threading
+import time
 import unittest
 from unittest import mock
 
@@ -637,6 +639,10 @@ class TestFile(StudioTest):
         self.put("data.json", "{}")
         for name in ("../a.json", "/tmp/a.json", "a.txt", ".a.json", "", "sub/a.json", "data.json"):
             self.refused(403, calls["save"], "", contents=told, name=name)
+        for name, words in (("a\0.json", "has a character that a file name can't have"),
+                            ("\ud800.json", "has a character that a file name can't have"),
+                            ("\xe4" * 126 + ".json", "has 257 bytes, and a file name at most 255")):
+            self.refused(403, calls["save"], words, contents=told, name=name)
         self.refused(409, calls["save"], "other.json exists already", contents=told,
                      name="other.json")
         self.assertEqual(self.save(calls, told, "new.json")["name"], "new.json")
@@ -679,6 +685,29 @@ class TestFile(StudioTest):
             self.put("station.json", text.replace("Infinity", "1e999"))
             with self.assertRaisesRegex(vx.GraphFileError, words):
                 self.studio()
+
+    def test_a_number_that_the_page_would_change(self):
+        """JavaScript takes 100.0 for 100, and `run` refuses it."""
+        calls = self.studio()
+        for value, number in ((100.0, 100), ([[7, 1e2]], 100), (100.5, ""), (1e21, ""), (100, "")):
+            self.put("real.json", {**contents(limit={"kind": "threshold", "above": value})})
+            note = calls["open"]({"name": "real.json"})["note"]
+            self.assertEqual(note, number and "The file has the number 100.0, which run refuses, "
+                             "and this page shows 100: save the graph to write that.")
+
+    def test_the_end_of_the_studio_waits_for_a_file(self):
+        """Threads of calls end with the program."""
+        studio, goes_on = Studio(self.file, []), threading.Event()
+        with mock.patch("os.fsync", lambda _: goes_on.wait(30)):
+            saving = threading.Thread(target=studio.calls["save"],
+                                      args=({"contents": contents(), "name": "new.json"},))
+            saving.start()
+            while not any(name.startswith(".feq") for name in os.listdir(self.folder)):
+                time.sleep(0.01)
+            threading.Timer(0.3, goes_on.set).start()
+            studio.close()
+            self.assertEqual(self.text("new.json").decode(), vx.graph_text(contents()))
+            saving.join()
 
     def test_only_the_studios_pictures(self):
         secret = self.path("secret.pgm")

@@ -599,6 +599,7 @@ class TestPage(PageTest):
         page = self.start(SCRATCHES)
         page.choose("over")
         for wish, name in (("bright", "bright"), ("camera", "bright"), ("a/b", "bright"),
+                           ("\xe4" * 101, "bright"),
                            ("toString", "toString"), ("bright", "bright")):
             page.find("#p-name").send_keys(CONTROL, "a", CONTROL, wish, TAB)
             page.idle()
@@ -606,6 +607,20 @@ class TestPage(PageTest):
             self.assertEqual(page.contents["nodes"][2]["input"], name)
             self.assertEqual("isn't possible as a name" in page.status, wish != name)
         self.assertEqual(page.run("return studio.chosen"), "bright")
+
+    def test_a_real_number(self):
+        """JavaScript takes it for a whole one, which `run` doesn't."""
+        self.put("real.json", vx.graph_text(SCRATCHES).replace('"above": 24', '"above": 24.0'))
+        page = self.start(SCRATCHES)
+        page.control("o")
+        page.until("return document.getElementById('question').open")
+        page.find("#question-field select").send_keys("real", ENTER)
+        page.until("return studio.about.name === 'real.json'")
+        page.idle()
+        self.assertIn("has the number 24.0, which run refuses, and this page shows 24", page.status)
+        page.control("s")
+        page.until("return document.getElementById('status').textContent === 'Saved real.json'")
+        self.assertEqual(json.dumps(self.saved("real.json")), json.dumps(SCRATCHES))
 
     def test_no_picture(self):
         page = self.start(SCRATCHES)

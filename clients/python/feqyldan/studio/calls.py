@@ -45,6 +45,9 @@ class Studio:
     def close(self) -> None:
         self._chosen.close()
         self._others.close()
+        # The threads of calls end with the program, and a file that is being saved is whole before.
+        with self._filing:
+            pass
 
     def _about(self, told: Dict[str, Any]) -> Any:
         with self._filing:

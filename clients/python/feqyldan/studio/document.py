@@ -18,12 +18,14 @@ from ..graph_files import (
     VERSION, GraphFileError, Place, at_place, checked, files_in, graph_text, told_by)
 from ..json_files import GREATEST_FILE
 from ..samples import Format, samples_of
-from ..storage import naming, natural, read_bytes, write_bytes
+from ..storage import fault_of_name, naming, natural, read_bytes, write_bytes
 from .drafts import Blobs
 from .web import Refusal
 
 # The format and the sides of the input of a new graph without pictures.
 NEW_SHAPE = Format.U8, 640, 480
+# JavaScript writes whole numbers from this one on with an exponent, as Python does real ones.
+LEAST_WITH_EXPONENT = 1e21
 
 
 class Document:
@@ -63,7 +65,7 @@ class Document:
         self._read[name] = contents, text
         self._files |= set(files_in(contents))
         return {"name": name, "folder": self.folder, "files": self.files, "stamp": stamp_of(text),
-                "contents": self._blobs.lightened(contents)}
+                "contents": self._blobs.lightened(contents), "note": note_of(contents)}
 
     def graphs(self) -> List[str]:
         """Returns the names of the graph files in the folder."""
@@ -126,6 +128,9 @@ class Document:
         if not is_plain:
             raise Refusal(403, f"{name!r} is no name for a graph file: give a name that ends in "
                           ".json, without a folder")
+        fault = fault_of_name(name)
+        if fault:
+            raise Refusal(403, f"the name {name!r} {fault}: give another name")
         path = self.path_of(name)
         if name not in self._read and os.path.lexists(path) and not is_graph_file(path):
             raise Refusal(403, f"{name} exists, and isn't a graph file: give another name")
@@ -166,6 +171,18 @@ def check_numbers(told: Dict[str, Any]) -> None:
         json.dumps(told, allow_nan=False)
     except ValueError:
         raise ValueError("it has a number that is too large, or NaN: write another one") from None
+
+
+def note_of(contents: Dict[str, Any]) -> str:
+    """Returns words about a number such as 100.0, which JavaScript takes for 100; empty if there is
+    none."""
+    found: List[str] = []
+    json.loads(json.dumps(contents), parse_float=found.append)
+    for digits in found:
+        if float(digits).is_integer() and abs(float(digits)) < LEAST_WITH_EXPONENT:
+            return (f"The file has the number {digits}, which run refuses, and this page shows "
+                    f"{float(digits):.0f}: save the graph to write that.")
+    return ""
 
 
 def new_contents(pictures: Sequence[str]) -> Dict[str, Any]:

@@ -45,6 +45,8 @@ class Studio {
     // The chosen node, if it has no output that could be chosen.
     this.outputless = -1
     this.runAnew()
+    // The start of a run has cleared what was said.
+    if (this.about.note) this.say(this.about.note, true)
   }
 
   get pictureName () { return this.about.pictures[this.at] ?? 'no picture' }

@@ -4,6 +4,8 @@ import { textOf } from './values.js'
 const MOST_UNDONE = 500
 const INPUTS = ['input', 'in1', 'in2']
 const IMAGES = ['image', 'virtual image', 'delay']
+// The most bytes of a name: run puts it into the names of files, after that of the picture.
+const MOST_NAME = 200
 
 export class Model {
   constructor (about) {
@@ -175,7 +177,8 @@ export class Model {
   // Returns whether the name can be given to the object.
   rename (old, wish) {
     const name = wish.trim()
-    if (!name || name === old || this.has(name) || /\/|\[(0|-\d+)\]$/.test(name)) return false
+    if (!name || name === old || this.has(name) || /\/|\0|\[(0|-\d+)\]$/.test(name)) return false
+    if (new TextEncoder().encode(name).length > MOST_NAME) return false
     for (const node of this.nodes) {
       this.operands(node).filter(([, one]) => this.base(one) === old)
         .forEach(([p, one]) => { node[p] = name + one.slice(old.length) })

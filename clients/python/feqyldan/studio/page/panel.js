@@ -123,7 +123,7 @@ export class Panel {
       const wish = field.value.trim()
       if (wish === base || studio.rename(base, wish)) return
       field.value = base
-      studio.say(`“${wish}” isn't possible as a name: another object has it, or it is empty, has a “/” or ends as a slot does.`, true)
+      studio.say(`“${wish}” isn't possible as a name: another object has it, or it is empty or too long, has a “/” or ends as a slot does.`, true)
     }
     const kind = textOf(told.kind ?? '')
     const part = section(TITLES[kind] ?? kind, row('name', field))
