@@ -935,6 +935,20 @@ class TestFaultyFiles(PageTest):
                              {"kind": "threshold", "format": "U8", **limit})
             self.assertEqual(page.faults, [])
 
+    def test_a_table_that_is_too_short_is_given_back(self):
+        """It got the length of the table that was typed for a moment."""
+        told = json.loads(json.dumps(SCRATCHES))
+        told["objects"]["table"] = {"kind": "lookup table", "format": "U8", "entries": [3, 2, 1]}
+        told["nodes"].append({"function": "table_lookup", "input": "camera", "lut": "table",
+                              "output": "turned"})
+        told["objects"]["turned"] = image()
+        page = self.start(told)
+        page.choose("turned")
+        page.find("#p-gain-n").send_keys(CONTROL, "a", CONTROL, "20", TAB)
+        page.idle()
+        self.assertIn("20 isn't possible here", page.status)
+        self.assertEqual(page.contents, told)
+
     def test_an_output_that_is_not_there(self):
         """Its node can be chosen, and removed."""
         told = json.loads(json.dumps(SCRATCHES))

@@ -199,6 +199,7 @@ export class Model {
 // Gives an object the values that it had before.
 function restore (now, before) {
   Object.keys(now).filter(key => !Object.hasOwn(before, key)).forEach(key => delete now[key])
+  if (Array.isArray(now)) now.length = before.length ?? 0
   for (const [key, value] of Object.entries(before)) {
     if (isInside(value) && isInside(now[key])) restore(now[key], value)
     else now[key] = value
