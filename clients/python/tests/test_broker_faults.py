@@ -4,6 +4,7 @@ server (plain_server.py, plain_library.py)."""
 import array
 import contextlib
 import fcntl
+import importlib.util
 import itertools
 import multiprocessing
 import os
@@ -20,7 +21,8 @@ from typing import Any, List, Tuple
 from unittest import mock
 
 from broker_tools import (
-    LATE, Broker, BrokerTest, Door, Program, files_of, listens_at, peak_bytes, plain, success)
+    HERE, LATE, PACKAGE, Broker, BrokerTest, Door, Program, files_of, listens_at, peak_bytes, plain,
+    success)
 from feqyldan import wire
 from feqyldan.broker.incoming import SHARED_TURN_BYTES
 from feqyldan.service import descriptors, listener
@@ -64,6 +66,28 @@ Events.__init__ = begin_without
 # answers.
 LINGER, SOON = 60, 20.0
 SHORT = wire.QUERY_IMAGE
+# Has no memory to learn whose the first connections are: as many times as this says.
+NEEDS_MEMORY_TO_ADMIT = """
+from feqyldan.service import admission
+peer_of, left = admission.peer_of, [None] * {}
+def refusing(sock):
+    if left:
+        left.pop()
+        raise MemoryError
+    return peer_of(sock)
+admission.peer_of = refusing
+"""
+# Has no memory for the first report of the state.
+NEEDS_MEMORY_TO_REPORT = """
+from feqyldan.broker import loop
+memory_of, left = loop.memory_of, [None]
+def refusing(process):
+    if left:
+        left.pop()
+        raise MemoryError
+    return memory_of(process)
+loop.memory_of = refusing
+"""
 # Listens at both sockets of a command's words, and hands them over to it, as systemd does, when the
 # socket's path has .go after it.
 HANDS_OVER = """
@@ -395,6 +419,33 @@ class Memory(BrokerTest):
             self.assertEqual(honest.ask(plain(50, bytes(1_000_000))), success(50))
         self.assertTrue(broker.says("the broker has no memory for its frame (--memory)"))
         self.assertEqual(broker.stop(), 0)
+
+    def test_no_memory_to_admit_a_connection_is_no_end(self) -> None:
+        """The reserve has some. Without it, the connection is closed."""
+        for refusals in (1, 2):
+            broker = self.begin("--per-process", "1", prelude=NEEDS_MEMORY_TO_ADMIT.format(
+                refusals))
+            if refusals == 2:
+                self.assertTrue(self.connect(broker).has_ended())
+                self.assertTrue(broker.says("a connection is closed: there is no memory for it"))
+            self.assertEqual(self.connect(broker).ask(plain(1)), success(1))
+
+    def test_no_memory_for_a_report_is_no_end_of_who_asks(self) -> None:
+        broker = self.begin(tells_state=True, prelude=NEEDS_MEMORY_TO_REPORT)
+        with socket.socket(socket.AF_UNIX) as asks:
+            asks.connect(broker.status_path)
+            asks.settimeout(LATE)
+            asks.send(b"GET /status HTTP/1.0\r\n")
+            self.assertIn(b"200 OK", asks.recv(100))
+
+    # Without memory Python 3.12 and later may end by SIGSEGV, in code of their own.
+    @unittest.skipUnless(importlib.util.find_spec("_testcapi") and sys.version_info < (3, 12),
+                         "this Python has no _testcapi, or is 3.12 or later")
+    def test_no_allocation_that_is_refused_ends_more_than_its_connection(self) -> None:
+        ended = subprocess.run([sys.executable, os.path.join(HERE, "refused_broker.py")],
+                               stdout=subprocess.PIPE, stderr=subprocess.DEVNULL, timeout=10 * LATE,
+                               env={**os.environ, "PYTHONPATH": PACKAGE, "FEQYLDAN_CORE": ""})
+        self.assertEqual((ended.stdout.decode(), ended.returncode), ("", 0))
 
 
 class Turns(BrokerTest):

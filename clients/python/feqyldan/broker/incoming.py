@@ -49,7 +49,7 @@ class Total:
         self.most, self.bytes = most, 0
 
     def look_for(self, count: int) -> None:
-        if self.bytes + count > self.most:
+        if count > 0 and self.bytes + count > self.most:
             raise TotalReached
 
     def take(self, count: int) -> None:
@@ -119,12 +119,13 @@ class Incoming:
         return count
 
     def take_share(self, count: int) -> None:
+        # Computed first: without memory for it, neither changes.
+        taken = self.taken + count
         self.total.take(count)
-        self.taken += count
+        self.taken = taken
 
     def give_share(self, count: int) -> None:
-        self.total.give(count)
-        self.taken -= count
+        self.take_share(-count)
 
     def look(self) -> None:
         """Reads the length of the first frame, if it has come."""

@@ -136,8 +136,8 @@ class Broker(Front):
                                 self.descriptors, self.now)
         self.admission.let_in(owner)
         try:
-            with_reserve(partial(self.open.add, connection))
-            with_reserve(partial(self.watch, connection))
+            with_reserve(self.open.add, connection)
+            with_reserve(self.watch, connection)
         except MemoryError:
             self.end(connection, NO_MEMORY.format("connection"))
 
@@ -170,8 +170,11 @@ class Broker(Front):
         except MemoryError:
             # Bytes that were read may be lost.
             self.end(connection, NO_MEMORY.format("frame"))
-        if connection.is_open:
-            self.settle(connection)
+        try:
+            if connection.is_open:
+                with_reserve(self.settle, connection)
+        except MemoryError:
+            self.end(connection, NO_MEMORY.format("turn"))
 
     def end_greatest(self, why: str, growing: Optional[Connection] = None, more: int = 0) -> None:
         """Ends the connection that would hold the most bytes, if `growing` held `more` bytes."""
@@ -274,13 +277,14 @@ class Broker(Front):
         try:
             turn = connection.next_turn(SHARED_TURN_BYTES if server.line.places else TURN_BYTES,
                                         self.now)
+            self.counts.bytes_in += len(turn.memory or turn.front)
+            is_served = server.begin(turn)
         except MemoryError:
             self.end(connection, NO_MEMORY.format("requests"))
             if connection.is_leaving:
                 server.line.add(connection)
             return
-        self.counts.bytes_in += len(turn.memory or turn.front)
-        if server.begin(turn):
+        if is_served:
             self.complete(turn)
             self.soon = 0.0 if server.line.places else self.soon
         elif connection.is_open:
@@ -293,12 +297,12 @@ class Broker(Front):
         """Handles the end of a turn. Raises the fault of a call that has no reason to fail."""
         connection, fault = turn.connection, turn.fault
         assert connection.server is not None
-        connection.server.end(turn, self.now)
-        self.counts.note(turn)
-        PAGES.give(turn.memory)
-        if fault is not None and not isinstance(fault, (MemoryError, ReplyTooLong)):
-            raise fault
         try:
+            connection.server.end(turn, self.now)
+            self.counts.note(turn)
+            PAGES.give(turn.memory)
+            if fault is not None and not isinstance(fault, (MemoryError, ReplyTooLong)):
+                raise fault
             if connection.is_leaving and fault is None:
                 self.forget(connection)
             elif not connection.is_open:
@@ -308,7 +312,10 @@ class Broker(Front):
             else:
                 self.end(connection, str(fault) or NO_MEMORY.format("replies"))
         except MemoryError:
-            self.end(connection, NO_MEMORY.format("replies"))
+            if connection.is_open:
+                self.end(connection, NO_MEMORY.format("replies"))
+            else:
+                self.release(connection)
 
     def deliver(self, connection: Connection, replies: memoryview) -> None:
         """Sends replies, and keeps what the connection doesn't take now. If too many bytes would

@@ -62,14 +62,14 @@ class Reserve:
 RESERVE = Reserve()
 
 
-def with_reserve(make: Callable[[], Made]) -> Made:
+def with_reserve(make: Callable[..., Made], *arguments: object) -> Made:
     """Returns what a function returns. If there is no memory for it, calls the function again with
     the reserve."""
     try:
-        return make()
+        return make(*arguments)
     except MemoryError:
         with RESERVE:
-            return make()
+            return make(*arguments)
 
 
 class Pages:
@@ -94,13 +94,14 @@ class Pages:
             raise MemoryError from error
 
     def give(self, memory: object) -> None:
-        """Takes memory back, if it is pages."""
+        """Takes memory back, if it is pages. The system gets those that there is no memory to
+        note."""
         if isinstance(memory, mmap.mmap) and len(memory) <= MOST_FREE:
             if self.bytes + len(memory) > MOST_FREE:
                 self.drop()
-            with self.lock:
-                self.bytes += len(memory)
+            with self.lock, suppress(MemoryError):
                 self.free.setdefault(len(memory), []).append(memory)
+                self.bytes += len(memory)
 
     def drop(self) -> None:
         with self.lock:

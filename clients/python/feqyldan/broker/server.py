@@ -106,7 +106,7 @@ class Line:
         if connection.place is None:
             connection.used = max(connection.used, self.now)
             place = connection.used, next(self.ticks), connection
-            bisect.insort(self.places, place)
+            with_reserve(bisect.insort, self.places, place)
             connection.place = place
 
     def take(self) -> Connection:
@@ -145,9 +145,9 @@ class Server:
 
     def add(self, connection: Connection) -> None:
         """Adds a connection that has sent no request yet."""
-        connection.server = self
         connection.used = self.line.now + ARRIVAL_TURNS * self.average
-        self.members.add(connection)
+        with_reserve(self.members.add, connection)
+        connection.server = self
 
     def puts_off(self, now: float) -> bool:
         """Returns whether the first turn in line, a long one, should wait: the connection that was
@@ -163,11 +163,15 @@ class Server:
         """Serves a turn that takes no longer than to wake the thread, or lets the thread serve it.
         Returns whether it is served."""
         self.turn = turn.connection.turn = turn
-        if turn.is_quick:
-            self.serve_turn(turn)
-        else:
-            self.begun.put(turn)
-        return turn.is_quick
+        try:
+            if turn.is_quick:
+                self.serve_turn(turn)
+            else:
+                self.begun.put(turn)
+            return turn.is_quick
+        except MemoryError as fault:
+            turn.fault = fault
+            return True
 
     def end(self, turn: Turn, now: float) -> None:
         connection = turn.connection
@@ -186,21 +190,21 @@ class Server:
 
     def serve_turns(self) -> None:
         while True:
-            self.done.append(self.serve_turn(self.begun.get()))
+            with_reserve(self.done.append, self.serve_turn(self.begun.get()))
             self.ring()
 
     def serve_turn(self, turn: Turn) -> Turn:
         """Serves a turn, and returns it with what comes of it."""
-        began = time.monotonic()
         try:
+            began = time.monotonic()
             if turn.front:
                 self.serve(turn)
             else:
                 assert turn.connection.link is not None
                 self.library.disconnect(turn.connection.link)
+            turn.seconds = time.monotonic() - began
         except Exception as fault:
             turn.fault = fault
-        turn.seconds = time.monotonic() - began
         return turn
 
     def serve(self, turn: Turn) -> None:

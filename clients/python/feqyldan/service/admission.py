@@ -59,7 +59,8 @@ class Admission:
     def __init__(self, per_process: int, per_user: int, counts: Accepted, lines: Lines,
                  events: Events, descriptors: Descriptors) -> None:
         self.per_process, self.per_user, self.counts = per_process, per_user, counts
-        self.lines, self.descriptors, self.ranges = lines, descriptors, Ranges()
+        self.lines, self.events, self.descriptors = lines, events, descriptors
+        self.ranges = Ranges()
         # A process may be several users of its user's range.
         self.processes: "Counter[Tuple[int, int]]" = Counter()
         self.users: "Counter[int]" = Counter()
@@ -71,7 +72,7 @@ class Admission:
         """Accepts the next connection; None if nobody waits. Raises OSError if the system has no
         resources for it."""
         with contextlib.suppress(BlockingIOError):
-            return self.descriptors.accept(listener.sock)
+            return self.descriptors.accept(listener.sock, self.events.take)
         return None
 
     def owner_of(self, sock: socket.socket) -> Owner:
@@ -87,6 +88,9 @@ class Admission:
         return None
 
     def let_in(self, owner: Owner) -> None:
+        # The entries first: if there is no memory for one, nothing is counted.
+        self.processes[owner.key] += 0
+        self.users[owner.counted] += 0
         self.counts.accepted += 1
         self.processes[owner.key] += 1
         self.users[owner.counted] += 1
@@ -105,8 +109,8 @@ class Admission:
                 self.told.clear()
             self.told.add(owner)
             self.lines.say_of(owner.counted, f"{owner} is turned away: {reason}")
-        self.counts.turned_away += 1
         self.turned_away.add(sock, owner.counted)
+        self.counts.turned_away += 1
 
     @property
     def present(self) -> int:

@@ -26,6 +26,7 @@ import struct
 import termios
 from typing import List, Set
 
+from .events import Take
 from .processes import close_all_but, fork
 
 SO_PASSRIGHTS = 83
@@ -83,15 +84,32 @@ class Descriptors:
         self.left: List[socket.socket] = []
         self.closers: Set[int] = set()
 
-    def accept(self, listening: socket.socket) -> socket.socket:
-        sock, _ = listening.accept()
-        if may_have_some(sock):
-            self.suspects.add(sock)
-            # No more are sent, where Linux can refuse them.
-            refuse(sock)
-            # Otherwise a read drops a byte out of band, with its descriptors, although no look
-            # shows it.
-            sock.setsockopt(socket.SOL_SOCKET, socket.SO_OOBINLINE, 1)
+    def accept(self, listening: socket.socket, take: Take) -> socket.socket:
+        # Not listening.accept(): without memory for its socket, that leaves the connection open.
+        descriptor, _ = listening._accept()  # type: ignore[attr-defined]
+        try:
+            sock: socket.socket = take(self.adopt, descriptor)
+            return sock
+        except BaseException:
+            os.close(descriptor)
+            raise
+
+    def adopt(self, descriptor: int) -> socket.socket:
+        """Returns the socket of a connection, prepared for reads. If that fails, the descriptor
+        stays open."""
+        sock = socket.socket(socket.AF_UNIX, socket.SOCK_STREAM, 0, descriptor)
+        try:
+            if may_have_some(sock):
+                self.suspects.add(sock)
+                # No more are sent, where Linux can refuse them.
+                refuse(sock)
+                # Otherwise a read drops a byte out of band, with its descriptors, although no look
+                # shows it.
+                sock.setsockopt(socket.SOL_SOCKET, socket.SO_OOBINLINE, 1)
+        except BaseException:
+            self.suspects.discard(sock)
+            sock.detach()
+            raise
         return sock
 
     def read(self, sock: socket.socket, most: int) -> bytes:

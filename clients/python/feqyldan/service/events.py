@@ -1,11 +1,12 @@
 """The events of a loop: descriptors that can be read or written."""
 
 import select
-from functools import partial
-from typing import Callable, Dict, List, Optional, Tuple
+from typing import Any, Callable, Dict, List, Optional, Tuple
 
 READ, WRITE = select.EPOLLIN, select.EPOLLOUT
 Handler = Callable[[int], None]
+# Calls a function that may need more memory, with arguments, and returns what it returns.
+Take = Callable[..., Any]
 # The most events that are handled before others are looked for. Their list is small enough for the
 # memory that Python keeps for itself.
 EVENTS_AT_ONCE = 40
@@ -18,8 +19,7 @@ class Events:
     def __init__(self) -> None:
         self.epoll = select.epoll()
         self.handlers: Dict[int, Handler] = {}
-        # Calls a function that may need more memory.
-        self.take: Callable[[Callable[[], None]], None] = lambda call: call()
+        self.take: Take = lambda call, *arguments: call(*arguments)
 
     def watch(self, descriptor: int, wanted: int, handler: Handler) -> None:
         """Watches a descriptor for READ, WRITE or both. For 0, stops watching it."""
@@ -30,11 +30,11 @@ class Events:
             self.epoll.modify(descriptor, wanted)
             self.handlers[descriptor] = handler
         else:
-            self.take(partial(self.add, descriptor, wanted, handler))
+            self.take(self.add, descriptor, wanted, handler)
 
     def watch_end(self, descriptor: int, handler: Handler) -> None:
         """Watches a connection only for the end of both of its directions."""
-        self.take(partial(self.add, descriptor, 0, handler))
+        self.take(self.add, descriptor, 0, handler)
 
     def add(self, descriptor: int, wanted: int, handler: Handler) -> None:
         # First, because it may need memory: a descriptor that epoll has can't be added again.

@@ -66,7 +66,11 @@ class Front:
                 return
             if sock is None:
                 return
-            self.admit(sock)
+            try:
+                self.events.take(self.admit, sock)
+            except MemoryError:
+                self.descriptors.close(sock)
+                self.lines.say("a connection is closed: there is no memory for it")
 
     def admit(self, sock: socket.socket) -> None:
         """Admits or turns away a new connection."""

@@ -96,7 +96,8 @@ class Visitors:
     def hear(self, sock: socket.socket, visitor: Visitor) -> None:
         data = self.descriptors.read(sock, self.most - len(visitor.heard))
         visitor.heard += data
-        answer = self.answer(visitor.heard, not data or len(visitor.heard) >= self.most)
+        is_all = not data or len(visitor.heard) >= self.most
+        answer = self.events.take(self.answer, visitor.heard, is_all)
         visitor.answer = None if answer is None else memoryview(answer)
 
     def end(self, sock: socket.socket) -> None:
@@ -174,13 +175,16 @@ class StatusSocket:
     def accept(self, _mask: int) -> None:
         try:
             for _ in range(ACCEPTED_AT_ONCE):
-                sock = self.descriptors.accept(self.listener.sock)
-                self.visitors.add(sock, self.ranges.owner_of(peer_of(sock).user))
+                sock = self.descriptors.accept(self.listener.sock, self.events.take)
+                self.events.take(self.begin, sock)
         except BlockingIOError:
             pass
         except OSError:
             self.events.forget(self.listener.sock.fileno())
             self.accepts_from = time.monotonic() + ACCEPT_PAUSE
+
+    def begin(self, sock: socket.socket) -> None:
+        self.visitors.add(sock, self.ranges.owner_of(peer_of(sock).user))
 
     def look_at_clock(self, now: float) -> None:
         self.visitors.end_late(now)
