@@ -420,6 +420,17 @@ class Memory(BrokerTest):
         self.assertTrue(broker.says("the broker has no memory for its frame (--memory)"))
         self.assertEqual(broker.stop(), 0)
 
+    def test_short_replies_that_nobody_takes_need_little_more_than_their_bytes(self) -> None:
+        broker, long = self.begin(tells_state=True), plain(wire.VERIFY_GRAPH, bytes(2))
+        before, deaf = peak_bytes(broker.process.pid), [self.connect(broker) for _ in range(8)]
+        for program in deaf:
+            # Each is a turn, and has a reply of its own.
+            program.send(long * 5000)
+        self.assertTrue(broker.wait_for(lambda: broker.state()["requests"] == 8 * 5000))
+        self.assertLess(peak_bytes(broker.process.pid) - before, 5_000_000)
+        self.assertEqual([program.bytes(8 * 5000) for program in deaf],
+                         [success(wire.VERIFY_GRAPH) * 5000] * 8)
+
     def test_no_memory_to_admit_a_connection_is_no_end(self) -> None:
         """The reserve has some. Without it, the connection is closed."""
         for refusals in (1, 2):

@@ -8,12 +8,15 @@ from ..service.admission import Owner
 from ..service.descriptors import Descriptors
 from ..service.events import READ, WRITE
 from .incoming import AHEAD, CHUNK, Incoming, Total
-from .memory import PAGES, Memory
+from .memory import PAGES, Memory, with_reserve
 
 if TYPE_CHECKING:
     from .server import Server
 
 
+# The most bytes of replies that are joined while they wait. Otherwise the objects of many short
+# replies take far more memory than their bytes.
+JOINED = 4096
 # The limits of the broker: what its command line says.
 Limits = argparse.Namespace
 
@@ -115,9 +118,14 @@ class Connection:
     def let_wait(self, reply: memoryview, sent: int, now: float) -> None:
         """Keeps a reply of which so many bytes were sent until the connection takes it. Raises
         TotalReached if too many bytes would wait for all connections together."""
-        self.total.take(len(reply))
+        self.total.look_for(len(reply))
         self.taken_at = self.taken_at if self.outgoing else now
-        self.outgoing.append(reply)
+        if self.outgoing and len(self.outgoing[-1]) + len(reply) <= JOINED:
+            both = self.outgoing[-1], reply
+            self.outgoing[-1] = memoryview(with_reserve(b"".join, both))
+        else:
+            with_reserve(self.outgoing.append, reply)
+        self.total.take(len(reply))
         self.left += len(reply) - sent
         self.sent += sent
 
