@@ -348,6 +348,9 @@ class StandardError(BrokerTest):
                 self.bad(broker)
             self.assertEqual(self.connect(broker).ask(plain(50)), success(50))
             self.assertEqual(broker.stop(), 0)
+            with open("/dev/full", "w") as full:
+                # It can't start.
+                self.assertEqual(self.begin_any(path="", stderr=full).status(), 2)
 
 
 class Memory(BrokerTest):

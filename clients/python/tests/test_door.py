@@ -896,8 +896,13 @@ class Telling(DoorTest):
                 door = kind(environment={"NOTIFY_SOCKET": os.path.join(folder, "notify"),
                                          "WATCHDOG_USEC": "1000000"})
                 self.addCleanup(door.close)
-                told = [manager.recv(100) for _ in range(3)]
-                self.assertEqual(told, [b"READY=1", b"WATCHDOG=1", b"WATCHDOG=1"])
+                told, times = [], []
+                for _ in range(5):
+                    told.append(manager.recv(100))
+                    times.append(time.monotonic())
+                self.assertEqual(told, [b"READY=1"] + [b"WATCHDOG=1"] * 4)
+                # Later than after one second, systemd would kill it.
+                self.assertLess((times[4] - times[1]) / 3, 0.9)
 
     def test_no_server_can_notify_the_service_manager(self) -> None:
         door = self.begin(tells_state=True, environment={

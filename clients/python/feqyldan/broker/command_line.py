@@ -2,7 +2,6 @@
 
 import argparse
 import os
-import sys
 import traceback
 from functools import partial
 from typing import List, Optional
@@ -11,7 +10,7 @@ from .. import core, wire
 from ..errors import FeqyldanError
 from ..server import GREATEST_LIMIT, QUOTA, WORK
 from ..service import options
-from ..service.lines import Unusable
+from ..service.lines import Lines, Unusable
 from ..service.machine import open_standard_files, processors, raise_file_limit
 from ..service.options import memory_from, number_from, part_of_memory, seconds_from
 from ..service.signals import held
@@ -155,7 +154,7 @@ def run(told: Limits) -> int:
             broker.close()
             raise
     except (Unusable, FeqyldanError) as reason:
-        print(f"feqyldan broker: {reason}", file=sys.stderr)
+        Lines("broker").write(str(reason))
         return 2
     status = 0
     try:

@@ -44,7 +44,8 @@ class Broker(Front):
         self.events.take = with_reserve
         self.open: Set[Connection] = set()
         self.releasing = 0
-        self.look_seconds: float = min(1.0, limits.patience / 4, limits.report)
+        self.look_seconds: float = min(self.manager.look_seconds, limits.patience / 4,
+                                       limits.report)
         self.looked_at = self.now
         # The turns that the servers' threads have served, and the pipe by which they wake the loop.
         self.done: Deque[Turn] = deque()

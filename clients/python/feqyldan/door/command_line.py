@@ -2,12 +2,11 @@
 
 import argparse
 import os
-import sys
 from functools import partial
 from typing import List, Optional
 
 from ..service import options
-from ..service.lines import Unusable
+from ..service.lines import Lines, Unusable
 from ..service.machine import open_standard_files, raise_file_limit
 from ..service.options import memory_from, number_from, part_of_memory, seconds_from
 from ..service.signals import held
@@ -95,5 +94,5 @@ def main(words: Optional[List[str]] = None) -> int:
         with held():
             return Door(*options.listeners(told), program, plan, limits).run()
     except Unusable as reason:
-        print(f"feqyldan door: {reason}", file=sys.stderr)
+        Lines("door").write(str(reason))
         return 2

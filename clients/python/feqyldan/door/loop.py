@@ -21,8 +21,6 @@ from .starting import NICE, set_nice
 from .trial import Trial
 from .waiting import Waiting
 
-# Seconds between two checks of the clock.
-LOOK_SECONDS = 1.0
 # The seconds in which killed servers have to end before the door ends without them, and between two
 # looks whether they have.
 KILL_SECONDS, KILL_LOOKS = 2.0, 0.01
@@ -118,13 +116,13 @@ class Door(Front):
     def timeout(self) -> Optional[float]:
         """Returns the seconds until the clock must be checked; None if nothing has a deadline."""
         if self.stops_at is not None:
-            return max(0.0, min(LOOK_SECONDS, self.stops_at - self.now))
+            return max(0.0, min(self.manager.look_seconds, self.stops_at - self.now))
         if self.waiting:
             return 0.0
         is_quiet = not (self.status or self.admission.turned_away.present or self.trial
                         or self.descriptors.left)
         may_sleep = is_quiet and self.is_listening and not self.has_news()
-        return None if may_sleep and self.manager.pause is None else LOOK_SECONDS
+        return None if may_sleep and self.manager.pause is None else self.manager.look_seconds
 
     # ---- connections
 
@@ -237,7 +235,7 @@ class Door(Front):
     # ---- the clock, and the end
 
     def look_at_clock(self) -> None:
-        if self.now - self.looked_at < LOOK_SECONDS:
+        if self.now - self.looked_at < self.manager.look_seconds:
             return
         self.looked_at = self.now
         self.manager.is_alive()

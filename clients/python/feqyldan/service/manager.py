@@ -9,6 +9,8 @@ from typing import Optional
 # The most seconds that a message waits for space among those of others. Every program of the
 # machine can send some to the service manager.
 START_WAIT, ALIVE_WAIT = 5.0, 0.05
+# The most seconds between two checks of a loop's clock.
+LOOK_SECONDS = 1.0
 
 
 class Manager:
@@ -22,6 +24,8 @@ class Manager:
         # Seconds between two signs of life of the loop: half of what systemd asks for.
         self.pause: Optional[float] = int(microseconds) / 2e6 if microseconds.isdigit() else None
         self.told_at = 0.0
+        # Seconds between two checks of the clock, so that each sign of life is in time.
+        self.look_seconds = min(LOOK_SECONDS, (self.pause or LOOK_SECONDS * 2) / 2)
 
     def is_listening(self) -> None:
         self.tell(b"READY=1", START_WAIT)
