@@ -4,7 +4,7 @@ from __future__ import annotations
 
 import ctypes
 import os
-from functools import lru_cache
+from functools import lru_cache, partial
 from typing import Any, Optional, Tuple
 
 from . import program
@@ -102,7 +102,12 @@ class Core:
         self._close = library.feqyldan_close
         self.serve = library.feqyldan_serve
         self.address = ctypes.byref(self._handle)
-        if library.feqyldan_open(quota, work, self.address) == NO_MEMORY:
+        self._open = partial(library.feqyldan_open, quota, work, self.address)
+        self.open()
+
+    def open(self) -> None:
+        """Makes the server, unless it is there."""
+        if self._open() == NO_MEMORY:
             raise FeqyldanError("start a server in this process: the system refuses the memory")
 
     def connect(self) -> int:
@@ -118,7 +123,8 @@ class Core:
         self._disconnect(self.address, number)
 
     def close(self) -> None:
-        """Frees the server with all of its connections. Does nothing if that was done."""
+        """Frees the server with all of its connections, until it is opened again. Does nothing if
+        that was done."""
         if not self._is_lost:
             self._close(self.address)
 

@@ -81,11 +81,11 @@ admission.peer_of = refusing
 NEEDS_MEMORY_TO_REPORT = """
 from feqyldan.broker import loop
 memory_of, left = loop.memory_of, [None]
-def refusing(process):
+def refusing(*given):
     if left:
         left.pop()
         raise MemoryError
-    return memory_of(process)
+    return memory_of(*given)
 loop.memory_of = refusing
 """
 # Listens at both sockets of a command's words, and hands them over to it, as systemd does, when the

@@ -27,6 +27,7 @@ from feqyldan import wire
 import feqyldan as vx
 from feqyldan.service import machine
 from feqyldan.service.manager import Manager
+from feqyldan.service.metrics import memory_of
 from feqyldan.service.options import part_of_memory
 from feqyldan.broker.command_line import servers_unless_told
 from feqyldan.broker.memory import MEMORY_PART
@@ -201,6 +202,35 @@ class Memory(BrokerTest):
         self.assertEqual(state["refusals"], {"NO_MEMORY": codes.count(wire.NO_MEMORY)})
         self.assertTrue(0 < state["memory_bytes"] <= state["peak_memory_bytes"] <= self.LIMIT)
         self.assertEqual(broker.stop(), 0)
+
+    @needs_library
+    def test_a_server_without_connections_keeps_no_memory(self) -> None:
+        """Another server has room for images of its quota after programs that are gone."""
+        broker = self.begin("--memory", str(self.LIMIT), "--quota", "200000000", "--servers", "3",
+                            command=REAL, tells_state=True)
+        alone, *others = [self.opened(broker) for _ in range(3)]
+        wide = wire.create_image(CLIENT, wire.S16, 2048, 2048)
+        for program in others:
+            self.assertEqual({wire.code_of(program.ask(wide)) for _ in range(13)}, {wire.SUCCESS})
+            program.sock.close()
+        self.assertTrue(broker.wait_for(lambda: broker.state()["connections"] == {
+            "open": 1, "releasing": 0, "accepted": 3, "turned_away": 0}))
+        deep = wire.create_image(CLIENT, wire.U8, 2048, 4096)
+        self.assertEqual({wire.code_of(alone.ask(deep)) for _ in range(20)}, {wire.SUCCESS})
+        self.assertEqual(broker.stop(), 0)
+
+    def test_a_server_is_closed_after_its_last_connection(self) -> None:
+        """And not before, if a connection is closed twice: there was no memory to note it."""
+        with mock.patch("feqyldan.broker.server.Core") as core:
+            library = Library("", 1, 1)
+        core().connect.side_effect = 1, 2
+        self.assertEqual((library.connect(), library.connect()), (1, 2))
+        for link, closes in ((1, 0), (1, 0), (2, 1)):
+            library.disconnect(link)
+            self.assertEqual(core().close.call_count, closes)
+
+    def test_the_greatest_memory_never_falls(self) -> None:
+        self.assertEqual(memory_of(os.getpid(), 2**50)[1], 2**50)
 
     @needs_library
     def test_images_that_take_all_memory_end_no_connection(self) -> None:

@@ -43,7 +43,7 @@ class Broker(Front):
         super().__init__("broker", listener, status, self.counts, limits, as_metrics)
         self.events.take = with_reserve
         self.open: Set[Connection] = set()
-        self.releasing = 0
+        self.releasing = self.peak = 0
         self.look_seconds: float = min(self.manager.look_seconds, limits.patience / 4,
                                        limits.report)
         self.looked_at = self.now
@@ -364,7 +364,7 @@ class Broker(Front):
 
     def state(self) -> Dict[str, Any]:
         counts = self.counts
-        memory, peak = memory_of(os.getpid())
+        memory, self.peak = memory_of(os.getpid(), self.peak)
         return {
             "uptime_seconds": round(self.now - self.began_at, 3),
             "connections": {
@@ -373,7 +373,7 @@ class Broker(Front):
             "requests": counts.requests, "bytes_in": counts.bytes_in, "bytes_out": counts.bytes_out,
             "bytes_held": self.total.bytes, "refusals": counts.refusals_by_name(),
             "longest_request_seconds": round(counts.longest, 6),
-            "memory_bytes": memory, "peak_memory_bytes": peak,
+            "memory_bytes": memory, "peak_memory_bytes": self.peak,
             "servers": [
                 {"server": k, "connections": len(server.members), "requests": server.requests,
                  "waiting": len(server.line.places),

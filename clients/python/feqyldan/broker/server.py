@@ -39,10 +39,12 @@ class ReplyTooLong(Exception):
 
 
 class Library:
-    """A server of the library. One thread at a time makes a call."""
+    """A server of the library. One thread at a time makes a call. While it has no connection it has
+    no memory, which the other servers of this process may need."""
 
     def __init__(self, path: str, quota: int, work: int) -> None:
         self.core = Core(path, quota, work)
+        self.links: Set[int] = set()
         self.reply: Any = ctypes.create_string_buffer(SHORT_REPLY)
         self.length = ctypes.c_size_t(0)
         # The arguments for these.
@@ -52,9 +54,12 @@ class Library:
     def connect(self) -> Optional[int]:
         """Returns the number of a new connection; None if there is no memory."""
         try:
-            return self.core.connect()
+            self.core.open()
+            link = self.core.connect()
         except FeqyldanError:
             return None
+        self.links.add(link)
+        return link
 
     def answer(self, link: int, front: bytes, rest: memoryview, most: int) -> Optional[Reply]:
         """Returns the reply to a frame of a connection. Returns None if there is no memory for the
@@ -87,7 +92,11 @@ class Library:
         return result
 
     def disconnect(self, link: int) -> None:
+        """Closes a connection. Does nothing if that was done."""
         self.core.disconnect(link)
+        self.links.discard(link)
+        if not self.links:
+            self.core.close()
 
 
 class Line:
@@ -202,6 +211,8 @@ class Server:
             else:
                 assert turn.connection.link is not None
                 self.library.disconnect(turn.connection.link)
+                # Another connection may get this number.
+                turn.connection.link = None
             turn.seconds = time.monotonic() - began
         except Exception as fault:
             turn.fault = fault

@@ -41,7 +41,7 @@ class Server:
         peer = peer_of(sock) if plan.is_of_peer else None
         self.number = starter.start(program, sock.fileno(), plan, peer)
         # 0 until the door knows it.
-        self.process = 0
+        self.process = self.peak = 0
 
     def __str__(self) -> str:
         return f"the server of process {self.process} for {self.owner}"
@@ -53,13 +53,13 @@ class Server:
             self.sock.shutdown(socket.SHUT_RD)
 
     def state(self, now: float) -> Dict[str, Any]:
-        memory, peak = memory_of(self.process)
+        memory, self.peak = memory_of(self.process, self.peak)
         bytes_in, bytes_out = bytes_of(self.process)
         return {
             "process": self.process, "of_process": self.owner.process, "of_user": self.owner.user,
             "seconds": round(now - self.began_at, 3),
             "processor_seconds": processor_seconds_of(self.process), "bytes_in": bytes_in,
-            "bytes_out": bytes_out, "memory_bytes": memory, "peak_memory_bytes": peak}
+            "bytes_out": bytes_out, "memory_bytes": memory, "peak_memory_bytes": self.peak}
 
 
 def processor_seconds_of(process: int) -> float:

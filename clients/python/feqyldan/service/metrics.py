@@ -42,17 +42,18 @@ def metric(name: str, kind: str, words: str, values: List[Tuple[str, Any]]) -> I
         yield f"feqyldan_{name}{labels} {value}"
 
 
-def memory_of(process: int) -> Tuple[int, int]:
-    """Returns the bytes of memory that a process has, and the most that it has had; zeros if it has
-    ended."""
-    found = {"VmRSS": 0, "VmHWM": 0}
+def memory_of(process: int, peak: int) -> Tuple[int, int]:
+    """Returns the bytes of memory that a process has, and the most that it has had: at least the
+    `peak` of the last call, because Linux counts in parts and may say a little less than before. If
+    the process has ended, it has 0."""
+    found = {"VmRSS": 0, "VmHWM": peak}
     try:
         # A process may have given itself a name of any bytes.
         with open(f"/proc/{process}/status", errors="replace") as file:
             for line in file:
                 name, _, words = line.partition(":")
                 if name in found:
-                    found[name] = int(words.split()[0]) * 1024
+                    found[name] = max(found[name], int(words.split()[0]) * 1024)
     except OSError:
         pass
     return found["VmRSS"], found["VmHWM"]
