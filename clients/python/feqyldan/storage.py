@@ -36,13 +36,14 @@ def fault_of_name(name: str) -> str:
     """Returns in words why a file in a folder can't have a name, or a name with this part; empty if
     it can."""
     try:
-        count = len(os.fsencode(name))
+        code = os.fsencode(name)
     except UnicodeEncodeError:
-        return "has a character that a file name can't have"
-    if "\0" in name:
+        code = b"\0"
+    if b"\0" in code:
         return "has a character that a file name can't have"
     if "/" in name:
         return 'has a "/"'
+    count = len(code)
     return f"has {count} bytes, and a file name at most {MOST_NAME}" if count > MOST_NAME else ""
 
 

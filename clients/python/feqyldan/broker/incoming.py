@@ -49,7 +49,7 @@ class Total:
         self.most, self.bytes = most, 0
 
     def look_for(self, count: int) -> None:
-        if count > 0 and self.bytes + count > self.most:
+        if self.bytes + count > self.most:
             raise TotalReached
 
     def take(self, count: int) -> None:
@@ -118,14 +118,17 @@ class Incoming:
         self.is_whole = self.filled == self.size
         return count
 
+    # The share is computed first: without memory for it, neither number changes.
+
     def take_share(self, count: int) -> None:
-        # Computed first: without memory for it, neither changes.
         taken = self.taken + count
         self.total.take(count)
         self.taken = taken
 
     def give_share(self, count: int) -> None:
-        self.take_share(-count)
+        taken = self.taken - count
+        self.total.give(count)
+        self.taken = taken
 
     def look(self) -> None:
         """Reads the length of the first frame, if it has come."""

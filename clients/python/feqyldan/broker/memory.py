@@ -5,7 +5,6 @@ import mmap
 import resource
 import threading
 from contextlib import suppress
-from functools import partial
 from typing import Callable, Dict, List, Optional, TypeVar, Union
 
 from ..service.lines import Unusable
@@ -115,8 +114,8 @@ PAGES = Pages()
 def memory_for(size: int, largest: int) -> Memory:
     """Returns memory of this many bytes; pages if it has more than `largest`."""
     if size > largest:
-        return with_reserve(partial(PAGES.take, size))
-    return with_reserve(partial(bytearray, size))
+        return with_reserve(PAGES.take, size)
+    return with_reserve(bytearray, size)
 
 
 def use_one_heap() -> None:

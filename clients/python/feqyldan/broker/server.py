@@ -226,7 +226,7 @@ class Server:
             replies.append(self.reply_to(turn.connection, front[at:end], rest))
             at = end
         turn.replies = memoryview(replies[0] if len(replies) == 1 else
-                                  with_reserve(lambda: b"".join(replies)))
+                                  with_reserve(b"".join, replies))
         turn.count, turn.refusals = len(replies), [reply[CODE] for reply in replies if reply[CODE]]
 
     def reply_to(self, connection: Connection, front: bytes, rest: memoryview) -> Reply:
