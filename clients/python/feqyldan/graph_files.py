@@ -14,9 +14,11 @@ parameters.
        {"function": "threshold", "input": "away", "threshold": "limit", "output": "marks"}]}
 
 A slot of a delay is written as `smooth[0]` or `smooth[-1]`. An image may have a valid rectangle, as
-`"valid": [x0, y0, x1, y1]`, and one value for all samples, as `"fill": 0`. An image of a `"file"`
-has the format and the size of the picture there. FIELDS lists the fields of each kind of object; a
-file with any other field is refused.
+`"valid": [x0, y0, x1, y1]`, and one value for all samples, as `"fill": 0`. In place of the value,
+`"samples"` has the bytes of all samples, row by row, with the most significant byte of each first.
+They are compressed by zlib, and then in base64. An image of a `"file"` has the format and the size
+of the picture there. FIELDS lists the fields of each kind of object; a file with any other field is
+refused.
 """
 
 from __future__ import annotations

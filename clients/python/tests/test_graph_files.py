@@ -1,5 +1,6 @@
 """Graphs in files, drawn, measured, and run from the command line; pictures in files; regions."""
 
+import base64
 import csv
 import importlib.util
 import itertools
@@ -9,6 +10,7 @@ import pickle
 import random
 import shutil
 import signal
+import struct
 import subprocess
 import sys
 import tempfile
@@ -16,6 +18,7 @@ import time
 import tracemalloc
 import unittest
 import xml.etree.ElementTree
+import zlib
 from functools import partial
 from unittest import mock
 
@@ -230,6 +233,14 @@ class TestFiles(FolderTest, ProgramTest):
                                          "height": 4, "fill": value})
             again = self.context.load_graph(self.path("a.json"))
             self.holds(again.objects["mask"], [[value] * 5] * 4)
+
+    def test_samples_of_another_program(self):
+        """They are the bytes of all samples, compressed by zlib, in base64."""
+        content = zlib.compress(struct.pack(">4h", 1, -2, 300, -32768))
+        path = self.put("a.json", {"feqyldan": 1, "nodes": [], "objects": {
+            "a": {"kind": "image", "format": "S16", "width": 2, "height": 2,
+                  "samples": base64.b64encode(content).decode()}}})
+        self.holds(self.context.load_graph(path).objects["a"], [[1, -2], [300, -32768]])
 
     def test_each_function_can_be_said(self):
         for function in FUNCTIONS:
