@@ -74,31 +74,53 @@ fn is_refused(
     })
 }
 
+/// Fills client 1's quota with two images. Returns whether a third one fits after the first was
+/// released, and two fit into a new context.
+fn leaves_room(alloc: Global, runtime: &mut Runtime, desc: Desc) -> Result<bool, Fail> {
+    let is_full = images_made(alloc, runtime, 1, desc) == Some(2);
+    succeed(alloc, runtime, &Request::Release(1))?;
+    let fits = create(alloc, runtime, &Request::CreateImage(desc))? == 3;
+    succeed(alloc, runtime, &Request::ReleaseContext)?;
+    Ok(is_full && fits && images_made(alloc, runtime, 1, desc) == Some(2))
+}
+
 #[test]
 fn what_is_released_leaves_room(rt: HostRuntime) -> Result<(), Fail> {
-    let alloc = rt.alloc();
     let limits = Limits::new(8, 1).ok_or("within the limits")?;
     let desc = Desc::new(2, 2, Format::U8).ok_or("within the limits")?;
+    let mut runtime = Runtime::new(rt.alloc(), limits);
+    assert!(rt; leaves_room(rt.alloc(), &mut runtime, desc)?);
+    Ok(())
+}
+
+/// Returns a runtime in which client 1 has a context.
+pub fn opened(alloc: Global, limits: Limits) -> Result<Runtime, Fail> {
     let mut runtime = Runtime::new(alloc, limits);
-    assert!(rt; images_made(alloc, &mut runtime, 1, desc) == Some(2));
-    succeed(alloc, &mut runtime, &Request::Release(1))?;
-    assert!(rt; create(alloc, &mut runtime, &Request::CreateImage(desc))? == 3);
-    succeed(alloc, &mut runtime, &Request::ReleaseContext)?;
-    assert!(rt; images_made(alloc, &mut runtime, 1, desc) == Some(2));
+    succeed(alloc, &mut runtime, &Request::OpenContext)?;
+    Ok(runtime)
+}
+
+/// Creates images 1 and 2 of one sample each, graph 3, and virtual image 4 of that graph.
+fn create_a_graph(alloc: Global, runtime: &mut Runtime) -> Result<(), Fail> {
+    let desc = Desc::new(1, 1, Format::U8).ok_or("within the limits")?;
+    let open = PartialDesc::new(None, None, None).ok_or("nothing is declared")?;
+    let requests = [
+        Request::CreateImage(desc),
+        Request::CreateImage(desc),
+        Request::CreateGraph,
+        Request::CreateVirtualImage(3, open),
+    ];
+    for request in &requests {
+        create(alloc, runtime, request)?;
+    }
     Ok(())
 }
 
 /// Returns a runtime in which client 1 has images 1 and 2 of one sample each, graph 3, and virtual
 /// image 4 of that graph.
 pub fn with_a_graph(alloc: Global, limits: Limits) -> Result<Runtime, Fail> {
-    let desc = Desc::new(1, 1, Format::U8).ok_or("within the limits")?;
-    let open = PartialDesc::new(None, None, None).ok_or("nothing is declared")?;
-    let mut runtime = Runtime::new(alloc, limits);
-    succeed(alloc, &mut runtime, &Request::OpenContext)?;
-    create(alloc, &mut runtime, &Request::CreateImage(desc))?;
-    create(alloc, &mut runtime, &Request::CreateImage(desc))?;
-    create(alloc, &mut runtime, &Request::CreateGraph)?;
-    create(alloc, &mut runtime, &Request::CreateVirtualImage(3, open))?;
+    let mut runtime = opened(alloc, limits)?;
+    create_a_graph(alloc, &mut runtime)?;
     Ok(runtime)
 }
 
@@ -162,45 +184,64 @@ pub fn holds(alloc: Global, runtime: &mut Runtime, sample: u8) -> Result<bool, F
     )
 }
 
+/// Adds two nodes to graph 3, the one that runs second first. Returns whether the graph is refused
+/// without the other node.
+fn add_two(alloc: Global, runtime: &mut Runtime) -> Result<bool, Fail> {
+    let verify = Request::VerifyGraph(3);
+    let is_first = add_not(alloc, runtime, 4, 2)? == 1;
+    let is_refused = is_refused(alloc, runtime, &verify, Code::InvalidLink)?;
+    Ok(is_first && is_refused && add_not(alloc, runtime, 1, 4)? == 2)
+}
+
+/// Returns whether graph 3 copies image 1 to image 2 when it runs, and not before.
+fn copies(alloc: Global, runtime: &mut Runtime) -> Result<bool, Fail> {
+    write_sample(alloc, runtime, 10)?;
+    succeed(alloc, runtime, &Request::VerifyGraph(3))?;
+    let is_empty = holds(alloc, runtime, 0)?;
+    succeed(alloc, runtime, &Request::ProcessGraph(3))?;
+    Ok(is_empty && holds(alloc, runtime, 10)?)
+}
+
 #[test]
 fn a_graph_runs(rt: HostRuntime) -> Result<(), Fail> {
-    let alloc = rt.alloc();
     let limits = Limits::new(8, 1).ok_or("within the limits")?;
-    let mut runtime = with_a_graph(alloc, limits)?;
-    let verify = Request::VerifyGraph(3);
-    // The node that runs second is added first.
-    assert!(rt; add_not(alloc, &mut runtime, 4, 2)? == 1);
-    assert!(rt; is_refused(alloc, &mut runtime, &verify, Code::InvalidLink)?);
-    assert!(rt; add_not(alloc, &mut runtime, 1, 4)? == 2);
-    write_sample(alloc, &mut runtime, 10)?;
-    succeed(alloc, &mut runtime, &verify)?;
-    assert!(rt; holds(alloc, &mut runtime, 0)?);
-    succeed(alloc, &mut runtime, &Request::ProcessGraph(3))?;
-    assert!(rt; holds(alloc, &mut runtime, 10)?);
+    let mut runtime = with_a_graph(rt.alloc(), limits)?;
+    assert!(rt; add_two(rt.alloc(), &mut runtime)?);
+    assert!(rt; copies(rt.alloc(), &mut runtime)?);
     Ok(())
 }
 
-/// Releases image 1, which a node of graph 3 uses. Returns whether no new node can use the image,
-/// and the image is still held: it is charged, and the graph runs on it.
+/// Returns whether image 1, which was released, can be used by no new node and is still charged.
+fn is_charged(alloc: Global, runtime: &mut Runtime, making: &Request) -> Result<bool, Fail> {
+    let adding = adding(Function::NotBits, 1, 4)?;
+    Ok(
+        is_refused(alloc, runtime, &adding, Code::InvalidReference)?
+            && is_refused(alloc, runtime, making, Code::NoResources)?,
+    )
+}
+
+/// Releases image 1, which a node of graph 3 uses. Returns whether the image is held: it is
+/// charged, and the graph runs on it.
 fn is_held(alloc: Global, runtime: &mut Runtime, making: &Request) -> Result<bool, Fail> {
     succeed(alloc, runtime, &Request::Release(1))?;
-    let adding = adding(Function::NotBits, 1, 4)?;
-    let is_gone = is_refused(alloc, runtime, &adding, Code::InvalidReference)?;
-    let is_charged = is_refused(alloc, runtime, making, Code::NoResources)?;
+    let is_charged = is_charged(alloc, runtime, making)?;
     succeed(alloc, runtime, &Request::ProcessGraph(3))?;
-    Ok(is_gone && is_charged && holds(alloc, runtime, 255)?)
+    Ok(is_charged && holds(alloc, runtime, 255)?)
+}
+
+/// Returns whether image 1 is held while a node uses it, and no longer.
+fn is_held_by_a_node(alloc: Global, runtime: &mut Runtime) -> Result<bool, Fail> {
+    let desc = Desc::new(1, 1, Format::U8).ok_or("within the limits")?;
+    let making = Request::CreateImage(desc);
+    let is_held = add_not(alloc, runtime, 1, 2)? == 1 && is_held(alloc, runtime, &making)?;
+    succeed(alloc, runtime, &Request::RemoveNode(3, 1))?;
+    Ok(is_held && create(alloc, runtime, &making)? == 5)
 }
 
 #[test]
 fn what_a_node_uses_is_held(rt: HostRuntime) -> Result<(), Fail> {
-    let alloc = rt.alloc();
     let limits = Limits::new(2, 1).ok_or("within the limits")?;
-    let desc = Desc::new(1, 1, Format::U8).ok_or("within the limits")?;
-    let making = Request::CreateImage(desc);
-    let mut runtime = with_a_graph(alloc, limits)?;
-    assert!(rt; add_not(alloc, &mut runtime, 1, 2)? == 1);
-    assert!(rt; is_held(alloc, &mut runtime, &making)?);
-    succeed(alloc, &mut runtime, &Request::RemoveNode(3, 1))?;
-    assert!(rt; create(alloc, &mut runtime, &making)? == 5);
+    let mut runtime = with_a_graph(rt.alloc(), limits)?;
+    assert!(rt; is_held_by_a_node(rt.alloc(), &mut runtime)?);
     Ok(())
 }

@@ -1,6 +1,8 @@
 //! Blocks of the pool that hold clients' images. Blocks are reused and given back, and a new image
 //! in a reused block never shows the old samples.
-use crate::clients::{add, add_not, create, holds, reply, succeed, with_a_graph, write_sample};
+use crate::clients::{
+    add, add_not, create, holds, opened, reply, succeed, with_a_graph, write_sample,
+};
 use client_contexts::Runtime;
 use client_model::{Limits, Reply, Request};
 use std::alloc::Global;
@@ -21,13 +23,6 @@ fn has(runtime: &Runtime, lent: [usize; 3], blocks: [usize; 3]) -> bool {
             runtime.blocks(shorts),
             runtime.blocks(words),
         ]
-}
-
-/// Returns a runtime in which client 1 has a context.
-fn opened(alloc: Global) -> Result<Runtime, Fail> {
-    let mut runtime = Runtime::new(alloc, Limits::default());
-    succeed(alloc, &mut runtime, &Request::OpenContext)?;
-    Ok(runtime)
 }
 
 /// Returns samples of a format, none of which is 0.
@@ -81,20 +76,19 @@ const FORMATS: [(Format, [usize; 3]); 3] = [
     (Format::U32, [0, 0, 1]),
 ];
 
-/// Creates and releases an image three times. Returns whether each image is all 0 when it is new,
-/// and all three use the same block.
-fn images_use_one_block(alloc: Global, format: Format, one: [usize; 3]) -> Result<bool, Fail> {
-    let desc = Desc::new(5, 7, format).ok_or("within the limits")?;
-    let mut runtime = opened(alloc)?;
-    let mut is_so = true;
-    for _ in 0..3 {
-        let name = create(alloc, &mut runtime, &Request::CreateImage(desc))?;
-        is_so &= was_cleared(alloc, &mut runtime, ObjRef::new(name, None), desc)?;
-        is_so &= has(&runtime, one, one);
-        succeed(alloc, &mut runtime, &Request::Release(name))?;
-        is_so &= has(&runtime, [0; 3], one);
-    }
-    Ok(is_so)
+/// Creates and releases an image. Returns whether the image was all 0 when it was new, and used
+/// these blocks.
+fn image_uses(
+    alloc: Global,
+    runtime: &mut Runtime,
+    desc: Desc,
+    blocks: [usize; 3],
+) -> Result<bool, Fail> {
+    let name = create(alloc, runtime, &Request::CreateImage(desc))?;
+    let was_cleared = was_cleared(alloc, runtime, ObjRef::new(name, None), desc)?;
+    let is_lent = has(runtime, blocks, blocks);
+    succeed(alloc, runtime, &Request::Release(name))?;
+    Ok(was_cleared && is_lent && has(runtime, [0; 3], blocks))
 }
 
 #[test]
@@ -102,17 +96,21 @@ fn a_new_image_is_cleared_and_uses_the_block_of_a_released_one(
     rt: HostRuntime,
 ) -> Result<(), Fail> {
     for (format, one) in FORMATS {
-        assert!(rt;
-            images_use_one_block(rt.alloc(), format, one)?,
-            "{format:?}"
-        );
+        let desc = Desc::new(5, 7, format).ok_or("within the limits")?;
+        let mut runtime = opened(rt.alloc(), Limits::default())?;
+        for _ in 0..3 {
+            assert!(rt;
+                image_uses(rt.alloc(), &mut runtime, desc, one)?,
+                "{format:?}"
+            );
+        }
     }
     Ok(())
 }
 
 /// Creates a delay of three images like image 1, which has this description. Then fills, ages and
 /// releases the delay. Returns whether all slots were 0 at first, and three blocks were lent to the
-/// delay.
+/// delay until its release.
 fn slots_are_cleared(
     alloc: Global,
     runtime: &mut Runtime,
@@ -128,22 +126,28 @@ fn slots_are_cleared(
     succeed(alloc, runtime, &Request::AgeDelay(name))?;
     is_so &= has(runtime, [0, 4, 0], [0, 4, 0]);
     succeed(alloc, runtime, &Request::Release(name))?;
-    Ok(is_so)
+    Ok(is_so && has(runtime, [0, 1, 0], [0, 4, 0]))
+}
+
+/// Creates an image, and a delay like it three times. Returns whether the delays are cleared, and
+/// use the same blocks.
+fn delays_are_cleared(alloc: Global, runtime: &mut Runtime) -> Result<bool, Fail> {
+    let desc = Desc::new(5, 7, Format::S16).ok_or("within the limits")?;
+    let slots = SlotCount::new(3).ok_or("within the limits")?;
+    create(alloc, runtime, &Request::CreateImage(desc))?;
+    let mut are_cleared = true;
+    for _ in 0..3 {
+        are_cleared &= slots_are_cleared(alloc, runtime, slots, desc)?;
+    }
+    Ok(are_cleared)
 }
 
 #[test]
 fn a_new_delay_is_cleared_and_uses_the_blocks_of_a_released_one(
     rt: HostRuntime,
 ) -> Result<(), Fail> {
-    let alloc = rt.alloc();
-    let desc = Desc::new(5, 7, Format::S16).ok_or("within the limits")?;
-    let slots = SlotCount::new(3).ok_or("within the limits")?;
-    let mut runtime = opened(alloc)?;
-    create(alloc, &mut runtime, &Request::CreateImage(desc))?;
-    for _ in 0..3 {
-        assert!(rt; slots_are_cleared(alloc, &mut runtime, slots, desc)?);
-        assert!(rt; has(&runtime, [0, 1, 0], [0, 4, 0]));
-    }
+    let mut runtime = opened(rt.alloc(), Limits::default())?;
+    assert!(rt; delays_are_cleared(rt.alloc(), &mut runtime)?);
     Ok(())
 }
 
@@ -162,18 +166,23 @@ fn create_many(
     Ok(())
 }
 
+/// Creates images and delays of each format, and releases the context. Returns whether all blocks
+/// were lent until then.
+fn gives_all_back(alloc: Global, runtime: &mut Runtime) -> Result<bool, Fail> {
+    let slots = SlotCount::new(16).ok_or("within the limits")?;
+    for (format, _) in FORMATS {
+        create_many(alloc, runtime, format, slots)?;
+    }
+    create(alloc, runtime, &Request::CreateMinMax)?;
+    let is_lent = has(runtime, [17; 3], [17; 3]);
+    succeed(alloc, runtime, &Request::ReleaseContext)?;
+    Ok(is_lent && has(runtime, [0; 3], [17; 3]))
+}
+
 #[test]
 fn a_released_context_has_given_all_blocks_back(rt: HostRuntime) -> Result<(), Fail> {
-    let alloc = rt.alloc();
-    let slots = SlotCount::new(16).ok_or("within the limits")?;
-    let mut runtime = opened(alloc)?;
-    for (format, _) in FORMATS {
-        create_many(alloc, &mut runtime, format, slots)?;
-    }
-    create(alloc, &mut runtime, &Request::CreateMinMax)?;
-    assert!(rt; has(&runtime, [17; 3], [17; 3]));
-    succeed(alloc, &mut runtime, &Request::ReleaseContext)?;
-    assert!(rt; has(&runtime, [0; 3], [17; 3]));
+    let mut runtime = opened(rt.alloc(), Limits::default())?;
+    assert!(rt; gives_all_back(rt.alloc(), &mut runtime)?);
     Ok(())
 }
 
@@ -189,19 +198,29 @@ fn add_chain(alloc: Global, runtime: &mut Runtime) -> Result<(), Fail> {
     Ok(())
 }
 
+/// Writes a sample to image 1, and runs graph 3. Returns whether image 2 has the sample, and the
+/// pool two blocks more than are lent.
+fn runs_through_two_blocks(alloc: Global, runtime: &mut Runtime, sample: u8) -> Result<bool, Fail> {
+    write_sample(alloc, runtime, sample)?;
+    succeed(alloc, runtime, &Request::ProcessGraph(3))?;
+    Ok(holds(alloc, runtime, sample)? && has(runtime, [2, 0, 0], [4, 0, 0]))
+}
+
 #[test]
 fn a_chain_runs_through_two_blocks_and_gives_them_back(rt: HostRuntime) -> Result<(), Fail> {
-    let alloc = rt.alloc();
-    let mut runtime = with_a_graph(alloc, Limits::default())?;
-    add_chain(alloc, &mut runtime)?;
+    let mut runtime = with_a_chain(rt.alloc())?;
     assert!(rt; has(&runtime, [2, 0, 0], [2, 0, 0]));
     for sample in [10, 20] {
-        write_sample(alloc, &mut runtime, sample)?;
-        succeed(alloc, &mut runtime, &Request::ProcessGraph(3))?;
-        assert!(rt; holds(alloc, &mut runtime, sample)?);
-        assert!(rt; has(&runtime, [2, 0, 0], [4, 0, 0]));
+        assert!(rt; runs_through_two_blocks(rt.alloc(), &mut runtime, sample)?);
     }
     Ok(())
+}
+
+/// Returns a runtime with a chain of six Box nodes.
+fn with_a_chain(alloc: Global) -> Result<Runtime, Fail> {
+    let mut runtime = with_a_graph(alloc, Limits::default())?;
+    add_chain(alloc, &mut runtime)?;
+    Ok(runtime)
 }
 
 /// Returns the number of U8 slots in client 1's cached plan of graph 3, or `None` without a plan.
@@ -212,34 +231,38 @@ fn kept_slots(runtime: &Runtime) -> Option<usize> {
     }
 }
 
+/// Returns whether graph 3 is kept with its plan from the request that verifies it to the one that
+/// removes a node.
+fn is_kept(alloc: Global, runtime: &mut Runtime) -> Result<bool, Fail> {
+    let calls = [
+        (Request::VerifyGraph(3), Some(2)),
+        (Request::ProcessGraph(3), Some(2)),
+        (Request::RemoveNode(3, 6), None),
+    ];
+    let mut is_kept = kept_slots(runtime) == None;
+    for (request, slots) in &calls {
+        succeed(alloc, runtime, request)?;
+        is_kept &= kept_slots(runtime) == *slots;
+    }
+    Ok(is_kept)
+}
+
 #[test]
 fn a_verified_graph_is_kept_with_its_plan_until_its_nodes_change(
     rt: HostRuntime,
 ) -> Result<(), Fail> {
-    let alloc = rt.alloc();
-    let mut runtime = with_a_graph(alloc, Limits::default())?;
-    add_chain(alloc, &mut runtime)?;
-    assert!(rt; kept_slots(&runtime) == None);
-    succeed(alloc, &mut runtime, &Request::VerifyGraph(3))?;
-    assert!(rt; kept_slots(&runtime) == Some(2));
-    succeed(alloc, &mut runtime, &Request::ProcessGraph(3))?;
-    assert!(rt; kept_slots(&runtime) == Some(2));
-    succeed(alloc, &mut runtime, &Request::RemoveNode(3, 6))?;
-    assert!(rt; kept_slots(&runtime) == None);
+    let mut runtime = with_a_chain(rt.alloc())?;
+    assert!(rt; is_kept(rt.alloc(), &mut runtime)?);
     Ok(())
 }
 
 #[test]
 fn images_that_get_smaller_use_one_block(rt: HostRuntime) -> Result<(), Fail> {
-    let alloc = rt.alloc();
-    let mut runtime = opened(alloc)?;
+    let mut runtime = opened(rt.alloc(), Limits::default())?;
     for less in 0..64 {
         let desc = Desc::new(64 - less, 65, Format::U32).ok_or("within the limits")?;
-        let name = create(alloc, &mut runtime, &Request::CreateImage(desc))?;
-        assert!(rt; has(&runtime, [0, 0, 1], [0, 0, 1]));
-        succeed(alloc, &mut runtime, &Request::Release(name))?;
+        assert!(rt; image_uses(rt.alloc(), &mut runtime, desc, [0, 0, 1])?);
     }
-    assert!(rt; has(&runtime, [0; 3], [0, 0, 1]));
     runtime.drop_free();
     assert!(rt; has(&runtime, [0; 3], [0; 3]));
     Ok(())
@@ -257,14 +280,10 @@ fn leaves(
     Ok(has(runtime, [lent, 0, 0], [runtime.blocks(Format::U8), 0, 0]))
 }
 
-#[test]
-fn so_many_blocks_are_lent_after_each_call(rt: HostRuntime) -> Result<(), Fail> {
-    let alloc = rt.alloc();
-    let slots = SlotCount::new(3).ok_or("within the limits")?;
-    let mut runtime = with_a_graph(alloc, Limits::default())?;
-    add_not(alloc, &mut runtime, 1, 4)?;
-    add_not(alloc, &mut runtime, 4, 2)?;
-    for (request, lent) in [
+/// Holds and releases images 1 and 2, graph 3 and a delay. Returns whether each call leaves the
+/// number of blocks lent that is next to it.
+fn lends_as_told(alloc: Global, runtime: &mut Runtime, slots: SlotCount) -> Result<bool, Fail> {
+    let calls = [
         (Request::VerifyGraph(3), 2),
         (Request::ProcessGraph(3), 2),
         // A node still reads image 1.
@@ -280,9 +299,21 @@ fn so_many_blocks_are_lent_after_each_call(rt: HostRuntime) -> Result<(), Fail> 
         (Request::Release(3), 3),
         (Request::Release(5), 0),
         (Request::Release(5), 0),
-    ] {
-        assert!(rt; leaves(alloc, &mut runtime, &request, lent)?);
+    ];
+    let mut is_so = true;
+    for (request, lent) in &calls {
+        is_so &= leaves(alloc, runtime, request, *lent)?;
     }
+    Ok(is_so)
+}
+
+#[test]
+fn so_many_blocks_are_lent_after_each_call(rt: HostRuntime) -> Result<(), Fail> {
+    let slots = SlotCount::new(3).ok_or("within the limits")?;
+    let mut runtime = with_a_graph(rt.alloc(), Limits::default())?;
+    add_not(rt.alloc(), &mut runtime, 1, 4)?;
+    add_not(rt.alloc(), &mut runtime, 4, 2)?;
+    assert!(rt; lends_as_told(rt.alloc(), &mut runtime, slots)?);
     // At most four blocks were ever lent at the same time.
     assert!(rt; has(&runtime, [0; 3], [4, 0, 0]));
     Ok(())

@@ -87,72 +87,102 @@ fn read(writing: &[u8]) -> &[u8] {
     }
 }
 
-/// Serves a stream, and returns the replies. Serving must succeed.
-pub fn ask(alloc: Global, runtime: &mut Runtime, stream: &[u8]) -> Result<Vec<u8>, Fail> {
-    let served = serve_bytes(alloc, runtime, stream, ALL_AT_ONCE);
+/// Serves a stream over these devices, and returns the replies. Serving must succeed.
+pub fn ask_over(
+    alloc: Global,
+    runtime: &mut Runtime,
+    stream: &[u8],
+    devices: Devices,
+) -> Result<Vec<u8>, Fail> {
+    let served = serve_bytes(alloc, runtime, stream, devices);
     if served.result.is_err() {
         return Err("it ended badly".into());
     }
     Ok(served.written)
 }
 
+/// Serves a stream, and returns the replies. Serving must succeed.
+pub fn ask(alloc: Global, runtime: &mut Runtime, stream: &[u8]) -> Result<Vec<u8>, Fail> {
+    ask_over(alloc, runtime, stream, ALL_AT_ONCE)
+}
+
+/// Serves the frame of a request of client 1, and returns the reply.
+fn request(alloc: Global, runtime: &mut Runtime, request: &Request) -> Result<Vec<u8>, Fail> {
+    let frame = frame(alloc, request)?;
+    ask(alloc, runtime, frame.as_slice())
+}
+
+/// Client 1 opens a context, and creates an image of this description.
+fn open(alloc: Global, runtime: &mut Runtime, desc: Desc) -> Result<(), Fail> {
+    request(alloc, runtime, &Request::OpenContext)?;
+    request(alloc, runtime, &Request::CreateImage(desc))?;
+    Ok(())
+}
+
 /// Returns a runtime in which client 1 has image 1, of this description.
 pub fn opened(alloc: Global, desc: Desc) -> Result<Runtime, Fail> {
     let mut runtime = Runtime::new(alloc, Limits::default());
-    ask(
-        alloc,
-        &mut runtime,
-        frame(alloc, &Request::OpenContext)?.as_slice(),
-    )?;
-    ask(
-        alloc,
-        &mut runtime,
-        frame(alloc, &Request::CreateImage(desc))?.as_slice(),
-    )?;
+    open(alloc, &mut runtime, desc)?;
     Ok(runtime)
 }
 
 /// Returns whether the image has the picture in the frame `writing`.
 fn holds(alloc: Global, runtime: &mut Runtime, writing: &[u8]) -> Result<bool, Fail> {
-    let asked = frame(alloc, &Request::ReadImage(image()))?;
-    let replies = ask(alloc, runtime, asked.as_slice())?;
+    let replies = request(alloc, runtime, &Request::ReadImage(image()))?;
     Ok(replies.len() > 8 && replies[7] == 0 && &replies[8..] == read(writing))
 }
 
-/// Writes a picture and reads it back. The requests arrive in pieces of `source_piece` bytes, and
-/// the replies leave in pieces of `sink_piece` bytes. Returns whether the picture is unchanged.
+/// Returns the frame `writing`, and a frame in which client 1 reads its image.
+fn with_reading(alloc: Global, writing: &[u8]) -> Result<Vec<u8>, Fail> {
+    let reading = frame(alloc, &Request::ReadImage(image()))?;
+    let mut frames = writing.to_vec(alloc)?;
+    frames.extend_from_slice(reading.as_slice())?;
+    Ok(frames)
+}
+
+/// Writes the picture in the frame `writing`, and reads it back over these devices. Returns whether
+/// the picture is unchanged.
 fn comes_back(
     alloc: Global,
-    desc: Desc,
-    source_piece: usize,
-    sink_piece: usize,
+    runtime: &mut Runtime,
+    writing: &[u8],
+    devices: Devices,
 ) -> Result<bool, Fail> {
-    let devices = Devices {
+    let frames = with_reading(alloc, writing)?;
+    let replies = ask_over(alloc, runtime, frames.as_slice(), devices)?;
+    Ok(
+        replies.len() > 16
+            && &replies[..8] == b"\0\0\0\x04\0\x01\x05\0".as_slice()
+            && &replies[16..] == read(writing),
+    )
+}
+
+/// Devices that move this many bytes at a time.
+pub fn in_pieces(source_piece: usize, sink_piece: usize) -> Devices {
+    Devices {
         source_piece,
         sink_piece,
         ..ALL_AT_ONCE
-    };
-    let mut runtime = opened(alloc, desc)?;
-    let picture = writing(alloc, desc, 1)?;
-    let mut stream = picture.as_slice().to_vec(alloc)?;
-    stream.extend_from_slice(frame(alloc, &Request::ReadImage(image()))?.as_slice())?;
-    let served = serve_bytes(alloc, &mut runtime, stream.as_slice(), devices);
-    let replies = served.written.as_slice();
-    Ok(
-        served.result.is_ok()
-            && replies.len() > 16
-            && &replies[..8] == b"\0\0\0\x04\0\x01\x05\0".as_slice()
-            && &replies[16..] == read(picture.as_slice()),
-    )
+    }
+}
+
+/// Returns whether pictures come back that arrive and leave in pieces.
+fn come_back_in_pieces(alloc: Global, runtime: &mut Runtime, desc: Desc) -> Result<bool, Fail> {
+    let mut come_back = true;
+    for (source_piece, sink_piece, seed) in [(1_000_000, 1_000_000, 1), (1000, 999, 2), (7, 3, 3)] {
+        let picture = writing(alloc, desc, seed)?;
+        let devices = in_pieces(source_piece, sink_piece);
+        come_back &= comes_back(alloc, runtime, picture.as_slice(), devices)?;
+    }
+    Ok(come_back)
 }
 
 #[test]
 fn pictures_in_pieces(rt: HostRuntime) -> Result<(), Fail> {
     for (format, width, height) in PICTURES {
         let desc = Desc::new(width, height, format).ok_or("within the limits")?;
-        for (source_piece, sink_piece) in [(1_000_000, 1_000_000), (1000, 999), (7, 3)] {
-            assert!(rt; comes_back(rt.alloc(), desc, source_piece, sink_piece)?);
-        }
+        let mut runtime = opened(rt.alloc(), desc)?;
+        assert!(rt; come_back_in_pieces(rt.alloc(), &mut runtime, desc)?);
     }
     Ok(())
 }
@@ -197,6 +227,20 @@ fn stays_after_parts(
     Ok(true)
 }
 
+/// Writes the first picture, parts of the next one, and then the next one whole. Returns whether
+/// the image has the first picture until then.
+fn changes_with_a_whole_frame(
+    alloc: Global,
+    runtime: &mut Runtime,
+    first: &[u8],
+    next: &[u8],
+) -> Result<bool, Fail> {
+    ask(alloc, runtime, first)?;
+    let stays = stays_after_parts(alloc, runtime, first, next)?;
+    ask(alloc, runtime, next)?;
+    Ok(stays && holds(alloc, runtime, next)?)
+}
+
 /// An image doesn't change if, within the frame that writes it, the stream ends or a read fails.
 #[test]
 fn pictures_cut_short(rt: HostRuntime) -> Result<(), Fail> {
@@ -205,10 +249,8 @@ fn pictures_cut_short(rt: HostRuntime) -> Result<(), Fail> {
         let desc = Desc::new(width, height, format).ok_or("within the limits")?;
         let (first, next) = (writing(alloc, desc, 1)?, writing(alloc, desc, 2)?);
         let mut runtime = opened(alloc, desc)?;
-        ask(alloc, &mut runtime, first.as_slice())?;
-        assert!(rt; stays_after_parts(alloc, &mut runtime, first.as_slice(), next.as_slice())?);
-        ask(alloc, &mut runtime, next.as_slice())?;
-        assert!(rt; holds(alloc, &mut runtime, next.as_slice())?);
+        let (first, next) = (first.as_slice(), next.as_slice());
+        assert!(rt; changes_with_a_whole_frame(alloc, &mut runtime, first, next)?);
     }
     Ok(())
 }
@@ -222,10 +264,27 @@ fn is_refused(
     code: u8,
     first: &[u8],
 ) -> Result<bool, Fail> {
-    let mut stream = writing(alloc, other, 3)?;
-    stream.extend_from_slice(frame(alloc, &Request::ReadImage(image()))?.as_slice())?;
-    let replies = ask(alloc, runtime, stream.as_slice())?;
+    let writing = writing(alloc, other, 3)?;
+    let frames = with_reading(alloc, writing.as_slice())?;
+    let replies = ask(alloc, runtime, frames.as_slice())?;
     Ok(replies.len() > 16 && replies[7] == code && &replies[16..] == read(first))
+}
+
+/// Writes the first picture, and pictures of other descriptions. Returns whether these are refused,
+/// each with its code.
+fn refuses_others(alloc: Global, runtime: &mut Runtime, first: &[u8]) -> Result<bool, Fail> {
+    ask(alloc, runtime, first)?;
+    let mut refuses = true;
+    for (format, width, height, code) in [
+        (Format::S16, 30, 40, 6),
+        (Format::S16, 41, 30, 6),
+        (Format::U8, 40, 30, 5),
+        (Format::U32, 40, 30, 5),
+    ] {
+        let other = Desc::new(width, height, format).ok_or("within the limits")?;
+        refuses &= is_refused(alloc, runtime, other, code, first)?;
+    }
+    Ok(refuses)
 }
 
 /// A refused picture is skipped, and the next picture is written.
@@ -235,17 +294,7 @@ fn pictures_refused(rt: HostRuntime) -> Result<(), Fail> {
     let desc = Desc::new(40, 30, Format::S16).ok_or("within the limits")?;
     let (first, next) = (writing(alloc, desc, 1)?, writing(alloc, desc, 2)?);
     let mut runtime = opened(alloc, desc)?;
-    ask(alloc, &mut runtime, first.as_slice())?;
-    for (format, width, height, code) in [
-        (Format::S16, 30, 40, 6),
-        (Format::S16, 41, 30, 6),
-        (Format::U8, 40, 30, 5),
-        (Format::U32, 40, 30, 5),
-    ] {
-        let other = Desc::new(width, height, format).ok_or("within the limits")?;
-        assert!(rt; is_refused(alloc, &mut runtime, other, code, first.as_slice())?);
-    }
-    ask(alloc, &mut runtime, next.as_slice())?;
-    assert!(rt; holds(alloc, &mut runtime, next.as_slice())?);
+    assert!(rt; refuses_others(alloc, &mut runtime, first.as_slice())?);
+    assert!(rt; comes_back(alloc, &mut runtime, next.as_slice(), ALL_AT_ONCE)?);
     Ok(())
 }

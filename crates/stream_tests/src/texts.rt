@@ -1,5 +1,5 @@
 //! PGM texts that are written to images and read from them: in pieces, cut short, and refused.
-use crate::pictures::{ask, frame, image, opened, scatter};
+use crate::pictures::{ask, ask_over, frame, image, in_pieces, opened, scatter};
 use crate::streams::{ALL_AT_ONCE, Devices, serve_bytes};
 use client_contexts::Runtime;
 use client_model::{Request, Text};
@@ -45,9 +45,21 @@ fn answer(alloc: Global, text: &[u8]) -> Result<Vec<u8>, Fail> {
     Ok(reply)
 }
 
+/// Writes a text to the image, and returns the reply.
+fn write(alloc: Global, runtime: &mut Runtime, text: &[u8]) -> Result<Vec<u8>, Fail> {
+    let frame = writing(alloc, text)?;
+    ask(alloc, runtime, frame.as_slice())
+}
+
+/// Reads the image as a text, and returns the reply.
+fn read(alloc: Global, runtime: &mut Runtime) -> Result<Vec<u8>, Fail> {
+    let frame = reading(alloc)?;
+    ask(alloc, runtime, frame.as_slice())
+}
+
 /// Returns whether the image is read as this text.
 fn holds(alloc: Global, runtime: &mut Runtime, text: &[u8]) -> Result<bool, Fail> {
-    let replies = ask(alloc, runtime, reading(alloc)?.as_slice())?;
+    let replies = read(alloc, runtime)?;
     Ok(replies.as_slice() == answer(alloc, text)?.as_slice())
 }
 
@@ -56,30 +68,37 @@ fn split_reply(replies: &[u8]) -> (&[u8], &[u8]) {
     replies.split_at(replies.len().min(8))
 }
 
-/// Writes a text and reads it back. The requests arrive in pieces of `source_piece` bytes, and the
-/// replies leave in pieces of `sink_piece` bytes. Returns whether the text is unchanged.
+/// Returns the frames in which client 1 writes a text to its image, and reads its image as a text.
+fn writing_and_reading(alloc: Global, text: &[u8]) -> Result<Vec<u8>, Fail> {
+    let reading = reading(alloc)?;
+    let mut frames = writing(alloc, text)?;
+    frames.extend_from_slice(reading.as_slice())?;
+    Ok(frames)
+}
+
+/// Writes a text and reads it back over these devices. Returns whether the text is unchanged.
 fn comes_back(
     alloc: Global,
-    desc: Desc,
-    source_piece: usize,
-    sink_piece: usize,
+    runtime: &mut Runtime,
+    text: &[u8],
+    devices: Devices,
 ) -> Result<bool, Fail> {
-    let devices = Devices {
-        source_piece,
-        sink_piece,
-        ..ALL_AT_ONCE
-    };
-    let mut runtime = opened(alloc, desc)?;
-    let text = text(alloc, desc.width(), desc.height(), 255, 1)?;
-    let mut stream = writing(alloc, text.as_slice())?;
-    stream.extend_from_slice(reading(alloc)?.as_slice())?;
-    let served = serve_bytes(alloc, &mut runtime, stream.as_slice(), devices);
-    let (written, read) = split_reply(served.written.as_slice());
-    Ok(
-        served.result.is_ok()
-            && written == b"\0\0\0\x04\0\x01\x06\0".as_slice()
-            && read == answer(alloc, text.as_slice())?.as_slice(),
-    )
+    let frames = writing_and_reading(alloc, text)?;
+    let replies = ask_over(alloc, runtime, frames.as_slice(), devices)?;
+    let (written, read) = split_reply(replies.as_slice());
+    let is_written = written == b"\0\0\0\x04\0\x01\x06\0".as_slice();
+    Ok(is_written && read == answer(alloc, text)?.as_slice())
+}
+
+/// Returns whether texts come back that arrive and leave in pieces.
+fn come_back_in_pieces(alloc: Global, runtime: &mut Runtime, desc: Desc) -> Result<bool, Fail> {
+    let mut come_back = true;
+    for (source_piece, sink_piece, seed) in [(1_000_000, 1_000_000, 1), (100, 9, 2), (7, 3, 3)] {
+        let text = text(alloc, desc.width(), desc.height(), 255, seed)?;
+        let devices = in_pieces(source_piece, sink_piece);
+        come_back &= comes_back(alloc, runtime, text.as_slice(), devices)?;
+    }
+    Ok(come_back)
 }
 
 /// A text that is written is read back byte for byte.
@@ -87,9 +106,8 @@ fn comes_back(
 fn texts_in_pieces(rt: HostRuntime) -> Result<(), Fail> {
     for (width, height) in SIDES {
         let desc = Desc::new(width, height, Format::U8).ok_or("within the limits")?;
-        for (source_piece, sink_piece) in [(1_000_000, 1_000_000), (100, 9), (7, 3)] {
-            assert!(rt; comes_back(rt.alloc(), desc, source_piece, sink_piece)?);
-        }
+        let mut runtime = opened(rt.alloc(), desc)?;
+        assert!(rt; come_back_in_pieces(rt.alloc(), &mut runtime, desc)?);
     }
     Ok(())
 }
@@ -114,6 +132,21 @@ fn stays_after_parts(
     Ok(true)
 }
 
+/// Writes the first text, parts of the next one, and then the next one whole. Returns whether the
+/// image has the first text until then.
+fn changes_with_a_whole_frame(
+    alloc: Global,
+    runtime: &mut Runtime,
+    first: &[u8],
+    next: &[u8],
+) -> Result<bool, Fail> {
+    write(alloc, runtime, first)?;
+    let stream = writing(alloc, next)?;
+    let stays = stays_after_parts(alloc, runtime, first, stream.as_slice())?;
+    ask(alloc, runtime, stream.as_slice())?;
+    Ok(stays && holds(alloc, runtime, next)?)
+}
+
 /// An image doesn't change if the stream ends within the frame that writes it.
 #[test]
 fn texts_cut_short(rt: HostRuntime) -> Result<(), Fail> {
@@ -123,15 +156,8 @@ fn texts_cut_short(rt: HostRuntime) -> Result<(), Fail> {
         let first = text(alloc, width, height, 255, 1)?;
         let next = text(alloc, width, height, 255, 2)?;
         let mut runtime = opened(alloc, desc)?;
-        ask(
-            alloc,
-            &mut runtime,
-            writing(alloc, first.as_slice())?.as_slice(),
-        )?;
-        let stream = writing(alloc, next.as_slice())?;
-        assert!(rt; stays_after_parts(alloc, &mut runtime, first.as_slice(), stream.as_slice())?);
-        ask(alloc, &mut runtime, stream.as_slice())?;
-        assert!(rt; holds(alloc, &mut runtime, next.as_slice())?);
+        let (first, next) = (first.as_slice(), next.as_slice());
+        assert!(rt; changes_with_a_whole_frame(alloc, &mut runtime, first, next)?);
     }
     Ok(())
 }
@@ -144,24 +170,15 @@ fn is_refused(
     code: u8,
     first: &[u8],
 ) -> Result<bool, Fail> {
-    let replies = ask(alloc, runtime, writing(alloc, text)?.as_slice())?;
+    let replies = write(alloc, runtime, text)?;
     let is_refused = replies.as_slice() == [0, 0, 0, 4, 0, 1, 6, code].as_slice();
     Ok(is_refused && holds(alloc, runtime, first)?)
 }
 
-/// If a text has a fault and also doesn't match the image, the fault is reported. A refused text
-/// doesn't change the image.
-#[test]
-fn texts_refused(rt: HostRuntime) -> Result<(), Fail> {
-    let alloc = rt.alloc();
-    let desc = Desc::new(40, 3, Format::U8).ok_or("within the limits")?;
-    let first = text(alloc, 40, 3, 255, 1)?;
-    let mut runtime = opened(alloc, desc)?;
-    ask(
-        alloc,
-        &mut runtime,
-        writing(alloc, first.as_slice())?.as_slice(),
-    )?;
+/// Writes texts with faults to an image of 40 by 3 samples, which has the first text. Returns
+/// whether each is refused with its code.
+fn refuses_faults(alloc: Global, runtime: &mut Runtime, first: &[u8]) -> Result<bool, Fail> {
+    let mut refuses = true;
     // Width, height, maxval, the number of bytes missing at the end, and the code.
     for (width, height, maxval, short, code) in [
         (40, 3, 255, 1, 5),
@@ -173,33 +190,37 @@ fn texts_refused(rt: HostRuntime) -> Result<(), Fail> {
         (40, 3, 0, 0, 5),
     ] {
         let other = text(alloc, width, height, maxval, 3)?;
-        let count = other.len().saturating_sub(short);
-        let part = &other.as_slice()[..count];
-        assert!(rt; is_refused(alloc, &mut runtime, part, code, first.as_slice())?);
+        let part = &other.as_slice()[..other.len().saturating_sub(short)];
+        refuses &= is_refused(alloc, runtime, part, code, first)?;
     }
-    Ok(())
+    Ok(refuses)
 }
 
-/// A U8 image refuses raw texts with two bytes for each sample, and a raw text that has another
+/// Returns whether raw texts with two bytes for each sample are refused, and a raw text of another
 /// width and height than the image.
-#[test]
-fn texts_of_two_bytes_refused(rt: HostRuntime) -> Result<(), Fail> {
-    let alloc = rt.alloc();
-    let desc = Desc::new(40, 3, Format::U8).ok_or("within the limits")?;
-    let first = text(alloc, 40, 3, 255, 1)?;
-    let mut runtime = opened(alloc, desc)?;
-    ask(
-        alloc,
-        &mut runtime,
-        writing(alloc, first.as_slice())?.as_slice(),
-    )?;
+fn refuses_others(alloc: Global, runtime: &mut Runtime, first: &[u8]) -> Result<bool, Fail> {
+    let mut refuses = true;
     for (other, code) in [
         (b"P5 1 1 300\n\x01\x2c".as_slice(), 5),
         (b"P5 1 1 300\n\x01\x2d".as_slice(), 7),
         (b"P5 1 1 255\n\x01".as_slice(), 6),
     ] {
-        assert!(rt; is_refused(alloc, &mut runtime, other, code, first.as_slice())?);
+        refuses &= is_refused(alloc, runtime, other, code, first)?;
     }
+    Ok(refuses)
+}
+
+/// If a text has a fault and also doesn't match the image, the fault is reported. A refused text
+/// doesn't change the image.
+#[test]
+fn texts_refused(rt: HostRuntime) -> Result<(), Fail> {
+    let alloc = rt.alloc();
+    let desc = Desc::new(40, 3, Format::U8).ok_or("within the limits")?;
+    let first = text(alloc, 40, 3, 255, 1)?;
+    let mut runtime = opened(alloc, desc)?;
+    write(alloc, &mut runtime, first.as_slice())?;
+    assert!(rt; refuses_faults(alloc, &mut runtime, first.as_slice())?);
+    assert!(rt; refuses_others(alloc, &mut runtime, first.as_slice())?);
     Ok(())
 }
 
@@ -209,7 +230,7 @@ fn no_texts_of_shorts(rt: HostRuntime) -> Result<(), Fail> {
     let alloc = rt.alloc();
     let desc = Desc::new(4, 3, Format::S16).ok_or("within the limits")?;
     let mut runtime = opened(alloc, desc)?;
-    let replies = ask(alloc, &mut runtime, reading(alloc)?.as_slice())?;
+    let replies = read(alloc, &mut runtime)?;
     assert!(rt; replies.as_slice() == b"\0\0\0\x04\0\x01\x08\x05".as_slice());
     Ok(())
 }
