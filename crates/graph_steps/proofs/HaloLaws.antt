@@ -10,6 +10,7 @@ use Rattle.graph_steps.specs.Halos.{NamesBelow, need, without_halo}
 pub record Raised (Is : ℕ → Type 0) (rows : ℕ) (old new : List ℕ) : Type 0 where
   pub grows : (c : ℕ) → need old c ≤ need new c
   pub enough : (c : ℕ) → Is c → rows ≤ need new c
+  pub within : (most c : ℕ) → rows ≤ most → need old c ≤ most → need new c ≤ most
   pub len : length new ≡ length old
 
 raised_at : (rows place : ℕ) (old new : List ℕ)
@@ -19,6 +20,7 @@ raised_at : (rows place : ℕ) (old new : List ℕ)
 raised_at rows place old new below is = subst (Raised (λ c. place ≡ c) rows old) (sym is) (record {
   grows = λ c. grind (arith, get_or-set_at, get_or-set_other);
   enough = λ c e. grind (arith, get_or-set_at);
+  within = λ most c few low. grind (arith, get_or-set_at, get_or-set_other);
   len = length-set old place _;
 })
 
@@ -33,6 +35,7 @@ raised_one s rows old new below alone is =
     record {
       grows = r.grows;
       enough = λ c reads. elim reads [ inl e ↦ r.enough c e | inr e ↦ absurd (alone c e) ];
+      within = r.within;
       len = r.len;
     }
 
@@ -52,6 +55,7 @@ raised_two s rows second old between new below low two was is =
         | inl e ↦ (let m = a.enough c e in let n = b.grows c in omega arith)
         | inr e ↦ b.enough c (cc)
       ];
+      within = λ most c few low. b.within most c few (a.within most c few low);
       len = b.len ∙ a.len;
     }
 

@@ -2,7 +2,7 @@
 ghost use Rattle.std.specs.Prelude.{◌≡◌, ◌≢◌, ◌<◌, ◌≤◌, ◌+◌, ◌∷◌, ℕ, List, min, max, length};
 ghost use Rattle.std.specs.Prelude.{map, slice_set, All};
 ghost use Rattle.graph_steps.specs.declared.step.Task.{Task as TaskValue};
-ghost use Rattle.graph_steps.specs.Halos.{Cover, NamesBelow, need, without_halo};
+ghost use Rattle.graph_steps.specs.Halos.{AreAtMost, Cover, NamesBelow, need, without_halo};
 ghost use Rattle.graph_steps.specs.Steps.{ReadsPlane};
 ghost use Rattle.graph_steps.specs.Program.{AreEnough};
 
@@ -23,6 +23,7 @@ fn raise_inputs(step: &Step, high: u16, needs: &mut [u16])
     ensures grows { (c : ℕ) → need needs.old c ≤ need needs.new c }
     ensures enough { (c : ℕ) → ReadsPlane step.now c →
         min high (step.now.halo + step.now.radius) ≤ need needs.new c }
+    ensures within { (c : ℕ) → need needs.old c ≤ high → need needs.new c ≤ high }
     ensures len { length needs.new ≡ length needs.old }
 {
     let rows = step.halo.saturating_add(step.radius).min(high);
@@ -41,6 +42,7 @@ fn find_halo(mut step: Step, high: u16, needs: &mut [u16]) -> Step
     ensures grows { (c : ℕ) → c ≢ step.output → need needs.old c ≤ need needs.new c }
     ensures enough { (c : ℕ) → ReadsPlane result c →
         min high (result.halo + result.radius) ≤ need needs.new c }
+    ensures within { (c : ℕ) → need needs.old c ≤ high → need needs.new c ≤ high }
     ensures len { length needs.new ≡ length needs.old }
 {
     step.halo = needs[step.output];
@@ -56,6 +58,9 @@ fn find_task_halo(task: Task, high: u16, needs: &mut [u16]) -> Task
     ensures same { without_halo result ≡ without_halo task }
     ensures more { (later : List TaskValue) → AreEnough high later → Cover high later needs.old →
         AreEnough high (result ∷ later) × Cover high (result ∷ later) needs.new }
+    ensures within { ((c : ℕ) → need needs.old c ≤ high) → (c : ℕ) → need needs.new c ≤ high }
+    ensures most { (later : List TaskValue) → ((c : ℕ) → need needs.old c ≤ high) →
+        AreAtMost high later → AreAtMost high (result ∷ later) }
     ensures len { length needs.new ≡ length needs.old }
 {
     match task {
@@ -69,6 +74,7 @@ fn find_task_halo(task: Task, high: u16, needs: &mut [u16]) -> Task
 pub fn find_halos(high: u16, tasks: &mut [Task], needs: &mut [u16])
     requires { All (NamesBelow (length needs.old)) tasks.old }
     ensures enough { AreEnough high tasks.new }
+    ensures most { AreAtMost high tasks.new }
     ensures same { map without_halo tasks.new ≡ map without_halo tasks.old }
 {
     needs.fill(0);

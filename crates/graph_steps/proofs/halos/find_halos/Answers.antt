@@ -2,7 +2,7 @@ use Rattle.std.proofs.Common.{List, ◌≡◌, ◌+◌, ◌-◌, ◌<◌, ◌∷
 use Rattle.std.proofs.lemmas.List.Elements.{All-set}
 use Rattle.std.proofs.Math.Seq.{map-set_same}
 use Rattle.graph_steps.proofs.Common.{AreEnough, Task, length-set}
-use Rattle.graph_steps.specs.Halos.{Cover, NamesBelow, without_halo}
+use Rattle.graph_steps.specs.Halos.{AreAtMost, Cover, NamesBelow, without_halo}
 use Rattle.graph_steps.proofs.HaloLaws.{from_one_before, names_same}
 use Rattle.graph_steps.proofs.halos.find_halos.Goals as goal
 
@@ -33,6 +33,9 @@ loop-k-preserved c =
     let was = inv.names place c.index-tasks-at.result (omega (arith, below)) in
     record {
       enough = subst (AreEnough c.args.high) (sym e) more.0;
+      most = subst (AreAtMost c.args.high) (sym e)
+          (f.most (drop (length tasks - k) tasks) inv.within inv.most);
+      within = f.within inv.within;
       cover =
           subst (λ (l : List Task). Cover c.args.high l c.find_task_halo.new.needs) (sym e) more.1;
       names = All-set (NamesBelow (length c.args.needs.now)) tasks place new

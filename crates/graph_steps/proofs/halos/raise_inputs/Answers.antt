@@ -28,6 +28,7 @@ returns-in-Plane c =
     record {
       grows = r.grows;
       enough = λ k reads. (let e = r.enough k reads in omega arith);
+      within = λ k. r.within c.args.high k (omega arith);
       len = r.len;
     }
 
@@ -44,5 +45,6 @@ returns-in_default c =
     record {
       grows = r.grows;
       enough = λ k reads. (let e = r.enough k reads in omega arith);
+      within = λ k. r.within c.args.high k (omega arith);
       len = r.len;
     }
