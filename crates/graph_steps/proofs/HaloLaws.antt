@@ -1,5 +1,5 @@
 -- The halo of each step, from the last task back to the first.
-use Rattle.std.proofs.Common.{◌≡◌, ◌≢◌, ℕ, zero, suc, ◌+◌, ◌-◌, ◌<◌, ◌≤◌, max, List, [], ◌∷◌, length, drop, set, refl, sym, ◌∙◌, ap, subst, inl, inr, arith}
+use Rattle.std.proofs.Common.{◌≡◌, ◌≢◌, ℕ, zero, suc, ◌+◌, ◌-◌, ◌<◌, ◌≤◌, max, List, [], ◌∷◌, ◌⊎◌, length, drop, set, refl, sym, ◌∙◌, ap, subst, inl, inr, arith}
 use Rattle.std.proofs.lemmas.Grind.{get_or-set_at}
 use Rattle.graph_steps.proofs.Common.{Plane, ReadsPlane, Reduce, Step, Task, Write, get_or-set_other, length-set}
 use Rattle.graph_steps.specs.Halos.{NamesBelow, need, without_halo}
@@ -10,8 +10,7 @@ use Rattle.graph_steps.specs.Halos.{NamesBelow, need, without_halo}
 pub record Raised (Is : ℕ → Type 0) (rows : ℕ) (old new : List ℕ) : Type 0 where
   pub grows : (c : ℕ) → need old c ≤ need new c
   pub enough : (c : ℕ) → Is c → rows ≤ need new c
-  pub within : (most c : ℕ) → rows ≤ most → need old c ≤ most → need new c ≤ most
-  pub len : length new ≡ length old
+  pub only : (c : ℕ) → (need new c ≡ need old c) ⊎ (Is c × (need new c ≡ rows))
 
 raised_at : (rows place : ℕ) (old new : List ℕ)
     → place < length old
@@ -20,8 +19,7 @@ raised_at : (rows place : ℕ) (old new : List ℕ)
 raised_at rows place old new below is = subst (Raised (λ c. place ≡ c) rows old) (sym is) (record {
   grows = λ c. grind (arith, get_or-set_at, get_or-set_other);
   enough = λ c e. grind (arith, get_or-set_at);
-  within = λ most c few low. grind (arith, get_or-set_at, get_or-set_other);
-  len = length-set old place _;
+  only = λ c. grind (arith, get_or-set_at, get_or-set_other);
 })
 
 -- the inputs of a step
@@ -35,8 +33,7 @@ raised_one s rows old new below alone is =
     record {
       grows = r.grows;
       enough = λ c reads. elim reads [ inl e ↦ r.enough c e | inr e ↦ absurd (alone c e) ];
-      within = r.within;
-      len = r.len;
+      only = λ c. elim (r.only c) [ inl e ↦ inl e | inr m ↦ inr (inl m.0, m.1) ];
     }
 
 pub raised_two : (s : Step) (rows second : ℕ) (old between new : List ℕ)
@@ -47,7 +44,8 @@ pub raised_two : (s : Step) (rows second : ℕ) (old between new : List ℕ)
     → new ≡ set between second (max (need between second) rows) → Raised (ReadsPlane s) rows old new
 raised_two s rows second old between new below low two was is =
     let a = raised_at rows s.first old between below was in
-    let here : second < length between = (let long = a.len in omega arith) in
+    let here : second < length between =
+    omega (arith, low, ap length was, length-set old s.first (max (need old s.first) rows)) in
     let b = raised_at rows second between new here is in
     record {
       grows = λ c. (let m = a.grows c in let n = b.grows c in omega arith);
@@ -55,8 +53,10 @@ raised_two s rows second old between new below low two was is =
         | inl e ↦ (let m = a.enough c e in let n = b.grows c in omega arith)
         | inr e ↦ b.enough c (cc)
       ];
-      within = λ most c few low. b.within most c few (a.within most c few low);
-      len = b.len ∙ a.len;
+      only = λ c. elim (b.only c) [
+        | inl e ↦ elim (a.only c) [ inl o ↦ inl (e ∙ o) | inr m ↦ inr (inl m.0, e ∙ m.1) ]
+        | inr m ↦ inr (inr (two ∙ ap Plane m.0), m.1)
+      ];
     }
 
 -- ---- tasks whose halos are found

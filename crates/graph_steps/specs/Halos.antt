@@ -1,5 +1,5 @@
 -- Halos: the rows that tasks need of each plane, as a list of numbers.
-use Rattle.std.specs.Prelude.{ℕ, ◌≤◌, ◌<◌, ⊤, List, [], ◌∷◌, slice_index_or}
+use Rattle.std.specs.Prelude.{ℕ, ◌≤◌, ◌<◌, ◌≡◌, ◌⊎◌, ⊤, List, [], ◌∷◌, slice_index_or}
 use Rattle.graph_steps.specs.declared.step.Task.{Task}
 use Rattle.graph_steps.specs.declared.step.Task.TheVariants.{Write, Reduce}
 use Rattle.graph_steps.specs.Steps.{ReadsPlane}
@@ -13,11 +13,17 @@ need needs c = slice_index_or needs c 0
 abbrev pub Cover : ℕ → List Task → List ℕ → Type 0
 Cover high tasks needs = (c rows : ℕ) → IsNeeded (λ c. ⊥) high tasks c rows → rows ≤ need needs c
 
--- each step's halo is at most `high`
-abbrev pub AreAtMost : ℕ → List Task → Type 0
-AreAtMost high [] = ⊤
-AreAtMost high (Write s ∷ later) = (s.halo ≤ high) × AreAtMost high later
-AreAtMost high (Reduce r ∷ later) = AreAtMost high later
+-- the list has 0 rows of a plane, or as many as one of these tasks needs of it
+abbrev pub HasOnly : ℕ → List Task → List ℕ → Type 0
+HasOnly high tasks needs =
+    (c : ℕ) → (need needs c ≡ 0) ⊎ IsNeeded (λ c. ⊥) high tasks c (need needs c)
+
+-- each step's halo is 0, or the number of rows that one of the later tasks needs of its output
+abbrev pub AreNeeded : ℕ → List Task → Type 0
+AreNeeded high [] = ⊤
+AreNeeded high (Write s ∷ later) =
+    ((s.halo ≡ 0) ⊎ IsNeeded (λ c. ⊥) high later s.output s.halo) × AreNeeded high later
+AreNeeded high (Reduce r ∷ later) = AreNeeded high later
 
 -- a step's planes have indices below `count`
 abbrev pub NamesBelow : ℕ → Task → Type 0

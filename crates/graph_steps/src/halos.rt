@@ -1,8 +1,9 @@
 //! Halos: the rows of each step's output that later tasks need above and below a band.
-ghost use Rattle.std.specs.Prelude.{◌≡◌, ◌≢◌, ◌<◌, ◌≤◌, ◌+◌, ◌∷◌, ℕ, List, min, max, length};
-ghost use Rattle.std.specs.Prelude.{map, slice_set, All};
+ghost use Rattle.std.specs.Prelude.{◌≡◌, ◌≢◌, ◌<◌, ◌≤◌, ◌⊎◌, ◌+◌, ◌==◌, ◌∷◌, if◌then◌else◌};
+ghost use Rattle.std.specs.Prelude.{ℕ, List, min, max, length, map, slice_set, All};
 ghost use Rattle.graph_steps.specs.declared.step.Task.{Task as TaskValue};
-ghost use Rattle.graph_steps.specs.Halos.{AreAtMost, Cover, NamesBelow, need, without_halo};
+ghost use Rattle.graph_steps.specs.Halos.{AreNeeded, Cover, HasOnly, NamesBelow, need};
+ghost use Rattle.graph_steps.specs.Halos.{without_halo};
 ghost use Rattle.graph_steps.specs.Steps.{ReadsPlane};
 ghost use Rattle.graph_steps.specs.Program.{AreEnough};
 
@@ -23,8 +24,8 @@ fn raise_inputs(step: &Step, high: u16, needs: &mut [u16])
     ensures grows { (c : ℕ) → need needs.old c ≤ need needs.new c }
     ensures enough { (c : ℕ) → ReadsPlane step.now c →
         min high (step.now.halo + step.now.radius) ≤ need needs.new c }
-    ensures within { (c : ℕ) → need needs.old c ≤ high → need needs.new c ≤ high }
-    ensures len { length needs.new ≡ length needs.old }
+    ensures only { (c : ℕ) → (need needs.new c ≡ need needs.old c)
+        ⊎ (ReadsPlane step.now c × (need needs.new c ≡ min high (step.now.halo + step.now.radius))) }
 {
     let rows = step.halo.saturating_add(step.radius).min(high);
     raise(needs, step.first, rows);
@@ -42,8 +43,8 @@ fn find_halo(mut step: Step, high: u16, needs: &mut [u16]) -> Step
     ensures grows { (c : ℕ) → c ≢ step.output → need needs.old c ≤ need needs.new c }
     ensures enough { (c : ℕ) → ReadsPlane result c →
         min high (result.halo + result.radius) ≤ need needs.new c }
-    ensures within { (c : ℕ) → need needs.old c ≤ high → need needs.new c ≤ high }
-    ensures len { length needs.new ≡ length needs.old }
+    ensures only { (c : ℕ) → (need needs.new c ≡ (if c == step.output then 0 else need needs.old c))
+        ⊎ (ReadsPlane result c × (need needs.new c ≡ min high (result.halo + result.radius))) }
 {
     step.halo = needs[step.output];
     needs[step.output] = 0;
@@ -58,10 +59,8 @@ fn find_task_halo(task: Task, high: u16, needs: &mut [u16]) -> Task
     ensures same { without_halo result ≡ without_halo task }
     ensures more { (later : List TaskValue) → AreEnough high later → Cover high later needs.old →
         AreEnough high (result ∷ later) × Cover high (result ∷ later) needs.new }
-    ensures within { ((c : ℕ) → need needs.old c ≤ high) → (c : ℕ) → need needs.new c ≤ high }
-    ensures most { (later : List TaskValue) → ((c : ℕ) → need needs.old c ≤ high) →
-        AreAtMost high later → AreAtMost high (result ∷ later) }
-    ensures len { length needs.new ≡ length needs.old }
+    ensures only { (later : List TaskValue) → AreNeeded high later → HasOnly high later needs.old →
+        AreNeeded high (result ∷ later) × HasOnly high (result ∷ later) needs.new }
 {
     match task {
         Task::Write(step) => Task::Write(find_halo(step, high, needs)),
@@ -69,12 +68,13 @@ fn find_task_halo(task: Task, high: u16, needs: &mut [u16]) -> Task
     }
 }
 
-/// Finds the halo of each step, from the last task back to the first. A need of rows is limited to
-/// `high`, the height of the tallest image. `needs` has room for a number for each plane.
+/// Finds the halo of each step, from the last task back to the first: the greatest number of rows
+/// that a later task needs of the step's output, and 0 if none reads it. No task needs more than
+/// `high` rows, the height of the tallest image. `needs` has room for a number for each plane.
 pub fn find_halos(high: u16, tasks: &mut [Task], needs: &mut [u16])
     requires { All (NamesBelow (length needs.old)) tasks.old }
     ensures enough { AreEnough high tasks.new }
-    ensures most { AreAtMost high tasks.new }
+    ensures only { AreNeeded high tasks.new }
     ensures same { map without_halo tasks.new ≡ map without_halo tasks.old }
 {
     needs.fill(0);

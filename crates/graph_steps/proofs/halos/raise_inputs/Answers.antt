@@ -1,5 +1,4 @@
-use Rattle.std.proofs.Common.{◌≡◌, ◌+◌, ◌<◌, ◌≤◌, ◌^◌, ◌∙◌, min, length, ap, inl, inr, refl, arith}
-use Rattle.graph_steps.proofs.Common.{length-set}
+use Rattle.std.proofs.Common.{◌≡◌, ◌+◌, ◌<◌, ◌^◌, ◌∙◌, min, inl, inr, refl, arith}
 use Rattle.graph_steps.proofs.HaloLaws.{raised_one, raised_two}
 use Rattle.graph_steps.proofs.halos.raise_inputs.Goals as goal
 
@@ -8,10 +7,7 @@ raise-requires c = c.requires c.args.step.now.first (inl refl)
 
 pub raise-requires-in-Plane : goal.raise-requires-in-Plane
 raise-requires-in-Plane c =
-    let long : length c.raise.new.needs ≡ length c.args.needs.now =
-    ap length c.raise.ensures ∙ length-set c.args.needs.now c.args.step.now.first _ in
-    let below = c.requires c.in-Plane.second (inr c.in-Plane.is) in
-    omega arith
+    omega (arith, c.raise.auto.needs, c.requires c.in-Plane.second (inr c.in-Plane.is))
 
 pub returns-in-Plane : goal.returns-in-Plane
 returns-in-Plane c =
@@ -19,7 +15,7 @@ returns-in-Plane c =
     let fit : c.args.high < 2 ^ 16 = c.ranges.high.fits in
     let m = c.min-rows.ensures in
     let a = c.saturating_add.ensures in
-    let enough : min c.args.high (s.halo + s.radius) ≤ c.min-rows.result = omega arith in
+    let exact : c.min-rows.result ≡ min c.args.high (s.halo + s.radius) = omega arith in
     let r =
     raised_two s c.min-rows.result c.in-Plane.second c.args.needs.now c.raise.new.needs
     c.raise-in-Plane.new.needs
@@ -28,8 +24,7 @@ returns-in-Plane c =
     record {
       grows = r.grows;
       enough = λ k reads. (let e = r.enough k reads in omega arith);
-      within = λ k. r.within c.args.high k (omega arith);
-      len = r.len;
+      only = λ k. elim (r.only k) [ inl e ↦ inl e | inr m ↦ inr (m.0, m.1 ∙ exact) ];
     }
 
 pub returns-in_default : goal.returns-in_default
@@ -38,13 +33,12 @@ returns-in_default c =
     let fit : c.args.high < 2 ^ 16 = c.ranges.high.fits in
     let m = c.min-rows.ensures in
     let a = c.saturating_add.ensures in
-    let enough : min c.args.high (s.halo + s.radius) ≤ c.min-rows.result = omega arith in
+    let exact : c.min-rows.result ≡ min c.args.high (s.halo + s.radius) = omega arith in
     let r =
     raised_one s c.min-rows.result c.args.needs.now c.raise.new.needs
     (c.requires s.first (inl refl)) (λ k e. c.in_default.not-Plane k e) c.raise.ensures in
     record {
       grows = r.grows;
       enough = λ k reads. (let e = r.enough k reads in omega arith);
-      within = λ k. r.within c.args.high k (omega arith);
-      len = r.len;
+      only = λ k. elim (r.only k) [ inl e ↦ inl e | inr m ↦ inr (m.0, m.1 ∙ exact) ];
     }
