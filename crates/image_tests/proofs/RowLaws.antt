@@ -1,5 +1,5 @@
 -- Rows of bytes.
-use Rattle.std.proofs.Common.{◌∙◌, ◌≡◌, ℕ, pos, List, map, get_or, w8, Fits, sym, subst, arith, rules}
+use Rattle.std.proofs.Common.{ℕ, pos, List, map, get_or, w8, Fits, sym, subst, arith}
 use Rattle.std.proofs.lemmas.Int.{ints}
 use Rattle.std.proofs.Math.ListN.{get_or-map}
 use Rattle.lane_rows.specs.Threes.{IsUpTo, AreUpTo}

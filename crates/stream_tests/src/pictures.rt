@@ -1,6 +1,6 @@
 //! Pictures in bodies of more than 64 bytes: in pieces, cut short, and refused.
 use crate::devices::{NEVER, PiecewiseSink};
-use crate::streams::{ALL_AT_ONCE, Devices, serve_bytes};
+use crate::streams::{ALL_AT_ONCE, Devices, in_pieces, serve_bytes};
 use client_contexts::Runtime;
 use client_model::{Limits, Request};
 use std::alloc::Global;
@@ -155,15 +155,6 @@ fn comes_back(
             && &replies[..8] == b"\0\0\0\x04\0\x01\x05\0".as_slice()
             && &replies[16..] == read(writing),
     )
-}
-
-/// Devices that move this many bytes at a time.
-pub fn in_pieces(source_piece: usize, sink_piece: usize) -> Devices {
-    Devices {
-        source_piece,
-        sink_piece,
-        ..ALL_AT_ONCE
-    }
 }
 
 /// Returns whether pictures come back that arrive and leave in pieces.

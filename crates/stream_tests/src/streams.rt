@@ -113,15 +113,19 @@ pub const ALL_AT_ONCE: Devices = Devices {
     good_writes: NEVER,
 };
 
+/// Devices that move this many bytes at a time, and never fail.
+pub fn in_pieces(source_piece: usize, sink_piece: usize) -> Devices {
+    Devices {
+        source_piece,
+        sink_piece,
+        ..ALL_AT_ONCE
+    }
+}
+
 #[test]
-fn in_pieces(rt: HostRuntime) {
+fn streams_in_pieces(rt: HostRuntime) {
     for (source_piece, sink_piece) in [(1000, 1000), (1, 1), (5, 3)] {
-        let devices = Devices {
-            source_piece,
-            sink_piece,
-            ..ALL_AT_ONCE
-        };
-        let served = serve_new(rt.alloc(), TURNS, devices);
+        let served = serve_new(rt.alloc(), TURNS, in_pieces(source_piece, sink_piece));
         assert!(rt; served.written.as_slice() == REPLIES);
         assert!(rt;
             served.result

@@ -1,6 +1,6 @@
 //! PGM texts that are written to images and read from them: in pieces, cut short, and refused.
-use crate::pictures::{ask, ask_over, frame, image, in_pieces, opened, scatter};
-use crate::streams::{ALL_AT_ONCE, Devices, serve_bytes};
+use crate::pictures::{ask, ask_over, frame, image, opened, scatter};
+use crate::streams::{ALL_AT_ONCE, Devices, in_pieces, serve_bytes};
 use client_contexts::Runtime;
 use client_model::{Request, Text};
 use std::alloc::Global;
