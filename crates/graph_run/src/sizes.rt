@@ -1,9 +1,9 @@
 //! The height of a graph's tallest image, the halos of its steps, and the number of rows of a band.
-ghost use Rattle.std.specs.Prelude.{◌≡◌, ◌≤◌, ◌<◌, All, true, map, None, OnOk, IfSome};
+ghost use Rattle.std.specs.Prelude.{◌≡◌, ◌≤◌, ◌<◌, ℕ, All, true, map, None, OnOk, IfOk, IfSome};
 ghost use Rattle.object_table.specs.Table.{image_held};
 ghost use Rattle.graph_steps.specs.declared.step.Step.{Step as StepValue};
 ghost use Rattle.graph_steps.specs.declared.step.Task.TheVariants.{Write};
-ghost use Rattle.graph_steps.specs.Halos.{NamesBelow, without_halo};
+ghost use Rattle.graph_steps.specs.Halos.{AreNeeded, Cover, HasOnly, NamesBelow, without_halo};
 ghost use Rattle.graph_steps.specs.Program.{AreEnough, IsStepOf};
 ghost use Rattle.graph_steps.specs.Steps.{reads_output};
 ghost use Rattle.graph_run.specs.Bind.{HoldImages};
@@ -60,6 +60,8 @@ pub fn high_of(table: &Table, images: &[VirtualOutput], clients: &[ObjRef]) -> u
     ensures some { 0 < result }
     ensures virtuals { All (λ o. o.desc.height ≤ result) images.now }
     ensures clients { All (λ c. (image_held table.now.objects c).height ≤ result) clients.now }
+    ensures least { (high : ℕ) → 0 < high → All (λ o. o.desc.height ≤ high) images.now →
+        All (λ c. (image_held table.now.objects c).height ≤ high) clients.now → result ≤ high }
 {
     let mut high = highest_virtual(images);
     for cell in clients {
@@ -72,6 +74,8 @@ pub fn high_of(table: &Table, images: &[VirtualOutput], clients: &[ObjRef]) -> u
 fn highest_virtual(images: &[VirtualOutput]) -> u16
     ensures some { 0 < result }
     ensures virtuals { All (λ o. o.desc.height ≤ result) images.now }
+    ensures least { (high : ℕ) → 0 < high → All (λ o. o.desc.height ≤ high) images.now →
+        result ≤ high }
 {
     let mut high = 1;
     for image in images {
@@ -92,6 +96,9 @@ pub fn find_all_halos(
 ) -> Result<Vec<u16>, AllocError>
     requires { All (NamesBelow count) tasks.old }
     ensures enough { OnOk result (AreEnough high tasks.new) }
+    ensures only { OnOk result (AreNeeded high tasks.new) }
+    ensures needs { IfOk result (λ needs. Cover high tasks.new needs.items
+        × HasOnly high tasks.new needs.items) }
     ensures same { OnOk result (map without_halo tasks.new ≡ map without_halo tasks.old) }
 {
     let mut needs = vec![in alloc; 0; count]?;

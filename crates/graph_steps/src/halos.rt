@@ -24,8 +24,8 @@ fn raise_inputs(step: &Step, high: u16, needs: &mut [u16])
     ensures grows { (c : ℕ) → need needs.old c ≤ need needs.new c }
     ensures enough { (c : ℕ) → ReadsPlane step.now c →
         min high (step.now.halo + step.now.radius) ≤ need needs.new c }
-    ensures only { (c : ℕ) → (need needs.new c ≡ need needs.old c)
-        ⊎ (ReadsPlane step.now c × (need needs.new c ≡ min high (step.now.halo + step.now.radius))) }
+    ensures only { (c : ℕ) → (need needs.new c ≡ need needs.old c) ⊎ (ReadsPlane step.now c
+        × (need needs.new c ≡ min high (step.now.halo + step.now.radius))) }
 {
     let rows = step.halo.saturating_add(step.radius).min(high);
     raise(needs, step.first, rows);
@@ -70,11 +70,13 @@ fn find_task_halo(task: Task, high: u16, needs: &mut [u16]) -> Task
 
 /// Finds the halo of each step, from the last task back to the first: the greatest number of rows
 /// that a later task needs of the step's output, and 0 if none reads it. No task needs more than
-/// `high` rows, the height of the tallest image. `needs` has room for a number for each plane.
+/// `high` rows, the height of the tallest image. `needs` has room for a number for each plane;
+/// afterwards it has the rows that the tasks need of each.
 pub fn find_halos(high: u16, tasks: &mut [Task], needs: &mut [u16])
     requires { All (NamesBelow (length needs.old)) tasks.old }
     ensures enough { AreEnough high tasks.new }
     ensures only { AreNeeded high tasks.new }
+    ensures needs { Cover high tasks.new needs.new × HasOnly high tasks.new needs.new }
     ensures same { map without_halo tasks.new ≡ map without_halo tasks.old }
 {
     needs.fill(0);

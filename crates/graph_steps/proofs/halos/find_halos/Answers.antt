@@ -37,7 +37,8 @@ loop-k-preserved c =
       cover =
           subst (λ (l : List Task). Cover c.args.high l c.find_task_halo.new.needs) (sym e) more.1;
       only =
-          subst (λ (l : List Task). HasOnly c.args.high l c.find_task_halo.new.needs) (sym e) only.1;
+          subst (λ (l : List Task). HasOnly c.args.high l c.find_task_halo.new.needs) (sym e)
+          only.1;
       names = All-set (NamesBelow (length c.args.needs.now)) tasks place new
           (names_same (length c.args.needs.now) c.index-tasks-at.result new (sym f.same)
           (subst (NamesBelow (length c.args.needs.now)) (sym c.index-tasks-at.is) was))
