@@ -26,6 +26,7 @@ module _ (client : ℕ) (request : Request) (a b c : World) (none : NoMemory)
                   (λ unkept graph is kept. unkept graph is (stay graph kept)) then.lost;
               found = then.found;
               stays = λ graph ends kept. then.stays graph ends (stay graph kept);
+              ends = then.ends;
               refused = λ code is graph kept. then.refused code is graph (stay graph kept);
               no_memory =
                   on_err_weaker result (λ stayed graph kept. stayed graph (stay graph kept))

@@ -1,6 +1,6 @@
 -- A node that runs immediately, or is refused.
-use Rattle.std.proofs.Common.{◌≡◌, Bool, false, List, IfSome, Option, Some, None, sym, ap, subst, ◌∙◌, arith, All, if◌then◌else◌, is_none, is_some, IsTrue, option_to_list, Err, Ok}
-use Rattle.client_contexts.proofs.Common.{list_any, option_map, list_any-append, Kind, Node, Reference, parameters, operands, with_kind, second_kind, ObjectValue, Operands, is_virtual, verdict_on, NamedObject, object_at, Refusal, Empty, Outcome, Context, with_objects, reply_unless, operands_refusal, immediate, operand_held, OfOperands, of_operands, IsFound, IsStrictlyIncreasing, all_operands, names_of}
+use Rattle.std.proofs.Common.{◌≡◌, Bool, false, List, IfSome, Option, Some, None, sym, ap, ◌∙◌, arith, All, if◌then◌else◌, option_to_list, Err, Ok}
+use Rattle.client_contexts.proofs.Common.{list_any, option_map, list_any-append, Kind, Node, Reference, parameters, operands, with_kind, second_kind, Operands, is_virtual, verdict_on, NamedObject, object_at, Refusal, Empty, Outcome, Context, with_objects, reply_unless, operands_refusal, immediate, operand_held, OfOperands, of_operands, IsFound, all_operands}
 use Rattle.client_model.specs.declared.refusal.Refusal.TheVariants.{Rejected, OptimizedAway}
 use Rattle.std.specs.Option.{option_or}
 use Rattle.std.proofs.lemmas.Bool.{or_parts}

@@ -142,7 +142,8 @@ module _ {S E : Type 0} (fills : S → S → Format → List ℤ → Result ⊤ 
             (applies_done limits client request Empty before after o n was is others answers),
         rw (← shown)
             (applies_to_kept limits client request reply before after (Some o) (Some n) was is
-            others (same_keeps limits.work request refl o.verified n.verified reply same)),
+            others
+            (same_keeps limits.work request refl o.verified n.verified reply (λ name. refl) same)),
       )) done
 
   -- or the result is the reason why not

@@ -1,13 +1,13 @@
 -- How a graph runs is kept, and stays right through the requests that leave its nodes.
 use Rattle.std.proofs.Common.{◌≡◌, ◌≢◌, ℕ, ◌<◌, false, List, [], ◌∷◌, Option, Some, None, IfSome, Result, Ok, Err, get_or, refl, sym, ap, subst, ◌∙◌, arith, All, MatchOption, is_some, IfOk, OnErr}
-use Rattle.client_contexts.proofs.Common.{option_map, All-nil, All-cons, Node, ObjectValue, Context, object_held, nodes_in, verdict, operand_held, IsReady, Request, Reply, LimitsValue, reply_and_state, Outcome, KeepsLimits, KeptGraph, IsKept, AreKept, forgotten_by}
+use Rattle.client_contexts.proofs.Common.{option_map, All-nil, All-cons, Node, ObjectValue, Context, object_held, nodes_in, verdict, operand_held, IsReady, Request, Reply, LimitsValue, reply_and_state, Outcome, KeepsLimits, KeptGraph, IsKept, AreKept, forgotten_by, ends_verification}
 use Rattle.buffer_plan.specs.Places.{plan_view}
 use Rattle.buffer_plan.specs.Plan.{IsPlan}
 use Rattle.graph_run.specs.Schedule.{IsSchedule}
 use Rattle.graph_run.proofs.ScheduleStays.{schedule_stays}
 use Rattle.graph_verify.proofs.MemberLemmas.{AllIn-permutation_back}
 use Rattle.client_model.specs.States.{changes_nodes, Stays}
-use Rattle.client_model.specs.declared.request.Request.TheVariants.{ReleaseContext}
+use Rattle.client_model.specs.declared.request.Request.TheVariants.{Release, ReleaseContext}
 use Rattle.client_model.specs.Context.{State}
 use Rattle.client_model.specs.Request.{IsRequest}
 use Rattle.client_model.specs.Answer.{answer_to}
@@ -15,6 +15,14 @@ use Rattle.client_model.proofs.StateLaws.{Leaves}
 use Rattle.client_laws.proofs.StayLaws.{after_one, named_skeletons_stay, nodes_stay, ready_after_one, verdict_stays_held}
 use Rattle.client_laws.proofs.StepLaws.{answer_leaves}
 use Rattle.client_contexts.proofs.ForgetLemmas.{left_by}
+
+-- a request that keeps a graph in the cache leaves its nodes
+leaves_nodes : (request : Request) (name : ℕ)
+    → ends_verification request name ≡ false
+    → changes_nodes request name ≡ false
+leaves_nodes ReleaseContext name spares = refl
+leaves_nodes (Release released) name spares = refl
+leaves_nodes other name spares = spares
 
 -- what follows of an object that is held from what is said of it
 of_held : {P Q : ObjectValue → Type 0} (o : Option ObjectValue)
@@ -107,13 +115,13 @@ module _ (limits : LimitsValue) (c later : Context) (request : Request)
   pub left_are_kept : (kept left : List (ℕ × KeptGraph))
       → AreKept c kept
       → left ≡ forgotten_by request kept
-      → All (λ k. changes_nodes request k.0 ≡ false) left
+      → All (λ k. ends_verification request k.0 ≡ false) left
       → AreKept later left
   left_are_kept kept left are forgotten leave =
       let held : AreKept c left =
       subst (AreKept c) (sym forgotten) (left_by (λ k. IsKept c k.0 k.1) request kept are) in
-      λ n d below. kept_after_one (get_or left n d).0 (get_or left n d).1 (leave n d below)
-      (held n d below)
+      λ n d below. kept_after_one (get_or left n d).0 (get_or left n d).1
+      (leaves_nodes request (get_or left n d).0 (leave n d below)) (held n d below)
 
 -- so is all of it where a picture or a text is written, which leaves the nodes of all graphs
 pub kept_written :
@@ -122,7 +130,7 @@ pub kept_written :
     → KeepsLimits limits c
     → IsRequest request
     → answer_to limits (Some c) request ≡ reply_and_state c outcome
-    → ((name : ℕ) → changes_nodes request name ≡ false)
+    → ((name : ℕ) → ends_verification request name ≡ false)
     → forgotten_by request kept ≡ kept
     → IfOk result (λ reply. outcome ≡ Ok (reply, Some later))
     → OnErr result (later ≡ c)

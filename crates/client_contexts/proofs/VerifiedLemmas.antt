@@ -1,5 +1,5 @@
 -- The graphs that are kept as verified, through a client's requests.
-use Rattle.std.proofs.Common.{◌≡◌, ◌≢◌, ◌∙◌, ℕ, false, cond, List, Some, Result, Ok, ◌⊎◌, inl, inr, sym, subst, IfErr, OnOk, OnErr, arith}
+use Rattle.std.proofs.Common.{◌≡◌, ◌≢◌, ◌∙◌, ℕ, false, cond, All, get_or, refl, List, Some, Result, Ok, ◌⊎◌, inl, inr, sym, subst, IfErr, OnOk, OnErr, arith}
 use Rattle.client_contexts.proofs.Common.{cases_Bool, is_at, lookup, nat_cmp, Reply, Request, VerifyGraph, ProcessGraph, RequestFault, KeptGraph, verified_in, IsKeptWithin, KeepsVerified, ends_verification, client_result}
 use Rattle.std.proofs.lemmas.Map.Made.{lookup-map_values}
 use Rattle.vx_base.specs.declared.code.Code.{Code}
@@ -71,6 +71,7 @@ ran_keeps work graph request old new result is takes found stay =
           λ told name asks. subst (λ (n : ℕ). IsKeptWithin work n (verified_in new))
           (same_graph name is asks) (of_result result told found);
       stays = λ name _. stay name;
+      ends = λ _ _ _ n d _. runs_on is (get_or (verified_in new) n d).0;
       refused = λ code _. stay;
       no_memory = on_err (client_result result) stay;
     }
@@ -80,6 +81,12 @@ ran_keeps work graph request old new result is takes found stay =
         → (request ≡ VerifyGraph name) ⊎ (request ≡ ProcessGraph name)
         → graph ≡ name
     same_graph name first second = grind arith
+
+    runs_on : (request ≡ VerifyGraph graph) ⊎ (request ≡ ProcessGraph graph)
+        → (name : ℕ)
+        → ends_verification request name ≡ false
+    runs_on (inl verifies) name = rw verifies refl
+    runs_on (inr runs) name = rw runs refl
 
     of_result : (r : Result Reply RequestFault)
         → client_result r ≡ Ok reply.Empty
@@ -100,27 +107,31 @@ module _ (work : ℕ) (request : Request) (others : runs_graph request ≡ false
       → ends_verification request name ≡ false
       → IsKeptWithin work name old
       → IsKeptWithin work name new)
+      → All (λ g. ends_verification request g.0 ≡ false) new
       → KeepsVerified work request old new (Ok made)
-  done_keeps made told stays =
+  done_keeps made told stays ends =
       record {
         lost = tt;
         found = λ _ name asks. absurd (asks_none name asks);
         stays = stays;
+        ends = λ _ _ _. ends;
         refused = λ code refuses. absurd (told code (cc));
         no_memory = tt;
       }
 
   -- a request that forgets nothing
   pub same_keeps : (result : Result Reply NoMemory)
+      → ((name : ℕ) → ends_verification request name ≡ false)
       → new ≡ old
       → KeepsVerified work request old new result
-  same_keeps result same =
+  same_keeps result spares same =
       let stay : StayKept work old new =
       λ name kept. subst (IsKeptWithin work name) (sym same) kept in
       record {
         lost = on_err result (λ name asks _. asks_none name (inl asks));
         found = λ _ name asks. absurd (asks_none name asks);
         stays = λ name _. stay name;
+        ends = λ _ _ _ n d _. spares (get_or new n d).0;
         refused = λ code _. stay;
         no_memory = on_err result stay;
       }

@@ -1,5 +1,5 @@
 -- The cache of verified graphs.
-use Rattle.std.specs.Prelude.{ℕ, ◌≡◌, ◌<◌, ◌==◌, ◌⊎◌, Bool, true, false, List, map, All, Option, Some, None, IfSome, Result, Ok, OnErr}
+use Rattle.std.specs.Prelude.{ℕ, ◌≡◌, ◌≢◌, ◌<◌, ◌==◌, ◌⊎◌, Bool, true, false, List, map, All, Option, Some, None, IfSome, Result, Ok, OnErr}
 use Rattle.std.specs.BTreeMap.{is_at}
 use Rattle.std.specs.Map.{lookup, remove_entry}
 use Rattle.std.specs.Option.{option_map}
@@ -84,7 +84,8 @@ ends_verification other name = changes_nodes other name
 -- the effect of a request on its client's cache of verified graphs. VerifyGraph of a graph that is
 -- in the cache with this limit on work bytes never runs out of memory. After VerifyGraph or
 -- ProcessGraph has succeeded, the graph stays in the cache until its nodes change, or the graph or
--- the context is released. OpenVX 1.3, "Object: Graph", vxVerifyGraph and vxProcessGraph.
+-- the context is released; it is then no longer in the cache. OpenVX 1.3, "Object: Graph",
+-- vxVerifyGraph and vxProcessGraph.
 pub record KeepsVerified (work : ℕ) (request : Request) (old new : List (ℕ × ℕ))
     (result : Result Reply NoMemory) : Type 0 where
   pub lost :
@@ -97,5 +98,9 @@ pub record KeepsVerified (work : ℕ) (request : Request) (old new : List (ℕ �
       → ends_verification request graph ≡ false
       → IsKeptWithin work graph old
       → IsKeptWithin work graph new
+  pub ends : (made : Reply)
+      → result ≡ Ok made
+      → ((code : Code) → made ≢ Refused code)
+      → All (λ g. ends_verification request g.0 ≡ false) new
   pub refused : (code : Code) → result ≡ Ok (Refused code) → StayKept work old new
   pub no_memory : OnErr result (StayKept work old new)

@@ -1,5 +1,5 @@
 -- The lookup of objects in a context, by reference or by name, and of the operands of nodes.
-use Rattle.std.specs.Prelude.{ℕ, ◌≡◌, IsTrue, is_some, List, [], ◌∷◌, Option, Some, Result, Ok, Err}
+use Rattle.std.specs.Prelude.{ℕ, ◌≡◌, IsTrue, is_some, List, Option, Some, Result, Ok, Err}
 use Rattle.vx_base.specs.declared.kind.Kind.{Kind}
 use Rattle.vx_base.specs.declared.kind.Kind.TheVariants as kind
 use Rattle.vx_base.specs.Reference.{Reference}
@@ -12,7 +12,7 @@ use Rattle.object_table.specs.NamedObject.{NamedObject, object_held, object_at}
 use Rattle.object_table.specs.Table.{image_held, HoldsImage}
 use Rattle.client_model.specs.declared.refusal.Refusal.{Refusal}
 use Rattle.client_model.specs.Images.{picture_refusal}
-use Rattle.client_model.specs.Operands.{stands_for, operands_refusal, image_of}
+use Rattle.client_model.specs.Operands.{stands_for, image_of}
 
 -- this object has the reference's name, and the reference's cell exists and is of the wanted kind;
 -- a virtual image counts as an image

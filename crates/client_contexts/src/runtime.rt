@@ -79,7 +79,8 @@ impl Runtime {
         self.pool.lent(format)
     }
 
-    /// Returns the number of blocks of a format, lent and free.
+    /// Returns the number of blocks of a format, lent and free. It is at least the number of lent
+    /// blocks.
     pub fn blocks(&self, format: Format) -> usize
         ensures { clients_blocks self.now.contexts format ≤ result }
     {

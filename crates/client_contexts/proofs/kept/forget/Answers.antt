@@ -1,4 +1,4 @@
-use Rattle.std.proofs.Common.{ℕ, List, inl, inr, refl, arith}
+use Rattle.std.proofs.Common.{ℕ, List, inl, inr, arith}
 use Rattle.client_contexts.proofs.Common.{KeptGraph}
 use Rattle.client_contexts.proofs.ForgetLemmas.{apart, others_left}
 use Rattle.client_contexts.proofs.kept.forget.Goals as goal
@@ -11,7 +11,7 @@ returns-in-AddNode-clause-left c =
       | inl added ↦ rw added.1 left
       | inr other ↦ elim other [
         | inl removed ↦ rw removed.1 left
-        | inr released ↦ rw released (λ k d below. refl)
+        | inr released ↦ rw released left
       ]
     ]
 

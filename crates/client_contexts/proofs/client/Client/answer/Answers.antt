@@ -1,5 +1,6 @@
-use Rattle.std.proofs.Common.{inl, inr, ap, sym, subst, rules, ◌≡◌, ◌∙◌}
-use Rattle.client_contexts.proofs.Common.{reply_and_state, KeepsLimits, AreKept, verified_in, VerifyGraph, ProcessGraph, ClientContext}
+use Rattle.std.proofs.Common.{ℕ, inl, inr, ap, sym, subst, rules, ◌≡◌, ◌∙◌, false}
+use Rattle.std.proofs.lemmas.List.Elements.{All-map}
+use Rattle.client_contexts.proofs.Common.{reply_and_state, KeepsLimits, KeptGraph, AreKept, verified_in, VerifyGraph, ProcessGraph, ClientContext, ends_verification}
 use Rattle.client_laws.proofs.RefusalLaws.{IsTold, outcome_told}
 use Rattle.client_contexts.proofs.KeptGraphLemmas.{left_are_kept}
 use Rattle.client_contexts.proofs.VerifiedLemmas.{ran_keeps, done_keeps, shown_still}
@@ -53,4 +54,6 @@ returns-in_ok-reply-in_default-clause-verified c =
     (done_keeps c.args.limits.work c.args.request.now (search rules)
     (verified_in s.kept.entries) (verified_in new) c.in_ok-reply-in_default.reply told
     (λ name spares. shown_still c.args.limits.work name s.kept.entries new
-    (λ is. c.forget.ensures.stay name spares ∙ is)))
+    (λ is. c.forget.ensures.stay name spares ∙ is))
+    (All-map (λ (g : ℕ × ℕ). ends_verification c.args.request.now g.0 ≡ false)
+    (λ (k : ℕ × KeptGraph). (k.0, k.1.work)) new c.forget.ensures.left))
