@@ -54,8 +54,7 @@ pub record Assigns (connection client : ℕ) (number : Option ℕ) (old new : Nu
   pub connections : HasSameConnections old new
 
 -- exactly the clients that have a number have a context, each under its own number; the spare
--- number
--- has no context
+-- number has no context
 pub record IsNumbering (n : Numbers) (world : World) : Type 0 where
   pub has_context : (c k i : ℕ) → number_in n c k ≡ Some i → IsSome (state_of i world)
   pub one_client : (c k d j i : ℕ)
@@ -88,8 +87,7 @@ pub record Renumbers (connection client number : ℕ) (old new : Numbers) (befor
   pub others : LeavesOtherNumbers number before after
 
 -- the numbers are up to date after a frame; if there is no memory for a new number, the context
--- that
--- the frame opened was released
+-- that the frame opened was released
 pub record Settles (connection client number : ℕ) (old new : Numbers) (before after : World)
     (result : Result ⊤ NoMemory) : Type 0 where
   pub renumbers : Renumbers connection client number old new before after

@@ -21,7 +21,8 @@ use vx_requests::{
 /// Returns a number other than `taken` under which the runtime has no context. Returns `None` if
 /// there is none.
 pub fn free_number(runtime: &Runtime, taken: u16) -> Option<u16>
-    ensures { IfSome result (λ number. state_of number runtime.now ≡ None) }
+    ensures free { IfSome result (λ number. state_of number runtime.now ≡ None) }
+    ensures other { IfSome result (λ number. number ≢ taken) }
 {
     for step in 0..u16::MAX {
         let number = taken.wrapping_add(step).wrapping_add(1);

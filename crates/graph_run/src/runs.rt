@@ -1,7 +1,7 @@
 //! Runs a verified graph over planes. The samples of the client's images move from the table of
 //! objects to planes, and the graph's tasks run. Then the samples move back, and the tallies are
 //! written to objects of the table.
-ghost use Rattle.std.specs.Prelude.{◌≡◌, ◌≤◌, ◌+◌, [], List, length, map};
+ghost use Rattle.std.specs.Prelude.{◌≡◌, ◌≤◌, ◌+◌, [], List, length, map, take};
 ghost use Rattle.std.specs.Prelude.{vec_capacity, All, OnErr, OnOk};
 ghost use Rattle.std.specs.List.Sorted.{IsStrictlyIncreasing};
 ghost use Rattle.vx_base.specs.declared.format.Format.{Format as SampleFormat};
@@ -21,6 +21,7 @@ ghost use Rattle.object_table.specs.NamedObject.{with_written};
 ghost use Rattle.graph_steps.specs.Program.{IsProgram};
 ghost use Rattle.graph_steps.specs.Runs.{CanReduceBand};
 ghost use Rattle.graph_steps.specs.Planes.{block_images};
+ghost use Rattle.graph_steps.specs.Steps.{capacities};
 ghost use Rattle.graph_run.specs.Blocks.{block_size, capacity_count, lent_size};
 ghost use Rattle.graph_run.specs.Bound.{LendTables};
 ghost use Rattle.graph_run.specs.Program.{tables_of, tallies_of};
@@ -205,6 +206,7 @@ fn empty_planes(
         (with_written table.old.objects
         (schedule_objects verified.now schedule.now (length blocks.old) planes.old))
         (tally_objects schedule.now.tally_cells.items tallies.now)) }
+    ensures back { map block_size blocks.new ≡ take (length blocks.old) (capacities planes.old) }
     ensures lent_sizes { map lent_size blocks.new ≡ map lent_size blocks.old }
 {
     return_blocks(blocks, planes);

@@ -27,7 +27,6 @@ pub fn return_blocks(blocks: &mut [Block], planes: &mut [Plane])
     ensures lent_sizes { map lent_size blocks.new ≡ map lent_size blocks.old }
     ensures others { drop (length blocks.old) planes.new
         ≡ drop (length blocks.old) planes.old }
-    ensures count { length planes.new ≡ length planes.old }
 {
     for k in 0..blocks.len() {
         blocks[k].put(planes[k].give());

@@ -24,7 +24,9 @@ impl Item for WeightedSum {
 
 impl WeightedSum {
     /// Returns the sum of three zeros.
-    pub fn zero() -> WeightedSum {
+    pub fn zero() -> WeightedSum
+        ensures { result.sum ≡ 0 }
+    {
         WeightedSum { sum: 0 }
     }
 }
@@ -42,7 +44,9 @@ impl Item for Change {
 
 impl Change {
     /// Returns a difference of 0.
-    pub fn zero() -> Change {
+    pub fn zero() -> Change
+        ensures { result.change ≡ pos 0 }
+    {
         Change { change: 0 }
     }
 }

@@ -17,6 +17,7 @@ pub fn said_length(bytes: &[u8]) -> u32
 pub fn is_one_frame(front: &[u8], back: &[u8]) -> bool
     ensures frame { result ≡ true → (frame : Frame) × IsFrame frame ×
         (front.now ++ back.now ≡ frame_bytes frame) }
+    ensures front { result ≡ true → 4 ≤ length front.now }
     ensures other { (frame : Frame) → IsFrame frame → front.now ++ back.now ≡ frame_bytes frame →
         4 ≤ length front.now → result ≡ true }
 {

@@ -1,5 +1,6 @@
 //! Reads the payload of a frame (the client, the op and the body), and answers the frame.
-ghost use Rattle.std.specs.Prelude.{◌≡◌, ℕ, ◌+◌, ◌<◌, ◌≤◌, ◌^◌, List, length, All, Ok, IfOk};
+ghost use Rattle.std.specs.Prelude.{◌≡◌, ℕ, ◌+◌, ◌<◌, ◌≤◌, ◌^◌, List, length, replicate};
+ghost use Rattle.std.specs.Prelude.{All, Ok, IfOk};
 ghost use Rattle.client_model.specs.Limits.{LimitsValue};
 ghost use Rattle.client_model.specs.Context.{State};
 ghost use Rattle.vx_requests.specs.Frame.Frames.{IsLength, frame_of, payload};
@@ -148,7 +149,8 @@ fn answer_large<S: Source>(
 
 /// Returns `count` zero bytes.
 fn zeros(alloc: Global, count: usize) -> Result<Vec<u8>, NoMemory>
-    ensures { IfOk result (λ bytes. length bytes.items ≡ count) }
+    ensures len { IfOk result (λ bytes. length bytes.items ≡ count) }
+    ensures zeros { IfOk result (λ bytes. bytes.items ≡ replicate count 0) }
 {
     Ok(vec![in alloc; 0u8; count]?)
 }

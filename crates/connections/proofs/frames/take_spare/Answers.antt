@@ -17,7 +17,7 @@ returns-then-is_ok c =
     c.requires.opened
     (respared c.args.connection c.args.client (Some old.spare) old c.add.new.self c.in-Some.next
     assigns)
-    c.in-Some.ensures
+    c.in-Some.ensures.free
 
 pub returns : goal.returns
 returns c =

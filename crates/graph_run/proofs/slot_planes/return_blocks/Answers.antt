@@ -1,6 +1,6 @@
 use Rattle.std.proofs.Common.{◌≡◌, ◌≢◌, ℕ, ◌<◌, inr, length, get_or, ap, ◌∙◌, arith}
 use Rattle.std.proofs.Math.Seq.{map-set_same}
-use Rattle.std.proofs.lemmas.List.{drop-set-lt, length-map, length-set, get_or-set_other, take_all}
+use Rattle.std.proofs.lemmas.List.{drop-set-lt, length-map, get_or-set_other, take_all}
 use Rattle.graph_run.proofs.Common.{Format, samples_format}
 use Rattle.graph_steps.specs.Planes.{PlaneValue, no_plane}
 use Rattle.graph_steps.specs.Steps.{capacities, capacity}
@@ -17,8 +17,8 @@ put-requires-clause-format c =
     let given : samples_size c.give.result ≡ capacity (capacities c.args.planes.now) k =
     returned_size c.args.planes.now c.loop-k.planes k c.give.result c.index-planes-k.result
     c.give.ensures.format c.give.ensures.value
-    (omega (arith, below, inv.count, c.requires.count)) (inv.planes k (omega arith)) inv.count
-    in
+    (omega (arith, below, c.loop-k.auto.planes, c.requires.count)) (inv.planes k (omega arith))
+    c.loop-k.auto.planes in
     let fits =
     returned_fits c.args.blocks.now c.loop-k.blocks (capacities c.args.planes.now) k
     c.give.result c.index-blocks-k.result given c.requires.sizes inv.lent_sizes below in
@@ -33,8 +33,8 @@ put-requires-clause-size c =
     let given : samples_size c.give.result ≡ capacity (capacities c.args.planes.now) k =
     returned_size c.args.planes.now c.loop-k.planes k c.give.result c.index-planes-k.result
     c.give.ensures.format c.give.ensures.value
-    (omega (arith, below, inv.count, c.requires.count)) (inv.planes k (omega arith)) inv.count
-    in
+    (omega (arith, below, c.loop-k.auto.planes, c.requires.count)) (inv.planes k (omega arith))
+    c.loop-k.auto.planes in
     let fits =
     returned_fits c.args.blocks.now c.loop-k.blocks (capacities c.args.planes.now) k
     c.give.result c.index-blocks-k.result given c.requires.sizes inv.lent_sizes below in
@@ -49,8 +49,8 @@ loop-k-preserved c =
     let given : samples_size c.give.result ≡ capacity (capacities c.args.planes.now) k =
     returned_size c.args.planes.now c.loop-k.planes k c.give.result c.index-planes-k.result
     c.give.ensures.format c.give.ensures.value
-    (omega (arith, below, inv.count, c.requires.count)) (inv.planes k (omega arith)) inv.count
-    in
+    (omega (arith, below, c.loop-k.auto.planes, c.requires.count)) (inv.planes k (omega arith))
+    c.loop-k.auto.planes in
     let fits =
     returned_fits c.args.blocks.now c.loop-k.blocks (capacities c.args.planes.now) k
     c.give.result c.index-blocks-k.result given c.requires.sizes inv.lent_sizes below in
@@ -80,7 +80,6 @@ loop-k-preserved c =
       others =
           drop-set-lt (length c.args.blocks.now) c.loop-k.planes k c.give.new.self (omega arith)
           ∙ inv.others;
-      count = length-set c.loop-k.planes k c.give.new.self ∙ inv.count;
     }
 
 pub returns-clause-back : goal.returns-clause-back

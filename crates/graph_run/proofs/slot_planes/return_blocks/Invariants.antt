@@ -11,5 +11,4 @@ invariant-loop-k l =
       lent_sizes : map lent_size l.blocks ≡ map lent_size l.fn.blocks;
       planes : (k : ℕ) → l.k ≤ k → plane l.planes k ≡ plane l.fn.planes k;
       others : drop (length l.fn.blocks) l.planes ≡ drop (length l.fn.blocks) l.fn.planes;
-      count : length l.planes ≡ length l.fn.planes;
     }
