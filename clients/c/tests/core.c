@@ -137,8 +137,8 @@ static void divided_replies(void) {
     }
 }
 
-/* Another connection has a client 7 of its own, with an image 2 of its own. Its number is free when
-   it has been closed. */
+/* Another connection has a client 7 of its own, with an image 2 of its own. Once it is closed, no
+   connection has its number, and the next one gets another. */
 static void other_connections(void) {
     const uint32_t first = connection;
     open_connection();
@@ -161,6 +161,7 @@ static void other_connections(void) {
     CHECK(feqyldan_disconnect(&handle, second) == FEQYLDAN_NOT_CONNECTED);
     CHECK(serve(READ, sizeof READ, READ, 0, REPLY) == FEQYLDAN_NOT_CONNECTED && length == 0);
     open_connection();
+    CHECK(connection != second);
     expect(READ, sizeof READ, INVALID_REFERENCE, 8);
     connection = first;
     expect(READ, sizeof READ, 0, REPLY);

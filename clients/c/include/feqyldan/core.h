@@ -91,7 +91,7 @@ uint32_t feqyldan_connect(struct feqyldan_handle *handle, uint32_t *connection);
  *   request was refused, or lost because memory was refused (NO_MEMORY)
  * - TOO_SHORT: `reply` and `rest` are too short, and *length is the length that they have to have
  *   at least, together. The states of all clients are unchanged, so the frame can be sent again.
- *   Less than FEQYLDAN_LEAST_BUFFER bytes are always too short
+ *   Less than FEQYLDAN_LEAST_BUFFER bytes are always too short for a frame
  * - NOT_A_FRAME: the bytes aren't exactly one frame, or `front` has less than four bytes. *length
  *   is 0
  * - NOT_OPEN or NOT_CONNECTED: *length is 0 */
